@@ -25,17 +25,10 @@ signed minus size = if minus then neg_ℤ (pos size) else pos size
 
 same_signed : (minus other : Bool) (size more : ℕ) → 1 ≤ size → 1 ≤ more → signed minus size ≡ signed other more
     → (minus ≡ other) × (size ≡ more)
-same_signed minus other zero more positive positive_more same = absurd (omega (arith, positive))
-same_signed minus other (suc size) zero positive positive_more same = absurd (omega (arith, positive_more))
-same_signed true true (suc size) (suc more) positive positive_more same = (refl, ap nat_abs same)
-same_signed true false (suc size) (suc more) positive positive_more same = absurd (cc)
-same_signed false true (suc size) (suc more) positive positive_more same = absurd (cc)
-same_signed false false (suc size) (suc more) positive positive_more same = (refl, ap nat_abs same)
+same_signed minus other size more positive positive_more same = grind (arith, nat_tests)
 
 size-signed : (minus : Bool) (size : ℕ) → nat_abs (signed minus size) ≡ size
-size-signed true zero = refl
-size-signed true (suc size) = refl
-size-signed false size = refl
+size-signed minus size = grind (arith, nat_tests)
 
 -- the size of a label is the number of a crossing
 pub entering_label-size : (crossings : List (List ℕ)) (arc : ℕ) → nat_abs (entering_label crossings arc) ≡ (head_of crossings arc).crossing
@@ -54,8 +47,7 @@ entering_label-names crossings oriented arc is =
 same_slot : (positive : Bool) (slot other : ℕ) → (slot ≡ 0) ⊎ (((positive ≡ true) × (slot ≡ 3)) ⊎ ((positive ≡ false) × (slot ≡ 1)))
     → (other ≡ 0) ⊎ (((positive ≡ true) × (other ≡ 3)) ⊎ ((positive ≡ false) × (other ≡ 1))) → nat_eq slot 0 ≡ nat_eq other 0
     → slot ≡ other
-same_slot true slot other head other_head same = grind (arith, nat_tests)
-same_slot false slot other head other_head same = grind (arith, nat_tests)
+same_slot positive slot other head other_head same = grind (arith, nat_tests)
 
 same_head : (crossings : List (List ℕ)) (dart other : Dart) → dart.crossing ≡ other.crossing → is_head crossings dart ≡ true
     → is_head crossings other ≡ true → nat_eq dart.slot 0 ≡ nat_eq other.slot 0 → dart ≡ other

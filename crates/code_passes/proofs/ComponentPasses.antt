@@ -18,29 +18,16 @@ use Rattle.code_passes.specs.Passes.{Pass, is_over, turned_labels, pass_at, pass
 -- a turned component has the same labels
 
 turned_labels-two : (P : List ℤ → Type 0) (first second : ℤ) → P (first ∷ second ∷ []) → P (second ∷ first ∷ []) → P (turned_labels (first ∷ second ∷ []))
-turned_labels-two P first second stays turns =
-    elim ((is_over first && is_over second) && int_lt second first)
-    as (λ b. P (if b then second ∷ first ∷ [] else first ∷ second ∷ [])) [ true ↦ turns | false ↦ stays ]
+turned_labels-two P first second stays turns = grind (arith, nat_tests)
 
 pub length-turned_labels : (labels : List ℤ) → length (turned_labels labels) ≡ length labels
-length-turned_labels [] = refl
-length-turned_labels (first ∷ []) = refl
-length-turned_labels (first ∷ second ∷ []) = turned_labels-two (λ labels. length labels ≡ 2) first second refl refl
-length-turned_labels (first ∷ second ∷ third ∷ labels) = refl
+length-turned_labels labels = grind (arith, nat_tests)
 
 pub sum_by-turned_labels : (f : ℤ → ℕ) (labels : List ℤ) → sum_by f (turned_labels labels) ≡ sum_by f labels
-sum_by-turned_labels f [] = refl
-sum_by-turned_labels f (first ∷ []) = refl
-sum_by-turned_labels f (first ∷ second ∷ []) =
-    turned_labels-two (λ labels. sum_by f labels ≡ sum_by f (first ∷ second ∷ [])) first second refl (omega arith)
-sum_by-turned_labels f (first ∷ second ∷ third ∷ labels) = refl
+sum_by-turned_labels f labels = grind (arith, nat_tests)
 
 pub All-turned_labels : (P : ℤ → Type 0) (labels : List ℤ) → AllByRecursion P labels → AllByRecursion P (turned_labels labels)
-All-turned_labels P [] all = all
-All-turned_labels P (first ∷ []) all = all
-All-turned_labels P (first ∷ second ∷ []) all =
-    turned_labels-two (AllByRecursion P) first second all (all.1.0, (all.0, tt))
-All-turned_labels P (first ∷ second ∷ third ∷ labels) all = all
+All-turned_labels P labels all = grind (arith, nat_tests)
 
 -- the first arc of the component of an arc, where the components have the arcs from a first one on; 0 behind the last of them
 abbrev pub start_from : ℕ → List (List ℤ) → ℕ → ℕ
@@ -83,13 +70,11 @@ length-labels_more labels more = length-append labels (all_labels more)
 
 pub start-here : (first : ℕ) (labels : List ℤ) (more : List (List ℤ)) (arc : ℕ) → first ≤ arc → arc < first + length labels
     → start_from first (labels ∷ more) arc ≡ first
-start-here first labels more arc from below =
-    then_if arc (first + length labels) (min first arc) (start_from (first + length labels) more arc) below ∙ omega (arith, from)
+start-here first labels more arc from below = grind (arith, nat_tests)
 
 pub start-later : (first : ℕ) (labels : List ℤ) (more : List (List ℤ)) (arc : ℕ) → first + length labels ≤ arc
     → start_from first (labels ∷ more) arc ≡ start_from (first + length labels) more arc
-start-later first labels more arc past =
-    else_if arc (first + length labels) (min first arc) (start_from (first + length labels) more arc) past
+start-later first labels more arc past = grind (arith, nat_tests)
 
 -- the first arc of a component is at most each of its arcs
 pub start-le : (first : ℕ) (groups : List (List ℤ)) (arc : ℕ) → start_from first groups arc ≤ arc
@@ -98,8 +83,7 @@ start-le first (labels ∷ more) arc = either (nat_lt arc (first + length labels
   where
     either : (b : Bool) → start_from (first + length labels) more arc ≤ arc
         → (if b then min first arc else start_from (first + length labels) more arc) ≤ arc
-    either true le = omega arith
-    either false le = le
+    either b le = grind (arith, nat_tests)
 
 -- it is not before the first arc of all, where it is an arc
 pub start-from_first : (first : ℕ) (groups : List (List ℤ)) (arc : ℕ) → first ≤ arc
@@ -174,8 +158,7 @@ after_arc-last : (arc start start_of_next : ℕ) → start_of_next ≢ start →
 after_arc-last arc start start_of_next other = grind (arith, nat_tests)
 
 not_first : (first next_start past : ℕ) → 1 ≤ first → first < past → (next_start ≡ 0) ⊎ (past ≤ next_start) → next_start ≢ first
-not_first first next_start past positive after (inl none) same = omega (arith, none, same, positive)
-not_first first next_start past positive after (inr later) same = omega (arith, later, same, after)
+not_first first next_start past positive after has5 = omega arith
 
 pass-here : (first : ℕ) (labels : List ℤ) (more : List (List ℤ)) (at : ℕ) → 1 ≤ first → at < length labels
     → IsPassOf first (labels ∷ more) (pass_at first (turned_labels labels) at)

@@ -37,9 +37,7 @@ size-positive crossings directed first is =
 
 pub component-in : (crossings : List (List ℕ)) → IsDirected crossings → (first arc : ℕ) → IsFirst crossings first
     → first ≤ arc → arc < first + size crossings first → component crossings arc ≡ first
-component-in crossings directed first arc is from below =
-    let alike : size crossings (component crossings first) ≡ size crossings first = ap (size crossings) is.own in
-    component-inside crossings directed first arc is.is_arc (omega (arith, is.own, from)) (omega (arith, is.own, alike, below)) ∙ is.own
+component-in crossings directed first arc is from below = grind (arith, nat_tests)
 
 -- the last of them is an arc
 pub end-within : (crossings : List (List ℕ)) → IsDirected crossings → (first : ℕ) → IsFirst crossings first
@@ -119,12 +117,7 @@ filter-first p a (suc n) k positive within passes fails =
 -- behind the first of a component the others of it are not the first
 others-fail : (crossings : List (List ℕ)) → IsDirected crossings → (first arc : ℕ) → IsFirst crossings first → first < arc
     → arc < first + size crossings first → is_least (components_of crossings) arc ≡ false
-others-fail crossings directed first arc is after below =
-    fails (component crossings arc) arc
-    (omega (arith, after, component-in crossings directed first arc is (omega (arith, after)) below))
-  where
-    fails : (x y : ℕ) → x < y → nat_eq x y ≡ false
-    fails x y less = grind (arith, nat_tests)
+others-fail crossings directed first arc is after below = grind (arith, nat_tests)
 
 Cut-from : (crossings : List (List ℕ)) → IsDirected crossings → (steps a n : ℕ) → n ≤ steps → a + n ≡ arc_count crossings + 1
     → (1 ≤ n → IsFirst crossings a) → Cut crossings a (filter (is_least (components_of crossings)) (range_with_len a n)) n

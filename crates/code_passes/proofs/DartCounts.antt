@@ -1,4 +1,5 @@
 -- How often an arc stands in a code, crossing by crossing.
+use Rattle.std.proofs.lemmas.Bool.Decides.{nat_tests}
 use Rattle.std.proofs.Common.{◌≡◌, ℕ, zero, suc, ◌+◌, ◌-◌, ◌*◌, ◌/◌, ◌%◌, ◌<◌, ◌∙◌, List, [], ◌∷◌, length, refl, ap, arith}
 use Rattle.std.specs.Prelude.{nat_eq, slice_index_or}
 use Rattle.std.specs.List.{sum_by, range_with_len}
@@ -49,11 +50,7 @@ on_arc crossings arc place = value_if 1 (nat_eq (arc_of crossings (dart_at place
 
 on_arc-at : (crossings : List (List ℕ)) (arc place slot : ℕ) → slot < 4
     → on_arc crossings arc (4 * place + slot) ≡ value_if 1 (nat_eq (arc_in (slice_index_or crossings place []) slot) arc)
-on_arc-at crossings arc place slot below =
-    let crossing : (4 * place + slot) / 4 + 1 - 1 ≡ place = omega arith in
-    let same : (4 * place + slot) % 4 ≡ slot = omega arith in
-    ap (λ k. value_if 1 (nat_eq (arc_in (slice_index_or crossings k []) ((4 * place + slot) % 4)) arc)) crossing
-    ∙ ap (λ k. value_if 1 (nat_eq (arc_in (slice_index_or crossings place []) k) arc)) same
+on_arc-at crossings arc place slot below = grind (arith, nat_tests)
 
 pub times-crossings : (crossings : List (List ℕ)) (arc : ℕ)
     → times crossings arc ≡ sum_by (λ place. times_in (slice_index_or crossings place []) arc) (range_with_len 0 (length crossings))

@@ -3,6 +3,7 @@
 -- Each rule of a directed code is read off the passes: a crossing has two, whose four ends are its slots (LabelCounts), so that the arcs of
 -- its slots stand twice, once entered and once left (ArcCounts); and a pass goes from an arc to the next of its component
 -- (ComponentPasses). No two under passes enter on one arc, as the arc tells the label and the label the crossing.
+use Rattle.std.proofs.lemmas.Bool.Decides.{nat_tests}
 use Rattle.std.proofs.Common.{◌≡◌, ◌≢◌, ℕ, suc, inl, inr, ◌⊎◌, ◌+◌, ◌-◌, ◌<◌, ◌∙◌, List, [], length, sym, ap, arith, ℤ, nat_abs}
 use Rattle.std.specs.Prelude.{None, nat_eq, slice_index_or}
 use Rattle.std.specs.List.{sum_by, range_with_len, AllByRecursion}
@@ -32,17 +33,7 @@ ends_on arc pass = enters_on arc pass + leaves_on arc pass
 -- the slots of a crossing hold the ends of its passes
 times_in-passes : (under over : Pass) (slots : List ℕ) (arc : ℕ) → HasSlots under over slots
     → times_in slots arc ≡ ends_on arc under + ends_on arc over
-times_in-passes under over slots arc has =
-    let at : (x y : ℕ) → x ≡ y → value_if 1 (nat_eq x arc) ≡ value_if 1 (nat_eq y arc) =
-    λ x y same. ap (λ z. value_if 1 (nat_eq z arc)) same in
-    let first = at (arc_in slots 0) under.enters has.under_from in
-    let third = at (arc_in slots 2) under.leaves has.under_to in
-    elim has.over_arcs [
-      | inl back ↦
-          omega (arith, first, third, at (arc_in slots 1) over.leaves back.0, at (arc_in slots 3) over.enters back.1)
-      | inr onward ↦
-          omega (arith, first, third, at (arc_in slots 1) over.enters onward.0, at (arc_in slots 3) over.leaves onward.1)
-    ]
+times_in-passes under over slots arc has = grind (arith, nat_tests)
 
 module _ (groups : List (List ℤ)) (signs : List ℤ) (none : bad_label (all_labels groups) ≡ None) where
   abbrev crossings : List (List ℕ)

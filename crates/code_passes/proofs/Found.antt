@@ -1,4 +1,5 @@
 -- What a search finds where one element passes.
+use Rattle.std.proofs.lemmas.Bool.Decides.{nat_tests}
 use Rattle.std.proofs.Common.{◌≡◌, ℕ, zero, suc, inl, inr, ◌+◌, ◌<◌, ◌∙◌, List, [], ◌∷◌, length, get_or, refl, sym, subst, ap, arith, Bool, true, false, cond, unwrap_or}
 use Rattle.std.specs.Prelude.{Some}
 use Rattle.std.specs.List.{find, sum_by, count_by, AllByRecursion}
@@ -21,8 +22,7 @@ module _ {X : Type 0} (p : X → Bool) (default : X) where
   first-counted x xs passes = sum_by-cons (λ y. value_if 1 (p y)) x xs ∙ ap (λ b. value_if 1 b + count_by p xs) passes
 
   later-counted : (x : X) (xs : List X) → p x ≡ false → count_by p (x ∷ xs) ≡ count_by p xs
-  later-counted x xs fails =
-      sum_by-cons (λ y. value_if 1 (p y)) x xs ∙ ap (λ b. value_if 1 b + count_by p xs) fails ∙ omega arith
+  later-counted x xs fails = grind (arith, nat_tests)
 
   -- it passes, and has what all have
   pub found-passes : (xs : List X) → 0 < count_by p xs → p (found p xs default) ≡ true

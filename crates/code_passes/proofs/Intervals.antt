@@ -1,4 +1,5 @@
 -- Components are intervals: each has the arcs from its first one to its end.
+use Rattle.std.proofs.lemmas.Bool.Decides.{nat_tests}
 use Rattle.std.proofs.Common.{◌≡◌, ℕ, suc, inl, inr, ◌⊎◌, ◌+◌, ◌-◌, ◌<◌, ◌≤◌, ◌∙◌, List, [], ◌∷◌, length, get_or, refl, sym, ap, arith, Bool, true, ℤ, min}
 use Rattle.std.specs.Prelude.{None, nat_eq}
 use Rattle.std.specs.List.{count_by}
@@ -20,12 +21,7 @@ pub record HasEnd (first : ℕ) (groups : List (List ℤ)) (arc end : ℕ) : Typ
 
 start-small : (first : ℕ) (labels : List ℤ) (more : List (List ℤ)) (arc : ℕ) → arc < first + length labels
     → start_from first (labels ∷ more) arc < first + length labels
-start-small first labels more arc below =
-    omega (
-      arith,
-      below,
-      then_if arc (first + length labels) (min first arc) (start_from (first + length labels) more arc) below,
-    )
+start-small first labels more arc below = grind (arith, nat_tests)
 
 pub HasEnd-arc : (first : ℕ) (groups : List (List ℤ)) (arc : ℕ) → 1 ≤ first → first ≤ arc
     → arc < first + length (all_labels groups) → (end : ℕ) × HasEnd first groups arc end
@@ -71,8 +67,7 @@ HasEnd-arc first (labels ∷ more) arc positive from below = elim (cases_lt arc 
 ]
   where
     apart : (x start past : ℕ) → 1 ≤ x → x < past → start ≡ x → (start ≡ 0) ⊎ (past ≤ start) → ⊥
-    apart x start past positive after same (inl none) = omega (arith, positive, same, none)
-    apart x start past positive after same (inr later) = omega (arith, after, same, later)
+    apart x start past positive after same has6 = omega arith
 
 -- where the numbers that pass stand at the places from a first one to an end, they are at most as many as these places
 count-places : (p : ℕ → Bool) (xs : List ℕ) (offset first end : ℕ)

@@ -42,9 +42,7 @@ under_at-is place = let e : place + 1 ≡ suc place = omega arith in ap (λ n. n
 -- a label names one crossing, with one of its two passes
 at_crossing-is : (value place : ℕ) (label : ℤ) → at_crossing value label place
     ≡ value_if value (int_eq label (negsuc place)) + value_if value (int_eq label (pos (suc place)))
-at_crossing-is value place label =
-    ap (λ under. value_if value (int_eq label under) + value_if value (int_eq label (over_at place))) (under_at-is place)
-    ∙ ap (λ over. value_if value (int_eq label (negsuc place)) + value_if value (int_eq label over)) (over_at-is place)
+at_crossing-is value place label = grind (arith, nat_tests)
 
 at_crossing-over : (value size place : ℕ) → at_crossing value (pos (suc size)) place ≡ only_at size value place
 at_crossing-over value size place = at_crossing-is value place (pos (suc size)) ∙ grind (arith, nat_tests)
@@ -96,8 +94,7 @@ find-none_at p a (suc n) k none from below = elim (cases_Bool (p a)) [
 ]
   where
     some_none : (x : ℕ) (later : Option ℕ) (b : Bool) → b ≡ true → cond b (Some x) later ≡ None → ⊥
-    some_none x later true passes none = cc
-    some_none x later false passes none = cc
+    some_none x later b passes none = grind (arith, nat_tests)
 
 -- a label that is not bad names a crossing, and is none of the earlier labels
 good_at : (labels : List ℤ) (at : ℕ) → bad_label labels ≡ None → at < length labels
@@ -113,11 +110,7 @@ good_at labels at none below =
 -- so a label stands at most once
 
 int_eq-turned_labels : (x y : ℤ) → int_eq x y ≡ int_eq y x
-int_eq-turned_labels x y = elim (cases_Bool (int_eq x y)) [
-  | inl same ↦ same ∙ sym (int_eq-same y x (sym ((Decides-int_eq x y).0 same)))
-  | inr other ↦ other
-      ∙ sym (int_eq-other y x (λ same. true≢false (sym (int_eq-same x y (sym same)) ∙ other)))
-]
+int_eq-turned_labels x y = grind (arith, nat_tests)
 
 pub stands-turned_labels : (label : ℤ) (labels : List ℤ) → count_by (int_eq label) labels ≡ stands label labels
 stands-turned_labels label labels = ap (λ p. count_by p labels) (fun_ext (int_eq-turned_labels label))

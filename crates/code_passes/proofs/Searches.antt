@@ -1,4 +1,5 @@
 -- Searches and tests, in general.
+use Rattle.std.proofs.lemmas.Bool.Decides.{nat_tests}
 use Rattle.std.proofs.Common.{◌≡◌, ◌≢◌, ℕ, zero, suc, inl, inr, ◌+◌, ◌<◌, ◌≤◌, ◌∙◌, ℤ, List, [], ◌∷◌, map, refl, ap, arith, Bool, true, false, ◌||◌}
 use Rattle.std.specs.Prelude.{Some, cond, MatchBool}
 use Rattle.std.specs.List.{find, list_any, range_with_len}
@@ -7,12 +8,10 @@ use Rattle.kh_types.proofs.RangeCounts.{list_any-one}
 
 -- one of two facts, by a test
 pub matched_true : (b : Bool) (P Q : Type 0) → MatchBool b P Q → b ≡ true → P
-matched_true true P Q is holds = is
-matched_true false P Q is holds = absurd (cc)
+matched_true b P Q is holds = grind (arith, nat_tests)
 
 pub matched_false : (b : Bool) (P Q : Type 0) → MatchBool b P Q → b ≡ false → Q
-matched_false true P Q is fails = absurd (cc)
-matched_false false P Q is fails = is
+matched_false b P Q is fails = grind (arith, nat_tests)
 
 -- the first number of a range that passes
 pub find-first : (p : ℕ → Bool) (a n k : ℕ) → a ≤ k → k < a + n → p k ≡ true → ((j : ℕ) → a ≤ j → j < k → p j ≡ false)
@@ -30,8 +29,7 @@ find-first p a (suc n) k from below passes fails = elim (cases_Bool (p a)) [
 ]
   where
     only : (x y : ℕ) (b : Bool) → b ≡ true → x ≤ y → (x < y → b ≡ false) → x ≡ y
-    only x y true pass from fail = grind arith
-    only x y false pass from fail = absurd (cc)
+    only x y b pass from fail = grind (arith, nat_tests)
 
 -- a test that no number of a range passes, nor what a function makes of one
 pub list_any-map : (p : ℤ → Bool) (f : ℕ → ℤ) (xs : List ℕ) → list_any p (map f xs) ≡ list_any (λ x. p (f x)) xs

@@ -17,14 +17,7 @@ Goes listed one three from to =
 pub Goes-between : (under over : Pass) (sign : ℤ)
     → Goes (int_eq sign (pos 1)) (arc_in (slots_between under over sign) 1) (arc_in (slots_between under over sign) 3) over.enters
     over.leaves
-Goes-between under over sign = by (int_eq sign (pos 1))
-  where
-    by : (b : Bool)
-        → (let slots : List ℕ = if b then under.enters ∷ over.leaves ∷ under.leaves ∷ over.enters ∷ []
-        else under.enters ∷ over.enters ∷ under.leaves ∷ over.leaves ∷ [] in
-        Goes b (arc_in slots 1) (arc_in slots 3) over.enters over.leaves)
-    by true = inl (refl, refl, refl)
-    by false = inr (refl, refl, refl)
+Goes-between under over sign = grind (arith, nat_tests)
 
 -- the three rules by which a crossing is positive
 
@@ -41,8 +34,7 @@ pub by_order : (positive listed : Bool) (one three from to found crossing other 
     → positive ≡ (if nat_eq found crossing then nat_lt three one else nat_lt one three) → found ≤ crossing → found ≤ other
     → (found ≡ crossing) ⊎ (found ≡ other) → ((from < to) × (crossing < other)) ⊎ ((to < from) × (other < crossing))
     → Goes listed one three from to → positive ≡ listed
-by_order positive listed one three from to found crossing other rule before before_other one_of rises goes =
-    grind (arith, nat_tests)
+by_order positive listed one three from to found crossing other rule before before_other one_of rises goes = grind (arith, nat_tests)
 
 -- the two arcs of a component of two
 pub other_arc : (first size from to x : ℕ) → size ≤ 2 → first ≤ from → from < first + size → (from + 1 < first + size → to ≡ from + 1)
@@ -93,11 +85,7 @@ find-first p a (suc n) found is = elim (cases_Bool (p a)) [
 
 -- the labels of under passes and over passes differ
 pub under-over : (place other : ℕ) → under_at place ≢ over_at other
-under-over place other same = negative (sym (under_at-is place) ∙ same ∙ over_at-is other)
-  where
-    negative : negsuc place ≡ pos (suc other) → ⊥
-    negative is = cc
+under-over place other = grind (arith, nat_tests)
 
 pub over-same : (place other : ℕ) → over_at place ≡ over_at other → place ≡ other
-over-same place other same =
-    let sizes : suc place ≡ suc other = ap nat_abs (sym (over_at-is place) ∙ same ∙ over_at-is other) in omega (arith, sizes)
+over-same place other same = grind (arith, nat_tests)

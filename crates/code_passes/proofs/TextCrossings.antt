@@ -1,4 +1,5 @@
 -- The crossings of the code of some components and signs: their slots, and the pairs of arcs that their passes join.
+use Rattle.std.proofs.lemmas.Bool.Decides.{nat_tests}
 use Rattle.std.proofs.Common.{◌≡◌, ℕ, zero, suc, inl, inr, ◌⊎◌, ◌-◌, ◌<◌, List, [], ◌∷◌, length, refl, sym, subst, arith, true, false, ℤ, pos}
 use Rattle.std.specs.Prelude.{None, slice_index_or, if◌then◌else◌}
 use Rattle.std.specs.List.{flat_map, AllByRecursion}
@@ -28,14 +29,7 @@ pub record HasSlots (under over : Pass) (slots : List ℕ) : Type 0 where
       ⊎ ((arc_in slots 1 ≡ over.enters) × (arc_in slots 3 ≡ over.leaves))
 
 HasSlots-between : (under over : Pass) (sign : ℤ) → HasSlots under over (slots_between under over sign)
-HasSlots-between under over sign =
-    elim (int_eq sign (pos 1))
-    as (λ b. HasSlots under over
-    (if b then under.enters ∷ over.leaves ∷ under.leaves ∷ over.enters ∷ []
-    else under.enters ∷ over.enters ∷ under.leaves ∷ over.leaves ∷ [])) [
-      | true ↦ record { under_from = refl; under_to = refl; over_arcs = inl (refl, refl) }
-      | false ↦ record { under_from = refl; under_to = refl; over_arcs = inr (refl, refl) }
-    ]
+HasSlots-between under over sign = grind (arith, nat_tests)
 
 pub slots-at : (groups : List (List ℤ)) (signs : List ℤ) (place : ℕ) → place < crossings_in groups
     → slice_index_or (crossings_of groups signs) place [] ≡ slots_by_passes (all_passes 1 groups) signs place
@@ -63,36 +57,15 @@ pairs-each P (slots ∷ rest) all (suc place) below = pairs-each P rest all.1.1 
 -- what passes have in either direction, the pairs of arcs that they join have, and the other way round
 module _ (R : ℕ → ℕ → Type 0) (turns : (x y : ℕ) → R x y → R y x) where
   same_pair : (x y a b : ℕ) → x ≡ a → y ≡ b → R a b → R x y
-  same_pair x y a b same_first same_second holds =
-      subst (λ (z : ℕ). R z y) (sym same_first) (subst (λ (z : ℕ). R a z) (sym same_second) holds)
+  same_pair x y a b same_first same_second holds = grind (arith, nat_tests)
 
   pairs-of_slots : (under over : Pass) (slots : List ℕ) → HasSlots under over slots → R under.enters under.leaves
       → R over.enters over.leaves → AllByRecursion (λ pair. R pair.0 pair.1) (passes_of slots)
-  pairs-of_slots under over slots has at_under at_over = (
-    same_pair (arc_in slots 0) (arc_in slots 2) under.enters under.leaves has.under_from has.under_to at_under,
-    (
-      elim has.over_arcs [
-        | inl back ↦
-            same_pair (arc_in slots 1) (arc_in slots 3) over.leaves over.enters back.0 back.1 (turns over.enters over.leaves at_over)
-        | inr onward ↦
-            same_pair (arc_in slots 1) (arc_in slots 3) over.enters over.leaves onward.0 onward.1 at_over
-      ],
-      tt,
-    ),
-  )
+  pairs-of_slots under over slots has at_under at_over = grind (arith, nat_tests)
 
   slots-of_pairs : (under over : Pass) (slots : List ℕ) → HasSlots under over slots
       → AllByRecursion (λ pair. R pair.0 pair.1) (passes_of slots) → R under.enters under.leaves × R over.enters over.leaves
-  slots-of_pairs under over slots has all = (
-    same_pair under.enters under.leaves (arc_in slots 0) (arc_in slots 2) (sym has.under_from) (sym has.under_to) all.0,
-    elim has.over_arcs [
-      | inl back ↦
-          same_pair over.enters over.leaves (arc_in slots 3) (arc_in slots 1) (sym back.1) (sym back.0)
-          (turns (arc_in slots 1) (arc_in slots 3) all.1.0)
-      | inr onward ↦
-          same_pair over.enters over.leaves (arc_in slots 1) (arc_in slots 3) (sym onward.0) (sym onward.1) all.1.0
-    ],
-  )
+  slots-of_pairs under over slots has all = grind (arith, nat_tests)
 
   pub pairs-of_passes : (groups : List (List ℤ)) (signs : List ℤ) → bad_label (all_labels groups) ≡ None
       → AllByRecursion (λ (pass : Pass). R pass.enters pass.leaves) (all_passes 1 groups)

@@ -8,10 +8,7 @@ use Rattle.code_passes.specs.Passes.{is_over, turned_labels, all_labels}
 use Rattle.code_passes.proofs.ComponentPasses.{length-labels_more, start_from, label_from, start-here, start-later, start-from_first, then_if, else_if}
 
 not_both : (x y : ℤ) → int_lt y x ≡ true → int_lt x y ≡ false
-not_both (pos m) (pos n) less = grind (arith, nat_tests)
-not_both (pos m) (negsuc n) less = refl
-not_both (negsuc m) (pos n) less = absurd (true≢false (sym less))
-not_both (negsuc m) (negsuc n) less = grind (arith, nat_tests)
+not_both x y less = grind (arith, nat_tests)
 
 -- two labels, turned or not
 abbrev chosen : ℤ → ℤ → Bool → Bool → Bool → List ℤ
@@ -21,22 +18,11 @@ chosen first second a b c = if (a && b) && c then second ∷ first ∷ [] else f
 turned_labels-rises : (first second : ℤ) → is_over (listed_number (turned_labels (first ∷ second ∷ [])) 0) ≡ true
     → is_over (listed_number (turned_labels (first ∷ second ∷ [])) 1) ≡ true
     → int_lt (listed_number (turned_labels (first ∷ second ∷ [])) 1) (listed_number (turned_labels (first ∷ second ∷ [])) 0) ≡ false
-turned_labels-rises first second = by (is_over first) (is_over second) (int_lt second first) refl refl refl
-  where
-    by : (a b c : Bool) → is_over first ≡ a → is_over second ≡ b → int_lt second first ≡ c
-        → is_over (listed_number (chosen first second a b c) 0) ≡ true → is_over (listed_number (chosen first second a b c) 1) ≡ true
-        → int_lt (listed_number (chosen first second a b c) 1) (listed_number (chosen first second a b c) 0) ≡ false
-    by true true true is_a is_b less over second_over = not_both first second less
-    by true true false is_a is_b less over second_over = less
-    by true false c is_a is_b less over second_over = absurd (true≢false (sym second_over ∙ is_b))
-    by false b c is_a is_b less over second_over = absurd (true≢false (sym over ∙ is_a))
+turned_labels-rises first second has2 has3 = grind (arith, nat_tests)
 
 turned_labels-rises_of_two : (labels : List ℤ) → length labels ≡ 2 → is_over (listed_number (turned_labels labels) 0) ≡ true
     → is_over (listed_number (turned_labels labels) 1) ≡ true → int_lt (listed_number (turned_labels labels) 1) (listed_number (turned_labels labels) 0) ≡ false
-turned_labels-rises_of_two [] two = absurd (omega (arith, two))
-turned_labels-rises_of_two (first ∷ []) two = absurd (omega (arith, two))
-turned_labels-rises_of_two (first ∷ second ∷ []) two = turned_labels-rises first second
-turned_labels-rises_of_two (first ∷ second ∷ third ∷ labels) two = absurd (omega (arith, two))
+turned_labels-rises_of_two labels two has2 has3 = grind (arith, nat_tests)
 
 -- so do those of a component of two arcs that is over at both its crossings
 pub two_over-rise : (first : ℕ) (groups : List (List ℤ)) (arc : ℕ) → 1 ≤ first → first ≤ arc
@@ -91,5 +77,4 @@ two_over-rise first (labels ∷ more) arc positive from below own second third o
     ]
   where
     apart : (x start past : ℕ) → 1 ≤ x → x < past → start ≡ x → (start ≡ 0) ⊎ (past ≤ start) → ⊥
-    apart x start past positive after same (inl none) = omega (arith, positive, same, none)
-    apart x start past positive after same (inr later) = omega (arith, after, same, later)
+    apart x start past positive after same has6 = omega arith

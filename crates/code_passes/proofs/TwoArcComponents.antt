@@ -128,16 +128,7 @@ first_over_is crossings first both same =
 -- and there it goes from the greater arc to the lesser, against the rule
 against_order : (crossing x y first : ℕ) (b : Bool) → b ≡ (if nat_eq crossing crossing then nat_lt x y else nat_lt y x)
     → ((b ≡ true) × (x ≡ first + 1) × (y ≡ first)) ⊎ ((b ≡ false) × (x ≡ first) × (y ≡ first + 1)) → ⊥
-against_order crossing x y first b is (inl positive) =
-    let p = positive.0 in
-    let q = positive.1 in
-    let r = positive.2 in
-    grind (arith, nat_tests)
-against_order crossing x y first b is (inr negative) =
-    let p = negative.0 in
-    let q = negative.1 in
-    let r = negative.2 in
-    grind (arith, nat_tests)
+against_order crossing x y first b is has6 = grind (arith, nat_tests)
 
 two_over : (crossings : List (List ℕ)) (first : ℕ) → IsOverBoth crossings first → ⊥
 two_over crossings first both =
@@ -181,9 +172,7 @@ two_over crossings first both =
 -- an over label is the number of its crossing
 over_label : (under : Bool) (crossing : ℕ) → is_over (if under then neg_ℤ (pos crossing) else pos crossing) ≡ true
     → (under ≡ false) × ((if under then neg_ℤ (pos crossing) else pos crossing) ≡ pos crossing)
-over_label true zero over = absurd (cc)
-over_label true (suc crossing) over = absurd (cc)
-over_label false crossing over = (refl, refl)
+over_label under crossing over = grind (arith, nat_tests)
 
 -- the labels of a component of two arcs that are both over ascend
 pub ascending : (crossings : List (List ℕ)) (first : ℕ) → IsOriented crossings → IsFirst crossings first → size crossings first ≡ 2

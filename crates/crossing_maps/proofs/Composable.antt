@@ -1,8 +1,8 @@
 -- A bridge on joins and discs near a crossing can be labelled.
-use Rattle.std.proofs.Common.{◌≡◌, ℕ, ◌+◌, ◌<◌, ◌≤◌, ◌∙◌, List, [], ◌∷◌, ◌++◌, length, map, sym, subst, ap, arith, Bool, true, false, cond}
+use Rattle.std.proofs.Common.{◌≡◌, ℕ, ◌<◌, ◌≤◌, ◌∙◌, List, [], ◌∷◌, ◌++◌, length, map, sym, subst, ap, arith, Bool, true, false, cond}
 use Rattle.std.specs.Prelude.{nat_eq, slice_index}
 use Rattle.std.specs.List.{filter, AllByRecursion, Contains}
-use Rattle.std.proofs.lemmas.List.{length-map}
+use Rattle.std.proofs.lemmas.List.{length-append, length-map}
 use Rattle.kh_types.specs.Circles.{smoothing_of}
 use Rattle.kh_types.specs.Classes.{classes_of, is_least}
 use Rattle.kh_types.specs.Code.{arc_in}
@@ -14,7 +14,8 @@ use Rattle.tangle_maps.specs.Pairings.{IsOpened}
 use Rattle.crossing_maps.specs.declared.between.Side.{Side}
 use Rattle.crossing_maps.specs.declared.bridges.Bridge.{Bridge}
 use Rattle.crossing_maps.specs.declared.splitting.Site.{Site}
-use Rattle.crossing_maps.specs.Bridges.{CanLabel}
+use Rattle.crossing_maps.specs.Bridges.{CanLabel, IsBridge}
+use Rattle.crossing_maps.specs.Counts.{Places}
 use Rattle.crossing_maps.specs.Partners.{HasArcsBelow}
 use Rattle.crossing_maps.specs.Sides.{CanAdd, IsAround, pairs_before}
 use Rattle.crossing_maps.proofs.Values.{places-named}
@@ -70,24 +71,34 @@ rims-near p site rims is are =
     subst (λ xs. AllByRecursion (λ x. Contains site.near.now x) xs) (sym are)
     (AllByRecursion-filter (λ x. Contains site.near.now x) p site.next.now is.behind)
 
+-- the circles before the crossing are some of the closed ones
+pub closed-within : {names : List ℕ} {at : Places} {bridge : Bridge} → IsBridge names at bridge
+    → bridge.closed ≤ length bridge.seam.second.items
+closed-within {names} {at} {bridge} is =
+    omega (arith, is.closed, ap (λ (xs : List ℕ). length xs) is.seam.second, length-append at.closed at.others)
+
 pub can-label : (around rims classes : List ℕ) (joins : List (ℕ × ℕ)) (bridge : Bridge) → AreJoins POINTS around joins
     → classes ≡ classes_of POINTS joins → AllByRecursion (λ x. Contains around x) rims → length rims ≤ POINTS
-    → bridge.components.items ≡ filter (is_least classes) around → bridge.rims.items ≡ map (slice_index classes) rims
-    → length bridge.closed.items + length bridge.others.items ≤ POINTS → CanLabel bridge
-can-label around rims classes joins bridge joined are near fits parts whole few =
+    → bridge.seam.components.items ≡ filter (is_least classes) around → bridge.seam.whole.items ≡ map (slice_index classes) rims
+    → bridge.closed ≤ length bridge.seam.second.items → length bridge.seam.second.items ≤ POINTS → CanLabel bridge
+can-label around rims classes joins bridge joined are near fits parts whole within few =
+    let seam = bridge.seam in
     let names = filter (is_least (classes_of POINTS joins)) around in
-    let components : bridge.components.items ≡ names = parts ∙ ap (λ cs. filter (is_least cs) around) are in
-    let discs : bridge.rims.items ≡ map (slice_index (classes_of POINTS joins)) rims = whole ∙ ap (λ cs. map (slice_index cs) rims) are in
-    let opened : IsOpened bridge.components.items =
+    let components : seam.components.items ≡ names = parts ∙ ap (λ cs. filter (is_least cs) around) are in
+    let discs : seam.whole.items ≡ map (slice_index (classes_of POINTS joins)) rims = whole ∙ ap (λ cs. map (slice_index cs) rims) are in
+    let opened : IsOpened seam.components.items =
     subst (λ xs. IsOpened xs) (sym components) (AllByRecursion-filter (λ x. x < POINTS) (is_least (classes_of POINTS joins)) around joined.below) in
-    let named : AllByRecursion (λ i. Contains bridge.components.items i) bridge.rims.items =
-    subst (λ xs. AllByRecursion (λ i. Contains xs i) bridge.rims.items) (sym components)
+    let named : AllByRecursion (λ i. Contains seam.components.items i) seam.whole.items =
+    subst (λ xs. AllByRecursion (λ i. Contains xs i) seam.whole.items) (sym components)
     (subst (λ ys. AllByRecursion (λ i. Contains names i) ys) (sym discs) (places-named POINTS around joins rims joined near)) in
     record {
-      parts = opened;
-      named = named;
-      rims = AllByRecursion-weaker (λ i. Contains bridge.components.items i) (λ i. i < POINTS) bridge.rims.items
-          (λ i has. AllByRecursion-at (λ x. x < POINTS) bridge.components.items i opened has) named;
-      room = omega (arith, fits, ap (λ (xs : List ℕ). length xs) whole, length-map rims (slice_index classes));
+      composes = record {
+        parts = opened;
+        discs = AllByRecursion-weaker (λ i. Contains seam.components.items i) (λ i. i < POINTS) seam.whole.items
+            (λ i has. AllByRecursion-at (λ x. x < POINTS) seam.components.items i opened has) named;
+        named = named;
+        room = omega (arith, fits, ap (λ (xs : List ℕ). length xs) whole, length-map rims (slice_index classes));
+      };
+      closed = within;
       circles = few;
     }

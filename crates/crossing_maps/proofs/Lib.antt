@@ -8,6 +8,7 @@ pub mod CountLemmas
 pub mod Values
 pub mod SpreadTerms
 pub mod SeamTerms
+pub mod MarkBits
 pub mod Placed
 pub mod NewLemmas
 pub mod SeamPlaces

@@ -1,5 +1,5 @@
 -- What the seam of an added surface makes of terms is the terms of the new map.
-use Rattle.std.proofs.Common.{◌≡◌, ℕ, zero, suc, ◌+◌, ◌-◌, ◌*◌, ◌/◌, ◌%◌, ◌^◌, ◌<◌, ◌≤◌, ◌∙◌, List, [], ◌∷◌, ◌++◌, length, map, refl, sym, subst, ap, ap₂, arith, Bool, true, false, cond}
+use Rattle.std.proofs.Common.{◌≡◌, ℕ, zero, suc, ◌+◌, ◌-◌, ◌*◌, ◌/◌, ◌%◌, ◌^◌, ◌<◌, ◌≤◌, ◌∙◌, List, [], ◌∷◌, ◌++◌, length, map, refl, sym, subst, subst₂, ap, ap₂, arith, Bool, true, false, cond}
 use Rattle.std.specs.Prelude.{nat_eq, slice_index}
 use Rattle.std.specs.List.{count_by, enumerate_from, range_with_len, AllByRecursion, Contains}
 use Rattle.std.proofs.Math.Nat.{pow-suc, zero-div}
@@ -28,16 +28,13 @@ use Rattle.tangle_maps.specs.declared.pairing.TheConstants.{POINTS}
 use Rattle.tangle_maps.specs.declared.seam.Seam.{Seam}
 use Rattle.tangle_maps.specs.Seams.{seam_behind, seam_listed, seam_terms}
 use Rattle.tangle_maps.specs.Sums.{AreReduced, HaveDotsBelow, IsSum, has_dots, term_of}
-use Rattle.crossing_maps.specs.AddedSeams.{ArePairs, IsSeamAt, all_dots, joins_there, places_there}
+use Rattle.crossing_maps.specs.AddedSeams.{AreMarks, ArePairs, IsSeamAt, joins_there, places_there}
 use Rattle.crossing_maps.specs.Counts.{load_at, on}
 use Rattle.crossing_maps.specs.NewTerms.{all_terms, first_end, new_map, saddle_map, sets_behind, term_with}
 use Rattle.crossing_maps.proofs.Placed.{joins-there, near-distinct, opened-near, value-sized, within-there}
 use Rattle.crossing_maps.proofs.SeamTerms.{coefficient-chosen, terms-same}
 use Rattle.crossing_maps.proofs.SpreadTerms.{HaveCoefficients, IsSum-spread}
 use Rattle.crossing_maps.proofs.Values.{factor_at, places-named, sets_at}
-
-abbrev all_terms_of : Term
-all_terms_of = term_of all_dots 1
 
 -- dots of chosen sets
 terms-below : (c limit count : ℕ) (sets : List ℕ) → count ≡ limit → AllByRecursion (λ s. s < count) sets
@@ -46,12 +43,12 @@ terms-below c limit count [] same all = tt
 terms-below c limit count (s ∷ sets) same all = (omega (arith, same, all.0), terms-below c limit count sets same all.1)
 
 pub coefficients-made : (code : Code) (k first second : ℕ) (m n : List (ℕ × ℕ)) (ds lowers : List ℕ) (label other : ℕ) (seam : Seam)
-    (term : Term) → ArePairs code k m n → AllByRecursion (λ x. Contains (near (step_at code k)) x) ds
-    → AllByRecursion (λ x. Contains (near (step_at code k)) x) lowers → IsSeamAt code k first second m n ds lowers label other seam
+    (marks : ℕ) (term : Term) → ArePairs code k m n → AllByRecursion (λ x. Contains (near (step_at code k)) x) ds
+    → AllByRecursion (λ x. Contains (near (step_at code k)) x) lowers → IsSeamAt code k first second m n ds lowers label other seam marks
     → HaveCoefficients (sets_behind code k first second m n)
     (λ kept. term.coefficient * value (coefficient_sheet code k first second m n (marked term.dots ds) lowers label other kept))
-    (seam_behind seam (all_terms_of ∷ []) term)
-coefficients-made code k first second m n ds lowers label other seam term are all_ds all_lowers is =
+    (seam_behind seam (term_of marks 1 ∷ []) term)
+coefficients-made code k first second m n ds lowers label other seam marks term are all_ds all_lowers is =
     let joins = joins_there code k first second m n in
     let around = near (step_at code k) in
     let class : ℕ → ℕ = slice_index (classes_of POINTS joins) in
@@ -68,9 +65,11 @@ coefficients-made code k first second m n ds lowers label other seam term are al
     } in
     let sets = sets_at names here term.dots label other in
     let unit = product_over (factor_at here term.dots label other) names in
-    let same : seam_behind seam (all_terms_of ∷ []) term ≡ map (term_with (term.coefficient * 1 * unit)) sets =
-    append-nil (seam_terms seam term all_terms_of)
-    ∙ terms-same names here label other seam term is.added is.room (places-named POINTS around joins at.rims wide within.rims) in
+    let marked : AreMarks (length here.closed) (length here.others) label other marks =
+    subst₂ (λ x y. AreMarks x y label other marks) (sym (length-map at.closed class)) (sym (length-map at.others class)) is.labels in
+    let same : seam_behind seam (term_of marks 1 ∷ []) term ≡ map (term_with (term.coefficient * 1 * unit)) sets =
+    append-nil (seam_terms seam term (term_of marks 1))
+    ∙ terms-same names here label other marks seam term is.added marked (places-named POINTS around joins at.rims wide within.rims) in
     record {
       each = λ kept below.
           ap (λ ts. coefficient_in ts kept) same ∙ coefficient-chosen (term.coefficient * 1 * unit) kept sets
@@ -92,12 +91,13 @@ some-sets zero = omega arith
 some-sets (suc n) = omega (arith, pow-suc 2 n, some-sets n)
 
 -- all terms of a map
-pub map_made : (p f : ℕ) (code : Code) (k smoothing : ℕ) (m n : List (ℕ × ℕ)) (label other : ℕ) (seam : Seam) (terms old new : List Term)
+pub map_made : (p f : ℕ) (code : Code) (k smoothing : ℕ) (m n : List (ℕ × ℕ)) (label other : ℕ) (seam : Seam) (marks : ℕ)
+    (terms old new : List Term)
     → ArePairs code k m n
-    → IsSeamAt code k smoothing smoothing m n (discs (points_at code k) m n) (points_at code k).opened label other seam
-    → IsSum p old (scaled f (seam_listed seam terms (all_terms_of ∷ []))) new
+    → IsSeamAt code k smoothing smoothing m n (discs (points_at code k) m n) (points_at code k).opened label other seam marks
+    → IsSum p old (scaled f (seam_listed seam terms (term_of marks 1 ∷ []))) new
     → IsSum p old (scaled f (new_map code k smoothing m n label other terms)) new
-map_made p f code k smoothing m n label other seam terms old new are is sum =
+map_made p f code k smoothing m n label other seam marks terms old new are is sum =
     let points = points_at code k in
     let Near : ℕ → Type 0 = λ x. Contains (near (step_at code k)) x in
     let lowers : AllByRecursion Near points.opened = All-contained Near points.opened (λ x has. opened-near code k x has) in
@@ -107,8 +107,8 @@ map_made p f code k smoothing m n label other seam terms old new are is sum =
     IsSum-spread p f (sets_behind code k smoothing smoothing m n)
     (λ term kept. term.coefficient
     * value (coefficient_sheet code k smoothing smoothing m n (marked term.dots (discs points m n)) points.opened label other kept))
-    (seam_behind seam (all_terms_of ∷ [])) terms old new (some-sets (length (discs_behind code k smoothing smoothing m n)))
-    (λ term. coefficients-made code k smoothing smoothing m n (discs points m n) points.opened label other seam term are faces lowers is) sum
+    (seam_behind seam (term_of marks 1 ∷ [])) terms old new (some-sets (length (discs_behind code k smoothing smoothing m n)))
+    (λ term. coefficients-made code k smoothing smoothing m n (discs points m n) points.opened label other seam marks term are faces lowers is) sum
 
 -- one term alone is reduced
 AreReduced-one : (p dots : ℕ) → 1 < p → AreReduced p (term_of dots 1 ∷ [])
@@ -140,11 +140,11 @@ terms-alike : (f g : ℕ → ℕ) (xs : List ℕ) → ((x : ℕ) → f x ≡ g x
 terms-alike f g [] alike = refl
 terms-alike f g (x ∷ xs) alike = ap₂ (λ (c : ℕ) (ts : List Term). term_of x c ∷ ts) (alike x) (terms-alike f g xs alike)
 
-pub saddle_made : (p f : ℕ) (code : Code) (k : ℕ) (m : List (ℕ × ℕ)) (label other : ℕ) (seam : Seam) (old new : List Term)
-    → ArePairs code k m m → IsSeamAt code k 0 1 m m (map first_end m) (saddle_strips code k) label other seam
-    → IsSum p old (scaled f (seam_listed seam (term_of 0 1 ∷ []) (all_terms_of ∷ []))) new
+pub saddle_made : (p f : ℕ) (code : Code) (k : ℕ) (m : List (ℕ × ℕ)) (label other : ℕ) (seam : Seam) (marks : ℕ) (old new : List Term)
+    → ArePairs code k m m → IsSeamAt code k 0 1 m m (map first_end m) (saddle_strips code k) label other seam marks
+    → IsSum p old (scaled f (seam_listed seam (term_of 0 1 ∷ []) (term_of marks 1 ∷ []))) new
     → IsSum p old (scaled f (saddle_map code k m label other)) new
-saddle_made p f code k m label other seam old new are is sum =
+saddle_made p f code k m label other seam marks old new are is sum =
     let points = points_at code k in
     let ds = map first_end m in
     let strips = saddle_strips code k in
@@ -163,9 +163,9 @@ saddle_made p f code k m label other seam old new are is sum =
     ∙ terms-alike (worth (term_of 0 1)) (λ kept. value (saddle_surface code k m label other kept)) (range_with_len 0 count)
     (λ kept. one_time (value (coefficient_sheet code k 0 1 m m (marked 0 ds) strips label other kept))
     ∙ ap (λ faces. value (coefficient_sheet code k 0 1 m m faces strips label other kept)) (unmarked 0 m)))
-    (IsSum-spread p f count worth (seam_behind seam (all_terms_of ∷ [])) (term_of 0 1 ∷ []) old new
+    (IsSum-spread p f count worth (seam_behind seam (term_of marks 1 ∷ [])) (term_of 0 1 ∷ []) old new
     (some-sets (length (discs_behind code k 0 1 m m)))
-    (λ term. coefficients-made code k 0 1 m m ds strips label other seam term are faces lowers is) sum)
+    (λ term. coefficients-made code k 0 1 m m ds strips label other seam marks term are faces lowers is) sum)
   where
     one_time : (x : ℕ) → 1 * x ≡ x
     one_time x = omega arith

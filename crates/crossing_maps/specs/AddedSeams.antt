@@ -1,6 +1,7 @@
--- The surface that a crossing adds, as a seam: the discs before the crossing have the dots of a term, and all discs of a second list have one.
-use Rattle.std.specs.Prelude.{◌≡◌, ℕ, ◌+◌, ◌-◌, ◌^◌, ◌≤◌, List, ◌++◌, length, map, nat_eq, slice_index}
-use Rattle.std.specs.List.{enumerate_from, filter, Contains}
+-- The surface that a crossing adds, as a seam: its first discs are those before the crossing, which have the dots of a term, and its second
+-- ones the circles that are closed on either side, whose labels are a dot set.
+use Rattle.std.specs.Prelude.{◌≡◌, ℕ, ◌+◌, ◌-◌, ◌<◌, List, ◌++◌, length, slice_index}
+use Rattle.std.specs.List.{Contains}
 use Rattle.kh_types.specs.Bits.{bit}
 use Rattle.kh_types.specs.Classes.{classes_of}
 use Rattle.kh_types.specs.Code.{Code}
@@ -12,21 +13,18 @@ use Rattle.tangle_maps.specs.declared.seam.Seam.{Seam}
 use Rattle.crossing_maps.specs.Counts.{Places, genus_at, on}
 use Rattle.crossing_maps.specs.Sites.{IsPlace}
 
--- those of some components of circles at whose place a number has this bit
-abbrev pub with_bit : ℕ → ℕ → List ℕ → List ℕ
-with_bit value number components =
-    map (λ at. at.1) (filter (λ at. nat_eq (bit number at.0) value) (enumerate_from 0 components))
+-- a dot set marks closed circles by their labels: the first ones, before the crossing, where the label is v-, and the others, behind it, where
+-- it is v+
+pub record AreMarks (closed others label other marks : ℕ) : Type 0 where
+  pub before : (place : ℕ) → place < closed → bit marks place ≡ bit label place
+  pub behind : (place : ℕ) → place < others → bit marks (closed + place) ≡ 1 - bit other place
 
--- the dot set of all discs
-abbrev pub all_dots : ℕ
-all_dots = 2 ^ 48 - 1
-
--- a seam has these components, and on them discs before and behind the crossing, the circles that have a mark, and the genus of each: a
--- circle before the crossing is marked where its label is v-, and one behind it where it is v+
-pub record IsAddedSeam (names : List ℕ) (at : Places) (label other : ℕ) (seam : Seam) : Type 0 where
+-- a seam has these components, and on them discs before and behind the crossing, the circles that are closed on either side, one after the
+-- other, and the genus of each
+pub record IsAddedSeam (names : List ℕ) (at : Places) (seam : Seam) : Type 0 where
   pub parts : seam.components.items ≡ names
   pub first : seam.first.items ≡ at.discs
-  pub second : seam.second.items ≡ with_bit 1 label at.closed ++ with_bit 0 other at.others
+  pub second : seam.second.items ≡ at.closed ++ at.others
   pub whole : seam.whole.items ≡ at.rims
   pub genera : (k : ℕ) → Contains names k → slice_index seam.genera k ≡ genus_at at k
 
@@ -44,12 +42,13 @@ places_there code k first second m n discs lowers = record {
 abbrev pub joins_there : Code → ℕ → ℕ → ℕ → List (ℕ × ℕ) → List (ℕ × ℕ) → List (ℕ × ℕ)
 joins_there code k first second m n = (m ++ smoothing_at code k first) ++ (n ++ smoothing_at code k second)
 
--- a seam is that of the surface with these discs and half strips, by classes of all arcs that a program can number
-pub record IsSeamAt (code : Code) (k first second : ℕ) (m n : List (ℕ × ℕ)) (discs lowers : List ℕ) (label other : ℕ) (seam : Seam) : Type 0 where
+-- a seam is that of the surface with these discs and half strips, by classes of all arcs that a program can number, and a dot set marks the
+-- closed circles by these labels
+pub record IsSeamAt (code : Code) (k first second : ℕ) (m n : List (ℕ × ℕ)) (discs lowers : List ℕ) (label other : ℕ) (seam : Seam)
+    (marks : ℕ) : Type 0 where
   pub added : IsAddedSeam (least_points POINTS (near (step_at code k)) (joins_there code k first second m n))
-      (on (slice_index (classes_of POINTS (joins_there code k first second m n))) (places_there code k first second m n discs lowers))
-      label other seam
-  pub room : length seam.second.items ≤ POINTS
+      (on (slice_index (classes_of POINTS (joins_there code k first second m n))) (places_there code k first second m n discs lowers)) seam
+  pub labels : AreMarks (length (closed_at code k first m)) (length (closed_at code k second n)) label other marks
 
 -- two pairings of the arcs that are open where a crossing is added
 pub record ArePairs (code : Code) (k : ℕ) (m n : List (ℕ × ℕ)) : Type 0 where

@@ -1,6 +1,6 @@
 //! The surface that a crossing adds between two pairings, before closed circles have labels.
 
-ghost use Rattle.std.specs.Prelude.{◌≡◌, ◌+◌, ◌≤◌, length, map, slice_index};
+ghost use Rattle.std.specs.Prelude.{◌≡◌, ◌+◌, ◌≤◌, ◌++◌, length, map, slice_index};
 ghost use Rattle.std.specs.List.{filter};
 ghost use Rattle.kh_types.specs.Classes.{is_least};
 ghost use Rattle.tangle_maps.specs.declared.pairing.TheConstants.{POINTS};
@@ -13,22 +13,17 @@ use crate::genus::{Lists, genera_in};
 use arrayvec::ArrayVec;
 use tangle_maps::POINTS;
 use tangle_maps::names::{Names, at};
-use tangle_maps::seam::{Arcs, least_names, named};
+use tangle_maps::seam::{Arcs, Seam, least_names, named};
 
 /// Numbers of the half strips that lower the Euler count.
 pub const STRIPS: usize = 2 * POINTS;
 
-/// The discs before and behind a crossing, and the circles that are closed on either side, each by
-/// the component of the surface that it is on; all components by their least arcs, and the genus of
-/// each.
+/// The seam of the discs before a crossing and the circles that are closed on either side, over the
+/// discs behind it; and how many of those circles are closed before the crossing: they come first.
 #[derive(Drop)]
 pub struct Bridge {
-    pub discs: Arcs,
-    pub rims: Arcs,
-    pub closed: Arcs,
-    pub others: Arcs,
-    pub components: Arcs,
-    pub genera: Names,
+    pub seam: Seam,
+    pub closed: usize,
 }
 
 /// The components of half strips.
@@ -44,13 +39,25 @@ fn strips_on(classes: &Names, strips: &[u8]) -> ArrayVec<u8, STRIPS>
     made
 }
 
+/// Some arcs, and others behind them.
+fn appended(arcs: Arcs, others: &[u8]) -> Arcs
+    requires { length arcs.items + length others.now ≤ POINTS }
+    ensures { result.items ≡ arcs.items ++ others.now }
+{
+    let mut made = arcs;
+    match made.try_extend_from_slice(others) {
+        Ok(()) => made,
+        Err(_) => unreachable!(),
+    }
+}
+
 /// The bridge of a surface of these classes of arcs, by the arcs near a crossing and its places.
 pub fn bridge_on(classes: &Names, near: &[u8], places: &Lists<'_>) -> Bridge
     requires near { IsArcs POINTS near.now }
     requires places { AreArcs (places_in places.now) }
     ensures bridge { IsBridge (filter (is_least classes.now) near.now)
         (on (slice_index classes.now) (places_in places.now)) result }
-    ensures circles { length result.closed.items + length result.others.items ≤ POINTS }
+    ensures circles { length result.seam.second.items ≤ POINTS }
 {
     let rims = named(classes, places.rims);
     let discs = named(classes, places.discs);
@@ -68,12 +75,15 @@ pub fn bridge_on(classes: &Names, near: &[u8], places: &Lists<'_>) -> Bridge
     };
     let components = least_names(classes, classes, near);
     let genera = genera_in(&components, &lists);
-    Bridge {
-        discs,
-        rims,
-        closed,
-        others,
+    let seam = Seam {
+        first: discs,
+        second: appended(closed, &others),
+        whole: rims,
         components,
         genera,
+    };
+    Bridge {
+        seam,
+        closed: places.closed.len(),
     }
 }

@@ -36,9 +36,9 @@ pub fn added_map<F: PrimeField>(
         old.now made.items) }
 {
     element_laws::<F>();
-    let seam = bridge.labelled(labels);
+    let marks = bridge.marks(labels);
     let mut made: Terms = SmallVec::new(alloc);
-    add_map::<F>(&mut made, &seam, old, F::of(1))?;
+    add_map::<F>(&mut made, &bridge.seam, marks, old, F::of(1))?;
     Ok(made)
 }
 
@@ -59,8 +59,8 @@ pub fn saddle_map<F: PrimeField>(
         labels.behind made.items) }
 {
     element_laws::<F>();
-    let seam = bridge.labelled(labels);
+    let marks = bridge.marks(labels);
     let mut made: Terms = SmallVec::new(alloc);
-    add_saddle(&mut made, &seam, sign)?;
+    add_saddle(&mut made, &bridge.seam, marks, sign)?;
     Ok(made)
 }

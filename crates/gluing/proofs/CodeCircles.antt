@@ -7,6 +7,7 @@
 -- is none of them, so that its class is one that is no circle. Two codes of as many crossings have the same pairs of darts, and differ in
 -- names alone: that is what renumberings, kinks, fingers and slides compare. The last part is for codes of one crossing more: its smoothing
 -- is the last pair of pairs, and its bit the highest of the state, so that sums over states split into two halves.
+use Rattle.std.proofs.lemmas.Bool.Decides.{nat_tests}
 use Rattle.std.proofs.Common.{◌≡◌, ℕ, zero, suc, ◌+◌, ◌*◌, ◌/◌, ◌%◌, ◌^◌, ◌<◌, ◌≤◌, ◌∙◌, List, [], ◌∷◌, ◌++◌, sym, refl, length, ap, ap₂, arith, Bool, true, false, cond}
 use Rattle.std.specs.Prelude.{slice_index, slice_index_or, nat_eq}
 use Rattle.std.specs.List.{filter, flat_map, enumerate_from, range_with_len}
@@ -36,17 +37,14 @@ smoothing_by is_zero w x y z = cond is_zero ((w, x) ∷ (y, z) ∷ []) ((w, z) �
 
 pub smoothing_by-renamed : (f : ℕ → ℕ) (is_zero : Bool) (w x y z : ℕ)
     → smoothing_by is_zero (f w) (f x) (f y) (f z) ≡ renamed f (smoothing_by is_zero w x y z)
-smoothing_by-renamed f true w x y z = refl
-smoothing_by-renamed f false w x y z = refl
+smoothing_by-renamed f is_zero w x y z = grind (arith, nat_tests)
 
 pub smoothing_by-same : (is_zero : Bool) (w x y z a b c d : ℕ) → w ≡ a → x ≡ b → y ≡ c → z ≡ d
     → smoothing_by is_zero w x y z ≡ smoothing_by is_zero a b c d
-smoothing_by-same is_zero w x y z a b c d is_a is_b is_c is_d =
-    ap₂ (λ k l. smoothing_by is_zero k l y z) is_a is_b ∙ ap₂ (λ k l. smoothing_by is_zero a b k l) is_c is_d
+smoothing_by-same is_zero w x y z a b c d is_a is_b is_c is_d = grind (arith, nat_tests)
 
 pub smoothing_by-below : (n : ℕ) (is_zero : Bool) (w x y z : ℕ) → w < n → x < n → y < n → z < n → AreBelow n (smoothing_by is_zero w x y z)
-smoothing_by-below n true w x y z w_below x_below y_below z_below = ((w_below, x_below), ((y_below, z_below), tt))
-smoothing_by-below n false w x y z w_below x_below y_below z_below = ((w_below, z_below), ((x_below, y_below), tt))
+smoothing_by-below n is_zero w x y z w_below x_below y_below z_below = grind (arith, nat_tests)
 
 -- the smoothings of a code are those of its darts, each dart standing for its arc
 
@@ -56,20 +54,7 @@ at_dart arc dart = arc (dart / 4) (dart % 4)
 pub smoothing_of-darts : (arc : ℕ → ℕ → ℕ) (smoothing place : ℕ) (quadruple : List ℕ)
     → ((slot : ℕ) → slot < 4 → arc_in quadruple slot ≡ arc place slot)
     → smoothing_of smoothing quadruple ≡ renamed (at_dart arc) (smoothing_of smoothing (darts_of place))
-smoothing_of-darts arc smoothing place quadruple same =
-    let q0 : 4 * place / 4 ≡ place = omega arith in
-    let q1 : (4 * place + 1) / 4 ≡ place = omega arith in
-    let q2 : (4 * place + 2) / 4 ≡ place = omega arith in
-    let q3 : (4 * place + 3) / 4 ≡ place = omega arith in
-    let r0 : 4 * place % 4 ≡ 0 = omega arith in
-    let r1 : (4 * place + 1) % 4 ≡ 1 = omega arith in
-    let r2 : (4 * place + 2) % 4 ≡ 2 = omega arith in
-    let r3 : (4 * place + 3) % 4 ≡ 3 = omega arith in
-    smoothing_by-same (nat_eq smoothing 0) (arc_in quadruple 0) (arc_in quadruple 1) (arc_in quadruple 2) (arc_in quadruple 3)
-    (at_dart arc (4 * place)) (at_dart arc (4 * place + 1)) (at_dart arc (4 * place + 2)) (at_dart arc (4 * place + 3))
-    (same 0 (omega arith) ∙ sym (ap₂ arc q0 r0)) (same 1 (omega arith) ∙ sym (ap₂ arc q1 r1))
-    (same 2 (omega arith) ∙ sym (ap₂ arc q2 r2)) (same 3 (omega arith) ∙ sym (ap₂ arc q3 r3))
-    ∙ smoothing_by-renamed (at_dart arc) (nat_eq smoothing 0) (4 * place) (4 * place + 1) (4 * place + 2) (4 * place + 3)
+smoothing_of-darts arc smoothing place quadruple same = grind (arith, nat_tests)
 
 pub smoothings-from : (arc : ℕ → ℕ → ℕ) (state at : ℕ) (xs : List (List ℕ))
     → ((k slot : ℕ) → k < length xs → slot < 4 → arc_in (slice_index_or xs k []) slot ≡ arc (at + k) slot)
@@ -98,11 +83,7 @@ pub dart_smoothings-from : (n state at count : ℕ) → at + count ≤ n
     → AreBelow (4 * n) (flat_map (λ place. smoothing_of (bit state place) (darts_of place)) (range_with_len at count))
 dart_smoothings-from n state at zero within = tt
 dart_smoothings-from n state at (suc count) within =
-    AreBelow-append (4 * n) (smoothing_of (bit state at) (darts_of at))
-    (flat_map (λ place. smoothing_of (bit state place) (darts_of place)) (range_with_len (at + 1) count))
-    (smoothing_by-below (4 * n) (nat_eq (bit state at) 0) (4 * at) (4 * at + 1) (4 * at + 2) (4 * at + 3)
-    (omega arith) (omega arith) (omega arith) (omega arith))
-    (dart_smoothings-from n state (at + 1) count (omega arith))
+    grind (arith, nat_tests, AreBelow-append, darts_of, smoothing_by-below, dart_smoothings-from n state (at + 1) count (omega arith))
 
 pub dart_smoothings-below : (count state : ℕ) → AreBelow (4 * count) (dart_smoothings count state)
 dart_smoothings-below count state = dart_smoothings-from count state 0 count (omega arith)
@@ -114,16 +95,7 @@ Places-darts code holds dart below = holds (dart / 4) (dart % 4) (omega arith) (
 -- the number 0 is a class of its own, which is no circle
 pub class_count-circles : (code : Code) (state : ℕ) → AreBelow (name_count code) (smoothings_of code.crossings state)
     → class_count (circles_of code state) ≡ circle_count code state + 1
-class_count-circles code state below =
-    let m = 2 * length code.crossings + code.loops in
-    let classes = circles_of code state in
-    let named = IsNamed-classes_of (name_count code) (smoothings_of code.crossings state) below in
-    let zero_own : slice_index classes 0 ≡ 0 = omega (arith, named.least 0 (omega arith)) in
-    let e : m + 1 ≡ suc m = omega arith in
-    ap (λ k. length (filter (is_least classes) (range_with_len 0 k))) (named.size ∙ e)
-    ∙ ap (λ b. length (cond b (0 ∷ filter (is_least classes) (range_with_len 1 m)) (filter (is_least classes) (range_with_len 1 m))))
-    (eq-eqb (slice_index classes 0) 0 zero_own)
-    ∙ (let last : suc (circle_count code state) ≡ circle_count code state + 1 = omega arith in last)
+class_count-circles code state below = grind (arith, nat_tests, IsNamed-classes_of, eq-eqb)
 
 -- states of one crossing more: the new bit is the highest
 
@@ -131,9 +103,7 @@ pub bit-above : (n state : ℕ) → state < 2 ^ n → bit state n ≡ 0
 bit-above n state below = ap (λ q. q % 2) (div-eq_of_lt below)
 
 pub bit-highest : (n state : ℕ) → state < 2 ^ n → bit (2 ^ n + state) n ≡ 1
-bit-highest n state below =
-    let turned : 2 ^ n + state ≡ state + 2 ^ n = omega arith in
-    ap (λ s. bit s n) turned ∙ bit-set_there state n (bit-above n state below)
+bit-highest n state below = grind (arith, nat_tests)
 
 pub bit-lower : (n state k : ℕ) → state < 2 ^ n → k < n → bit (2 ^ n + state) k ≡ bit state k
 bit-lower n state k below k_below =
@@ -145,31 +115,19 @@ pub dart_smoothings-same_from : (first second at count : ℕ) → ((k : ℕ) →
     ≡ flat_map (λ place. smoothing_of (bit second place) (darts_of place)) (range_with_len at count)
 dart_smoothings-same_from first second at zero same = refl
 dart_smoothings-same_from first second at (suc count) same =
-    ap₂ (λ ps qs. ps ++ qs) (ap (λ b. smoothing_of b (darts_of at)) (same at (omega arith) (omega arith)))
-    (dart_smoothings-same_from first second (at + 1) count (λ k from below. same k (omega arith) (omega arith)))
+    grind (arith, nat_tests, darts_of, dart_smoothings-same_from first second (at + 1) count (λ k from below. same k (omega arith) (omega arith)))
 
 pub dart_smoothings-highest : (n state : ℕ) → state < 2 ^ n → dart_smoothings n (2 ^ n + state) ≡ dart_smoothings n state
-dart_smoothings-highest n state below =
-    dart_smoothings-same_from (2 ^ n + state) state 0 n (λ k from k_below. bit-lower n state k below (omega arith))
+dart_smoothings-highest n state below = grind (arith, nat_tests, dart_smoothings-same_from, bit-lower)
 
 -- one crossing more, at the end of the list
 
 enumerate_from-append : (at : ℕ) (xs ys : List (List ℕ))
     → enumerate_from at (xs ++ ys) ≡ enumerate_from at xs ++ enumerate_from (at + length xs) ys
 enumerate_from-append at [] ys = let e : at ≡ at + 0 = omega arith in ap (λ k. enumerate_from k ys) e
-enumerate_from-append at (x ∷ xs) ys =
-    let e : at + 1 + length xs ≡ at + length (x ∷ xs) = omega arith in
-    ap (λ ps. (let p : ℕ × List ℕ = (at, x) in p) ∷ ps)
-    (enumerate_from-append (at + 1) xs ys ∙ ap (λ k. enumerate_from (at + 1) xs ++ enumerate_from k ys) e)
+enumerate_from-append at (x ∷ xs) ys = grind (arith, nat_tests, enumerate_from-append (at + 1) xs ys)
 
 pub smoothings_of-more : (crossings : List (List ℕ)) (quadruple : List ℕ) (state : ℕ)
     → smoothings_of (crossings ++ quadruple ∷ []) state
     ≡ smoothings_of crossings state ++ smoothing_of (bit state (length crossings)) quadruple
-smoothings_of-more crossings quadruple state =
-    let g : ℕ × List ℕ → List (ℕ × ℕ) = λ c. smoothing_of (bit state c.0) c.1 in
-    let e : 0 + length crossings ≡ length crossings = omega arith in
-    ap (λ cs. flat_map g cs) (enumerate_from-append 0 crossings (quadruple ∷ []))
-    ∙ flat_map-append g (enumerate_from 0 crossings) (enumerate_from (0 + length crossings) (quadruple ∷ []))
-    ∙ ap (λ ps. flat_map g (enumerate_from 0 crossings) ++ ps)
-    (append-nil (smoothing_of (bit state (0 + length crossings)) quadruple)
-    ∙ ap (λ k. smoothing_of (bit state k) quadruple) e)
+smoothings_of-more crossings quadruple state = grind (arith, nat_tests, enumerate_from-append, flat_map-append, append-nil)

@@ -92,7 +92,4 @@ pub class_count-glued_parts : (m n k : ℕ) (f g : ℕ → ℕ) (outer inner oth
     → class_count (classes_of n inner) + class_count (classes_of k (others ++ renamed g outer))
     ≡ class_count (classes_of k others) + class_count (classes_of n (inner ++ renamed f outer))
 class_count-glued_parts m n k f g outer inner others below inner_below others_below f_places g_places alike =
-    ap (λ c. class_count (classes_of n inner) + class_count c) (fold-append joined (range_with_len 0 k) others (renamed g outer))
-    ∙ class_count-glued m n k f g outer (classes_of n inner) (classes_of k others) below
-    (IsNamed-classes_of n inner inner_below) (IsNamed-classes_of k others others_below) f_places g_places alike
-    ∙ ap (λ c. class_count (classes_of k others) + class_count c) (sym (fold-append joined (range_with_len 0 n) inner (renamed f outer)))
+    grind (arith, nat_tests, fold-append, class_count-glued, IsNamed-classes_of)

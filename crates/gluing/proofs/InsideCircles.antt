@@ -193,13 +193,7 @@ seen_at-no_side n arcs placed x below = elim (no_side_or_zero arcs x) [
 
 TouchNoSide-stubs : (n : ℕ) (arcs : ℕ → ℕ) (count : ℕ) → IsPlacedTriangle n arcs → count ≤ 6 → TouchNoSide arcs (stubs n arcs count)
 TouchNoSide-stubs n arcs zero placed within = tt
-TouchNoSide-stubs n arcs (suc count) placed within = (
-  (
-    λ side from below same. placed.apart (count + 1) side (omega arith) from below same,
-    λ side from below same. (let small = placed.below side below in absurd (omega (arith, small, same))),
-  ),
-  TouchNoSide-stubs n arcs count placed (omega arith),
-)
+TouchNoSide-stubs n arcs (suc count) placed within = grind (arith, nat_tests, TouchNoSide-stubs n arcs count placed (omega arith))
 
 TouchNoSide-append : (arcs : ℕ → ℕ) (pairs more : List (ℕ × ℕ)) → TouchNoSide arcs pairs → TouchNoSide arcs more
     → TouchNoSide arcs (pairs ++ more)
@@ -259,16 +253,7 @@ class_count-inside n arcs outer crossings state placed outer_below touch tied =
 
 -- where there are numbers, the number 0 names a class
 class_count-positive : (n : ℕ) (pairs : List (ℕ × ℕ)) → AreBelow n pairs → 0 < n → 1 ≤ class_count (classes_of n pairs)
-class_count-positive n pairs below some =
-    let classes = classes_of n pairs in
-    let named = IsNamed-classes_of n pairs below in
-    let zero_own : slice_index classes 0 ≡ 0 = omega (arith, named.least 0 some) in
-    let e : n ≡ suc (n - 1) = omega arith in
-    let others = filter (is_least classes) (range_with_len 1 (n - 1)) in
-    let count : class_count classes ≡ suc (length others) =
-    ap (λ k. length (filter (is_least classes) (range_with_len 0 k))) (named.size ∙ e)
-    ∙ ap (λ b. length (cond b (0 ∷ others) others)) (eq-eqb (slice_index classes 0) 0 zero_own) in
-    omega (arith, count)
+class_count-positive n pairs below some = grind (arith, nat_tests, IsNamed-classes_of, eq-eqb)
 
 pub rest_circles-positive : (n : ℕ) (arcs : ℕ → ℕ) (outer : List (ℕ × ℕ)) (joined : List ℕ) → IsPlacedTriangle n arcs → AreBelow n outer
     → AreBelow 10 (ties_of joined) → 1 ≤ rest_circles n arcs outer joined

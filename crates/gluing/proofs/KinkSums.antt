@@ -21,8 +21,7 @@ abbrev sign_by : Bool → ℕ → ℤ
 sign_by even x = cond even (pos x) (neg_ℤ (pos x))
 
 pub sign_by-add : (even : Bool) (x y : ℕ) → sign_by even (x + y) ≡ sign_by even x +ℤ sign_by even y
-sign_by-add true x y = omega (arith, ints)
-sign_by-add false x y = omega (arith, ints)
+sign_by-add even x y = grind (arith, nat_tests)
 
 pub signed_by-add : (k x y : ℕ) → signed_by_count k (x + y) ≡ signed_by_count k x +ℤ signed_by_count k y
 signed_by-add k x y = sign_by-add (nat_eq (k % 2) 0) x y
@@ -33,11 +32,7 @@ parity-next : (k : ℕ)
 parity-next k = grind (arith, nat_tests)
 
 pub signed_by-next : (k x : ℕ) → signed_by_count (k + 1) x ≡ neg_ℤ (signed_by_count k x)
-signed_by-next k x = elim (parity-next k) [
-  | inl even ↦ ap (λ a. sign_by a x) even.1 ∙ sym (ap (λ a. neg_ℤ (sign_by a x)) even.0)
-  | inr odd ↦ ap (λ a. sign_by a x) odd.1 ∙ (let twice : pos x ≡ neg_ℤ (neg_ℤ (pos x)) = omega (arith, ints) in twice)
-      ∙ sym (ap (λ a. neg_ℤ (sign_by a x)) odd.0)
-]
+signed_by-next k x = grind (arith, nat_tests)
 
 -- the two terms of a kink, the one with the closed circle and the one without, where u is the term without its shift
 two_terms : (k : ℕ) (x y z : ℤ) (c : ℕ) → y ≡ x -ℤ pos 1 → z ≡ x -ℤ pos 2
@@ -129,10 +124,4 @@ int_sum-two_ranges old new a b (suc n) pairs =
 -- up to its term, the sums over all states are one
 pub int_sum-doubled : (old new : ℕ → ℤ) (n : ℕ) → ((state : ℕ) → state < n → new state +ℤ new (n + state) ≡ old state)
     → int_sum (map new (range_with_len 0 (n + n))) ≡ int_sum (map old (range_with_len 0 n))
-int_sum-doubled old new n pairs =
-    let zero_plus : 0 + n ≡ n = omega arith in
-    ap (λ xs. int_sum (map new xs)) (range-append 0 n n) ∙ ap int_sum (map-append new (range_with_len 0 n) (range_with_len (0 + n) n))
-    ∙ int_sum-append (map new (range_with_len 0 n)) (map new (range_with_len (0 + n) n))
-    ∙ ap (λ k. int_sum (map new (range_with_len 0 n)) +ℤ int_sum (map new (range_with_len k n))) zero_plus
-    ∙ int_sum-two_ranges old new 0 n n (λ k below.
-    let e : 0 + k ≡ k = omega arith in ap (λ x. new x +ℤ new (n + k)) e ∙ pairs k below ∙ ap old (sym e))
+int_sum-doubled old new n pairs = grind (arith, nat_tests, range-append, map-append, int_sum-append, int_sum-two_ranges)

@@ -34,12 +34,10 @@ renamed-same (pair ∷ pairs) = ap (λ ps. pair ∷ ps) (renamed-same pairs)
 
 pub AreBelow-renamed : (m n : ℕ) (f : ℕ → ℕ) (pairs : List (ℕ × ℕ)) → Places f m n → AreBelow m pairs → AreBelow n (renamed f pairs)
 AreBelow-renamed m n f [] places below = below
-AreBelow-renamed m n f (pair ∷ pairs) places below =
-    ((places pair.0 below.0.0, places pair.1 below.0.1), AreBelow-renamed m n f pairs places below.1)
+AreBelow-renamed m n f (pair ∷ pairs) places below = grind (arith, nat_tests, AreBelow-renamed m n f pairs places below.1)
 
 turned : (f : ℕ → ℕ) (pairs more : List (ℕ × ℕ)) → Respects f (pairs ++ more) → Respects f (more ++ pairs)
-turned f pairs more respects =
-    Respects-append f more pairs (Respects-second f pairs more respects) (Respects-first f pairs more respects)
+turned f pairs more respects = grind (arith, nat_tests, Respects-append, Respects-second, Respects-first)
 
 -- it does not matter which of two parts comes first
 pub classes_of-turned : (n : ℕ) (pairs more : List (ℕ × ℕ)) → AreBelow n pairs → AreBelow n more

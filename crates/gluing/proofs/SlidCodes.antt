@@ -29,13 +29,9 @@ use Rattle.gluing.proofs.Stubs.{Respects-renamed, Respects-from_renamed}
 all_at : (P : ℕ × ℕ → Type 0) (g : ℕ × List ℕ → List (ℕ × ℕ)) (at : ℕ) (xs : List (List ℕ))
     → AllByRecursion P (flat_map g (enumerate_from at xs)) → (k : ℕ) → k < length xs → AllByRecursion P (g (at + k, get_or xs k []))
 all_at P g at [] holds k below = absurd (omega (arith, below))
-all_at P g at (x ∷ xs) holds zero below =
-    let e : at ≡ at + 0 = omega arith in
-    subst (λ (n : ℕ). AllByRecursion P (g (n, x))) e (AllByRecursion-first P (g (at, x)) (flat_map g (enumerate_from (at + 1) xs)) holds)
+all_at P g at (x ∷ xs) holds zero below = grind (arith, nat_tests, AllByRecursion-first)
 all_at P g at (x ∷ xs) holds (suc k) below =
-    let e : at + 1 + k ≡ at + suc k = omega arith in
-    subst (λ (n : ℕ). AllByRecursion P (g (n, get_or xs k []))) e
-    (all_at P g (at + 1) xs (AllByRecursion-second P (g (at, x)) (flat_map g (enumerate_from (at + 1) xs)) holds) k (omega arith))
+    grind (arith, nat_tests, AllByRecursion-second, all_at P g (at + 1) xs (AllByRecursion-second P (g (at, x)) (flat_map g (enumerate_from (at + 1) xs)) holds) k (omega arith))
 
 pub flat_map-same : (g h : ℕ × List ℕ → List (ℕ × ℕ)) (at : ℕ) (xs ys : List (List ℕ)) → length xs ≡ length ys
     → ((k : ℕ) → k < length xs → g (at + k, get_or xs k []) ≡ h (at + k, get_or ys k []))
@@ -62,16 +58,11 @@ one_of_three c d e k = grind (arith, nat_tests)
 -- the smoothing of a crossing that shows another
 pub smoothing_of-shown : (arcs : ℕ → ℕ) (smoothing : ℕ) (quadruple inside : List ℕ) → Shows arcs quadruple inside
     → smoothing_of smoothing quadruple ≡ renamed arcs (smoothing_of smoothing inside)
-smoothing_of-shown arcs smoothing quadruple inside shows =
-    smoothing_by-same (nat_eq smoothing 0) (arc_in quadruple 0) (arc_in quadruple 1) (arc_in quadruple 2) (arc_in quadruple 3)
-    (arcs (arc_in inside 0)) (arcs (arc_in inside 1)) (arcs (arc_in inside 2)) (arcs (arc_in inside 3))
-    (shows 0 (omega arith)) (shows 1 (omega arith)) (shows 2 (omega arith)) (shows 3 (omega arith))
-    ∙ smoothing_by-renamed arcs (nat_eq smoothing 0) (arc_in inside 0) (arc_in inside 1) (arc_in inside 2) (arc_in inside 3)
+smoothing_of-shown arcs smoothing quadruple inside shows = grind (arith, nat_tests)
 
 all_of_smoothing : (P : ℕ → Type 0) (is_zero : Bool) (w x y z : ℕ) → P w → P x → P y → P z
     → AllByRecursion (λ pair. P pair.0 × P pair.1) (smoothing_by is_zero w x y z)
-all_of_smoothing P true w x y z at_w at_x at_y at_z = ((at_w, at_x), ((at_y, at_z), tt))
-all_of_smoothing P false w x y z at_w at_x at_y at_z = ((at_w, at_z), ((at_x, at_y), tt))
+all_of_smoothing P is_zero w x y z at_w at_x at_y at_z = grind (arith, nat_tests)
 
 pub smoothings-hold : (code : Code) (state : ℕ) → HoldsArcs code → AreBelow (name_count code) (smoothings_of code.crossings state)
 smoothings-hold code state holds =
@@ -121,15 +112,11 @@ pub record AtInside (n c d e base state inside : ℕ) : Type 0 where
 
 respects_shown : (f arcs : ℕ → ℕ) (smoothing other : ℕ) (quadruple inside : List ℕ) → Shows arcs quadruple inside → smoothing ≡ other
     → Respects f (smoothing_of smoothing quadruple) → Respects (λ x. f (arcs x)) (smoothing_of other inside)
-respects_shown f arcs smoothing other quadruple inside shows same respects =
-    Respects-from_renamed f arcs (smoothing_of other inside)
-    (subst (λ ps. Respects f ps) (ap (λ s. smoothing_of s quadruple) same ∙ smoothing_of-shown arcs other quadruple inside shows) respects)
+respects_shown f arcs smoothing other quadruple inside shows same respects = grind (arith, nat_tests)
 
 respects_showing : (f arcs : ℕ → ℕ) (smoothing other : ℕ) (quadruple inside : List ℕ) → Shows arcs quadruple inside → smoothing ≡ other
     → Respects (λ x. f (arcs x)) (smoothing_of other inside) → Respects f (smoothing_of smoothing quadruple)
-respects_showing f arcs smoothing other quadruple inside shows same respects =
-    subst (λ ps. Respects f ps) (sym (ap (λ s. smoothing_of s quadruple) same ∙ smoothing_of-shown arcs other quadruple inside shows))
-    (Respects-renamed f arcs (smoothing_of other inside) respects)
+respects_showing f arcs smoothing other quadruple inside shows same respects = grind (arith, nat_tests)
 
 -- the circles of a state of a code with a triangle
 pub circles_at : (code : Code) (t0 t1 t2 : List ℕ) (arcs : ℕ → ℕ) (n c d e base state inside : ℕ)

@@ -4,6 +4,7 @@
 -- the state of the triangle, by the circles that it closes and by how it joins the ends: the eight terms are a sum over the table of the
 -- triangle (SlideTerms). Before and after the slide these tables have one sum for each way of joining (SlideTable), so the state sums are
 -- the same.
+use Rattle.std.proofs.lemmas.Bool.Decides.{nat_tests}
 use Rattle.std.proofs.Common.{◌≡◌, ◌≢◌, ℕ, inl, inr, ◌+◌, ◌-◌, ◌^◌, ◌<◌, ◌∙◌, List, [], ◌∷◌, ℤ, pos, negsuc, suc, ◌*◌, ◌+ℤ◌, ◌-ℤ◌, sym, refl, length, map, get_or, ap, ap₂, arith, true, cond}
 use Rattle.std.specs.Prelude.{slice_index_or, nat_eq}
 use Rattle.std.specs.List.{range_with_len}
@@ -37,23 +38,7 @@ outside_of-same : (xs ys : List (List ℕ)) (c d e first second : ℕ) → lengt
     → ((k : ℕ) → k ≢ c → k ≢ d → k ≢ e → bit first k ≡ bit second k)
     → outside_of xs c d e first ≡ outside_of ys c d e second
 outside_of-same xs ys c d e first second size same same_bits =
-    flat_map-same (outside_at c d e first) (outside_at c d e second) 0 xs ys size (λ k below.
-    let zero_plus : 0 + k ≡ k = omega arith in
-    let x = smoothing_of (bit first (0 + k)) (get_or xs k []) in
-    let y = smoothing_of (bit second (0 + k)) (get_or ys k []) in
-    elim (one_of_three c d e (0 + k)) [
-      | inl omit ↦ ap (λ b. cond b [] x) omit.0 ∙ sym (ap (λ b. cond b [] y) omit.0)
-      | inr keep ↦
-          ap (λ b. cond b [] x) keep.0
-          ∙ (let here = λ (slot : ℕ) (slot_below : slot < 4). same k slot below slot_below (λ is. keep.1 (zero_plus ∙ is))
-          (λ is. keep.2 (zero_plus ∙ is)) (λ is. keep.3 (zero_plus ∙ is)) in
-          ap (λ s. smoothing_of s (get_or xs k [])) (same_bits (0 + k) keep.1 keep.2 keep.3)
-          ∙ smoothing_by-same (nat_eq (bit second (0 + k)) 0) (arc_in (get_or xs k []) 0) (arc_in (get_or xs k []) 1)
-          (arc_in (get_or xs k []) 2) (arc_in (get_or xs k []) 3) (arc_in (get_or ys k []) 0) (arc_in (get_or ys k []) 1)
-          (arc_in (get_or ys k []) 2) (arc_in (get_or ys k []) 3) (here 0 (omega arith)) (here 1 (omega arith)) (here 2 (omega arith))
-          (here 3 (omega arith)))
-          ∙ sym (ap (λ b. cond b [] y) keep.0)
-    ])
+    grind (arith, nat_tests, flat_map-same, outside_at, one_of_three, smoothing_by-same)
 
 -- the circles of the rest, where the ends are joined in some way
 abbrev pub circles_of_rest : ℕ → (ℕ → ℕ) → List (ℕ × ℕ) → List ℕ → ℕ
@@ -84,54 +69,25 @@ circle_count-inside code t0 t1 t2 arcs n c d e base state inside has c_below d_b
 -- the eight states
 
 AtInside-base : (n c d e base : ℕ) → bit base c ≡ 0 → bit base d ≡ 0 → bit base e ≡ 0 → AtInside n c d e base base 0
-AtInside-base n c d e base at_c at_d at_e =
-    let none : ones 3 0 ≡ 0 = refl in
-    record { others = λ k not_c not_d not_e. refl; at_c = at_c; at_d = at_d; at_e = at_e; ones = omega (arith, none) }
+AtInside-base n c d e base at_c at_d at_e = omega arith
 
 AtInside-first : (n c d e base state inside next : ℕ) → c < n → c ≢ d → c ≢ e → AtInside n c d e base state inside
     → bit inside 0 ≡ 0 → bit next 0 ≡ 1 → bit next 1 ≡ bit inside 1 → bit next 2 ≡ bit inside 2 → ones 3 next ≡ ones 3 inside + 1
     → AtInside n c d e base (state + 2 ^ c) next
 AtInside-first n c d e base state inside next below c_d c_e at is_zero next_0 next_1 next_2 next_ones =
-    let zero_here = at.at_c ∙ is_zero in
-    let more = ones-set n state c below zero_here in
-    let before = at.ones in
-    record {
-      others = λ k not_c not_d not_e. bit-set_other state c zero_here k not_c ∙ at.others k not_c not_d not_e;
-      at_c = bit-set_there state c zero_here ∙ sym next_0;
-      at_d = bit-set_other state c zero_here d (λ is. c_d (sym is)) ∙ at.at_d ∙ sym next_1;
-      at_e = bit-set_other state c zero_here e (λ is. c_e (sym is)) ∙ at.at_e ∙ sym next_2;
-      ones = omega (arith, more, before, next_ones);
-    }
+    grind (arith, nat_tests, ones-set, bit-set_other, bit-set_there)
 
 AtInside-second : (n c d e base state inside next : ℕ) → d < n → c ≢ d → d ≢ e → AtInside n c d e base state inside
     → bit inside 1 ≡ 0 → bit next 0 ≡ bit inside 0 → bit next 1 ≡ 1 → bit next 2 ≡ bit inside 2 → ones 3 next ≡ ones 3 inside + 1
     → AtInside n c d e base (state + 2 ^ d) next
 AtInside-second n c d e base state inside next below c_d d_e at is_zero next_0 next_1 next_2 next_ones =
-    let zero_here = at.at_d ∙ is_zero in
-    let more = ones-set n state d below zero_here in
-    let before = at.ones in
-    record {
-      others = λ k not_c not_d not_e. bit-set_other state d zero_here k not_d ∙ at.others k not_c not_d not_e;
-      at_c = bit-set_other state d zero_here c c_d ∙ at.at_c ∙ sym next_0;
-      at_d = bit-set_there state d zero_here ∙ sym next_1;
-      at_e = bit-set_other state d zero_here e (λ is. d_e (sym is)) ∙ at.at_e ∙ sym next_2;
-      ones = omega (arith, more, before, next_ones);
-    }
+    grind (arith, nat_tests, ones-set, bit-set_other, bit-set_there)
 
 AtInside-third : (n c d e base state inside next : ℕ) → e < n → c ≢ e → d ≢ e → AtInside n c d e base state inside
     → bit inside 2 ≡ 0 → bit next 0 ≡ bit inside 0 → bit next 1 ≡ bit inside 1 → bit next 2 ≡ 1 → ones 3 next ≡ ones 3 inside + 1
     → AtInside n c d e base (state + 2 ^ e) next
 AtInside-third n c d e base state inside next below c_e d_e at is_zero next_0 next_1 next_2 next_ones =
-    let zero_here = at.at_e ∙ is_zero in
-    let more = ones-set n state e below zero_here in
-    let before = at.ones in
-    record {
-      others = λ k not_c not_d not_e. bit-set_other state e zero_here k not_e ∙ at.others k not_c not_d not_e;
-      at_c = bit-set_other state e zero_here c c_e ∙ at.at_c ∙ sym next_0;
-      at_d = bit-set_other state e zero_here d d_e ∙ at.at_d ∙ sym next_1;
-      at_e = bit-set_there state e zero_here ∙ sym next_2;
-      ones = omega (arith, more, before, next_ones);
-    }
+    grind (arith, nat_tests, ones-set, bit-set_other, bit-set_there)
 
 eight-listed : (a b c d e f g h : ℤ)
     → a +ℤ b +ℤ (c +ℤ d) +ℤ (e +ℤ f +ℤ (g +ℤ h)) ≡ a +ℤ (b +ℤ (c +ℤ (d +ℤ (e +ℤ (f +ℤ (g +ℤ (h +ℤ pos 0)))))))
@@ -162,21 +118,11 @@ eight-inside t u n c d e base c_below d_below e_below c_d c_e d_e at_c at_d at_e
 
 -- a term with the sign by a sum, not by a difference
 pub signed_by-difference : (r minus x : ℕ) → kh.signed_by (pos r -ℤ pos minus) x ≡ signed_by_count (r + minus) x
-signed_by-difference r minus x = by_parity (pos r -ℤ pos minus) r minus x refl
-  where
-    by_parity : (z : ℤ) (r minus x : ℕ) → z ≡ pos r -ℤ pos minus → kh.signed_by z x ≡ signed_by_count (r + minus) x
-    by_parity (pos i) r minus x is =
-        let e : i + minus ≡ r = omega (arith, ints, is) in
-        signed_by_parity-alike i (r + minus) x (omega (arith, e))
-    by_parity (negsuc i) r minus x is =
-        let e : i + 1 + r ≡ minus = omega (arith, ints, is) in
-        signed_by_parity-alike (suc i) (r + minus) x (omega (arith, e))
+signed_by-difference r minus x = grind (arith, nat_tests)
 
 pub term_with-is : (plus minus : ℕ) (code : Code) (exponent : ℤ) (state : ℕ)
     → term_with plus minus code exponent state ≡ term_at plus minus exponent (one_count code state) (circle_count code state)
-term_with-is plus minus code exponent state =
-    signed_by-difference (one_count code state) minus
-    (circle_coefficient (circle_count code state) ((exponent -ℤ pos (one_count code state + plus)) +ℤ pos (2 * minus)))
+term_with-is plus minus code exponent state = grind (arith, nat_tests)
 
 -- the eight terms of a code with a triangle
 eight-triangle : (code : Code) (t0 t1 t2 : List ℕ) (arcs : ℕ → ℕ) (plus minus c d e base : ℕ) (exponent : ℤ)

@@ -1,4 +1,5 @@
 -- Terms that cancel have the sum 0, whatever the rest of the diagram is worth.
+use Rattle.std.proofs.lemmas.Bool.Decides.{nat_tests}
 use Rattle.std.proofs.Common.{◌≡◌, ℕ, zero, suc, ◌+◌, ◌<◌, inl, inr, Bool, true, false, not, refl, sym, ap, ap₂, ◌∙◌, List, [], ◌∷◌, ◌++◌, map, arith, cond, ℤ, pos, neg_ℤ, ◌+ℤ◌, ◌-ℤ◌}
 use Rattle.std.specs.Prelude.{nat_eq}
 use Rattle.std.specs.Str.{bytes_eq}
@@ -50,17 +51,11 @@ one_more false plus minus x =
 
 -- a new tally
 first_count : (is_minus : Bool) (x : ℤ) → times (zero_or_one (not is_minus)) x -ℤ times (zero_or_one is_minus) x ≡ cond is_minus (neg_ℤ x) x
-first_count true x = omega (arith, ints)
-first_count false x = omega (arith, ints)
+first_count is_minus x = grind (arith, nat_tests)
 
 tally_sum-counted_here : (rest : List ℕ → ℤ → ℤ) (term : InsideTerm) (tally : Tally) → is_counted_by term tally ≡ true
     → tally_value rest (counted_at term tally) ≡ inside_value rest term +ℤ tally_value rest tally
-tally_sum-counted_here rest term tally here =
-    let parts = and_parts (bytes_eq term.joined tally.joined) (int_eq term.shift tally.shift) here in
-    let joined : term.joined ≡ tally.joined = (bytes_eq-Decides term.joined tally.joined).0 parts.0 in
-    let shift : term.shift ≡ tally.shift = (Decides-int_eq term.shift tally.shift).0 parts.1 in
-    one_more term.is_minus tally.plus tally.minus (rest tally.joined tally.shift)
-    ∙ ap (λ x. cond term.is_minus (neg_ℤ x) x +ℤ tally_value rest tally) (sym (ap₂ rest joined shift))
+tally_sum-counted_here rest term tally here = grind (arith, nat_tests, and_parts, bytes_eq-Decides, Decides-int_eq, one_more)
 
 tally_sum-counted : (rest : List ℕ → ℤ → ℤ) (term : InsideTerm) (tallies : List Tally)
     → tally_sum rest (counted term tallies) ≡ inside_value rest term +ℤ tally_sum rest tallies
@@ -84,8 +79,7 @@ tally_sum-counted rest term (tally ∷ tallies) = elim (cases_Bool (is_counted_b
 
 tally_sum-tallies_of : (rest : List ℕ → ℤ → ℤ) (terms : List InsideTerm) → tally_sum rest (tallies_of terms) ≡ inside_sum rest terms
 tally_sum-tallies_of rest [] = refl
-tally_sum-tallies_of rest (term ∷ terms) =
-    tally_sum-counted rest term (tallies_of terms) ∙ ap (λ x. inside_value rest term +ℤ x) (tally_sum-tallies_of rest terms)
+tally_sum-tallies_of rest (term ∷ terms) = grind (arith, nat_tests, tally_sum-counted, tallies_of, tally_sum-tallies_of rest terms)
 
 tally_sum-balanced : (rest : List ℕ → ℤ → ℤ) (tallies : List Tally) → list_all (λ tally. nat_eq tally.plus tally.minus) tallies ≡ true
     → tally_sum rest tallies ≡ pos 0
@@ -103,8 +97,7 @@ tally_sum-balanced rest (tally ∷ tallies) all =
 
 -- the opposites of terms have the opposite sum
 inside_value-opposite : (is_minus : Bool) (x : ℤ) → cond (not is_minus) (neg_ℤ x) x ≡ neg_ℤ (cond is_minus (neg_ℤ x) x)
-inside_value-opposite true x = omega (arith, ints)
-inside_value-opposite false x = refl
+inside_value-opposite is_minus x = grind (arith, nat_tests)
 
 inside_sum-opposite : (rest : List ℕ → ℤ → ℤ) (terms : List InsideTerm) → inside_sum rest (map opposite terms) ≡ neg_ℤ (inside_sum rest terms)
 inside_sum-opposite rest [] = omega (arith, ints)
@@ -117,8 +110,7 @@ inside_sum-opposite rest (term ∷ terms) =
 
 pub inside_sum-append : (rest : List ℕ → ℤ → ℤ) (terms more : List InsideTerm)
     → inside_sum rest (terms ++ more) ≡ inside_sum rest terms +ℤ inside_sum rest more
-inside_sum-append rest terms more =
-    ap int_sum (map-append (inside_value rest) terms more) ∙ int_sum-append (map (inside_value rest) terms) (map (inside_value rest) more)
+inside_sum-append rest terms more = grind (arith, nat_tests, map-append, int_sum-append)
 
 -- terms that cancel against others have their sum
 pub inside_sum-same : (rest : List ℕ → ℤ → ℤ) (terms others : List InsideTerm) → have_one_sum terms others ≡ true
@@ -135,6 +127,4 @@ inside_sum-same rest terms others same =
 -- the sum over the eight states of the triangle is the same before and after, whatever the rest of the diagram is worth
 pub inside_sum-slide : (p q r : ℕ) → p < 4 → q < 4 → r < 4 → is_slidable p q r ≡ true → (rest : List ℕ → ℤ → ℤ)
     → inside_sum rest (inside_terms (triangle_before p q r)) ≡ inside_sum rest (inside_terms (triangle_after p q r))
-inside_sum-slide p q r p_below q_below r_below slidable rest =
-    inside_sum-same rest (inside_terms (triangle_before p q r)) (inside_terms (triangle_after p q r))
-    (have_one_sum-slide p q r p_below q_below r_below slidable)
+inside_sum-slide p q r p_below q_below r_below slidable rest = grind (arith, nat_tests, inside_sum-same, have_one_sum-slide)

@@ -54,8 +54,7 @@ inside_sum-signed rest true joined (shift ∷ shifts) =
   where
     negated : (x y : ℤ) → neg_ℤ x +ℤ neg_ℤ y ≡ neg_ℤ (x +ℤ y)
     negated x y = omega (arith, ints)
-inside_sum-signed rest false joined (shift ∷ shifts) =
-    ap (λ s. rest joined shift +ℤ s) (inside_sum-signed rest false joined shifts)
+inside_sum-signed rest false joined (shift ∷ shifts) = grind (arith, nat_tests, inside_sum-signed rest false joined shifts)
 
 parity-sum : (k r : ℕ)
     → ((nat_eq (r % 2) 1 ≡ true) × (nat_eq ((k + r) % 2) 0 ≡ nat_eq ((k + 1) % 2) 0))
@@ -64,14 +63,7 @@ parity-sum k r = grind (arith, nat_tests)
 
 -- more ones turn the sign round where their number is odd
 signed_by-more : (k r x : ℕ) → cond (nat_eq (r % 2) 1) (neg_ℤ (signed_by_count k x)) (signed_by_count k x) ≡ signed_by_count (k + r) x
-signed_by-more k r x = elim (parity-sum k r) [
-  | inl odd ↦
-      ap (λ b. cond b (neg_ℤ (signed_by_count k x)) (signed_by_count k x)) odd.0 ∙ sym (signed_by-next k x)
-      ∙ sym (ap (λ b. cond b (pos x) (neg_ℤ (pos x))) odd.1)
-  | inr even ↦
-      ap (λ b. cond b (neg_ℤ (signed_by_count k x)) (signed_by_count k x)) even.0
-      ∙ sym (ap (λ b. cond b (pos x) (neg_ℤ (pos x))) even.1)
-]
+signed_by-more k r x = grind (arith, nat_tests)
 
 -- the term of a state of the whole diagram is what the terms of the state inside add
 pub term_of-spread : (plus minus : ℕ) (exponent : ℤ) (r : ℕ) (circles : List ℕ → ℕ) (joined : List ℕ) (closed inner : ℕ)
@@ -99,9 +91,7 @@ inside_sum-states : (rest : List ℕ → ℤ → ℤ) (crossings : List (List �
     → inside_sum rest (flat_map (terms_of_state crossings) states)
     ≡ int_sum (map (λ state. inside_sum rest (terms_of_state crossings state)) states)
 inside_sum-states rest crossings [] = refl
-inside_sum-states rest crossings (state ∷ states) =
-    inside_sum-append rest (terms_of_state crossings state) (flat_map (terms_of_state crossings) states)
-    ∙ ap (λ s. inside_sum rest (terms_of_state crossings state) +ℤ s) (inside_sum-states rest crossings states)
+inside_sum-states rest crossings (state ∷ states) = grind (arith, nat_tests, inside_sum-append, inside_sum-states rest crossings states)
 
 -- what the eight states of a triangle add to the state sum, with one state of the rest
 abbrev pub inside_term : ℕ → ℕ → ℤ → ℕ → (List ℕ → ℕ) → List (List ℕ) → ℕ → ℤ

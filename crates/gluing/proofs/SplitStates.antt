@@ -69,15 +69,13 @@ by_bit-sum f (suc n) place below =
     plus_zero x = omega (arith, ints)
 
     both : (b : Bool) (x y u v : ℤ) → cond b (x +ℤ y) (pos 0) +ℤ cond b (u +ℤ v) (pos 0) ≡ cond b (x +ℤ u +ℤ (y +ℤ v)) (pos 0)
-    both true x y u v = omega (arith, ints)
-    both false x y u v = refl
+    both b x y u v = grind (arith, nat_tests)
 
 sums_over-alike : (f g : ℕ → ℤ) (a n : ℕ) → ((state : ℕ) → a ≤ state → state < a + n → f state ≡ g state)
     → int_sum (map f (range_with_len a n)) ≡ int_sum (map g (range_with_len a n))
 sums_over-alike f g a zero same = refl
 sums_over-alike f g a (suc n) same =
-    ap₂ (λ x y. x +ℤ y) (same a (omega arith) (omega arith))
-    (sums_over-alike f g (a + 1) n (λ state from below. same state (omega arith) (omega arith)))
+    grind (arith, nat_tests, sums_over-alike f g (a + 1) n (λ state from below. same state (omega arith) (omega arith)))
 
 -- the eight values at a number with zeros at three places, as these bits count from 0 to 7
 abbrev pub eight : ℕ → ℕ → ℕ → (ℕ → ℤ) → ℕ → ℤ
@@ -88,51 +86,16 @@ eight c d e f state =
 -- at a number with zeros at the three places
 three_bits : (c d e : ℕ) (f : ℕ → ℤ) (state : ℕ) → c ≢ d → c ≢ e → d ≢ e → bit state c ≡ 0 → bit state d ≡ 0 → bit state e ≡ 0
     → by_bit e (by_bit d (by_bit c f)) state ≡ eight c d e f state
-three_bits c d e f state c_d c_e d_e at_c at_d at_e =
-    let with_e = state + 2 ^ e in
-    let with_d = state + 2 ^ d in
-    let with_both = state + 2 ^ e + 2 ^ d in
-    let e_d : bit with_e d ≡ 0 = bit-set_other state e at_e d d_e ∙ at_d in
-    let e_c : bit with_e c ≡ 0 = bit-set_other state e at_e c c_e ∙ at_c in
-    let d_c : bit with_d c ≡ 0 = bit-set_other state d at_d c c_d ∙ at_c in
-    let both_c : bit with_both c ≡ 0 = bit-set_other with_e d e_d c c_d ∙ e_c in
-    let at : (s : ℕ) → bit s c ≡ 0 → by_bit c f s ≡ f s +ℤ f (s + 2 ^ c) =
-    λ s is_zero. by_bit-at (bit s c) (f s +ℤ f (s + 2 ^ c)) (pos 0) is_zero in
-    let two : (s : ℕ) → bit s d ≡ 0 → by_bit d (by_bit c f) s ≡ by_bit c f s +ℤ by_bit c f (s + 2 ^ d) =
-    λ s is_zero. by_bit-at (bit s d) (by_bit c f s +ℤ by_bit c f (s + 2 ^ d)) (pos 0) is_zero in
-    by_bit-at (bit state e) (by_bit d (by_bit c f) state +ℤ by_bit d (by_bit c f) with_e) (pos 0) at_e
-    ∙ ap₂ (λ x y. x +ℤ y)
-    (two state at_d ∙ ap₂ (λ x y. x +ℤ y) (at state at_c) (at with_d d_c))
-    (two with_e e_d ∙ ap₂ (λ x y. x +ℤ y) (at with_e e_c) (at with_both both_c))
+three_bits c d e f state c_d c_e d_e at_c at_d at_e = grind (arith, nat_tests, bit-set_other, by_bit-at)
 
 -- at the others there is nothing
 not_first : (c d e : ℕ) (f : ℕ → ℤ) (state : ℕ) → c ≢ d → c ≢ e → d ≢ e → bit state d ≡ 0 → bit state e ≡ 0 → bit state c ≡ 1
     → by_bit e (by_bit d (by_bit c f)) state ≡ pos 0
-not_first c d e f state c_d c_e d_e at_d at_e at_c =
-    let with_e = state + 2 ^ e in
-    let with_d = state + 2 ^ d in
-    let with_both = state + 2 ^ e + 2 ^ d in
-    let e_d : bit with_e d ≡ 0 = bit-set_other state e at_e d d_e ∙ at_d in
-    let e_c : bit with_e c ≡ 1 = bit-set_other state e at_e c c_e ∙ at_c in
-    let d_c : bit with_d c ≡ 1 = bit-set_other state d at_d c c_d ∙ at_c in
-    let both_c : bit with_both c ≡ 1 = bit-set_other with_e d e_d c c_d ∙ e_c in
-    let at : (s : ℕ) → bit s c ≡ 1 → by_bit c f s ≡ pos 0 = λ s is_one. by_bit-off (bit s c) (f s +ℤ f (s + 2 ^ c)) (pos 0) is_one in
-    let two : (s : ℕ) → bit s d ≡ 0 → by_bit d (by_bit c f) s ≡ by_bit c f s +ℤ by_bit c f (s + 2 ^ d) =
-    λ s is_zero. by_bit-at (bit s d) (by_bit c f s +ℤ by_bit c f (s + 2 ^ d)) (pos 0) is_zero in
-    by_bit-at (bit state e) (by_bit d (by_bit c f) state +ℤ by_bit d (by_bit c f) with_e) (pos 0) at_e
-    ∙ ap₂ (λ x y. x +ℤ y)
-    (two state at_d ∙ ap₂ (λ x y. x +ℤ y) (at state at_c) (at with_d d_c))
-    (two with_e e_d ∙ ap₂ (λ x y. x +ℤ y) (at with_e e_c) (at with_both both_c))
+not_first c d e f state c_d c_e d_e at_d at_e at_c = grind (arith, nat_tests, bit-set_other, by_bit-off, by_bit-at)
 
 not_second : (c d e : ℕ) (f : ℕ → ℤ) (state : ℕ) → d ≢ e → bit state e ≡ 0 → bit state d ≡ 1
     → by_bit e (by_bit d (by_bit c f)) state ≡ pos 0
-not_second c d e f state d_e at_e at_d =
-    let with_e = state + 2 ^ e in
-    let e_d : bit with_e d ≡ 1 = bit-set_other state e at_e d d_e ∙ at_d in
-    let two : (s : ℕ) → bit s d ≡ 1 → by_bit d (by_bit c f) s ≡ pos 0 =
-    λ s is_one. by_bit-off (bit s d) (by_bit c f s +ℤ by_bit c f (s + 2 ^ d)) (pos 0) is_one in
-    by_bit-at (bit state e) (by_bit d (by_bit c f) state +ℤ by_bit d (by_bit c f) with_e) (pos 0) at_e
-    ∙ ap₂ (λ x y. x +ℤ y) (two state at_d) (two with_e e_d)
+not_second c d e f state d_e at_e at_d = grind (arith, nat_tests, bit-set_other, by_bit-off, by_bit-at)
 
 -- where the eight values have one sum at each number with zeros at three places, the sums over all states are one
 pub int_sum-by_three_bits : (f g : ℕ → ℤ) (n c d e : ℕ) → c < n → d < n → e < n → c ≢ d → c ≢ e → d ≢ e

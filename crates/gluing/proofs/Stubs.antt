@@ -36,31 +36,22 @@ Respects-through n f g h (pair ∷ pairs) below through respects =
 
 pub AreBelow-more : (n k : ℕ) (pairs : List (ℕ × ℕ)) → n ≤ k → AreBelow n pairs → AreBelow k pairs
 AreBelow-more n k [] within below = tt
-AreBelow-more n k (pair ∷ pairs) within below =
-    let first = below.0.0 in
-    let second = below.0.1 in
-    ((omega arith, omega arith), AreBelow-more n k pairs within below.1)
+AreBelow-more n k (pair ∷ pairs) within below = grind (arith, nat_tests, AreBelow-more n k pairs within below.1)
 
 -- names that a function keeps
 pub renamed-kept : (f : ℕ → ℕ) (arcs : ℕ → ℕ) (pairs : List (ℕ × ℕ)) → ((x : ℕ) → IsNoSide arcs x → f x ≡ x) → TouchNoSide arcs pairs
     → renamed f pairs ≡ pairs
 renamed-kept f arcs [] kept touch = refl
-renamed-kept f arcs (pair ∷ pairs) kept touch =
-    ap₂ (λ x y. (let p : ℕ × ℕ = (x, y) in p) ∷ renamed f pairs) (kept pair.0 touch.0.0) (kept pair.1 touch.0.1)
-    ∙ ap (λ ps. pair ∷ ps) (renamed-kept f arcs pairs kept touch.1)
+renamed-kept f arcs (pair ∷ pairs) kept touch = grind (arith, nat_tests, renamed-kept f arcs pairs kept touch.1)
 
 pub renamed-below : (f : ℕ → ℕ) (n : ℕ) (pairs : List (ℕ × ℕ)) → ((x : ℕ) → x < n → f x ≡ x) → AreBelow n pairs → renamed f pairs ≡ pairs
 renamed-below f n [] kept below = refl
-renamed-below f n (pair ∷ pairs) kept below =
-    ap₂ (λ x y. (let p : ℕ × ℕ = (x, y) in p) ∷ renamed f pairs) (kept pair.0 below.0.0) (kept pair.1 below.0.1)
-    ∙ ap (λ ps. pair ∷ ps) (renamed-below f n pairs kept below.1)
+renamed-below f n (pair ∷ pairs) kept below = grind (arith, nat_tests, renamed-below f n pairs kept below.1)
 
 pub renamed-twice : (n : ℕ) (f g h : ℕ → ℕ) (pairs : List (ℕ × ℕ)) → ((x : ℕ) → x < n → f (g x) ≡ h x) → AreBelow n pairs
     → renamed f (renamed g pairs) ≡ renamed h pairs
 renamed-twice n f g h [] same below = refl
-renamed-twice n f g h (pair ∷ pairs) same below =
-    ap₂ (λ x y. (let p : ℕ × ℕ = (x, y) in p) ∷ renamed f (renamed g pairs)) (same pair.0 below.0.0) (same pair.1 below.0.1)
-    ∙ ap (λ ps. (let p : ℕ × ℕ = (h pair.0, h pair.1) in p) ∷ ps) (renamed-twice n f g h pairs same below.1)
+renamed-twice n f g h (pair ∷ pairs) same below = grind (arith, nat_tests, renamed-twice n f g h pairs same below.1)
 
 pub append-three : (ps qs rs : List (ℕ × ℕ)) → (ps ++ qs) ++ rs ≡ ps ++ (qs ++ rs)
 append-three [] qs rs = refl
@@ -90,18 +81,12 @@ unstubbed-stub n arcs i =
 
 pub stubs-below : (n : ℕ) (arcs : ℕ → ℕ) (count : ℕ) → ((i : ℕ) → i < 10 → arcs i < n) → count ≤ 6 → AreBelow (n + count) (stubs n arcs count)
 stubs-below n arcs zero below within = tt
-stubs-below n arcs (suc count) below within =
-    let end = below (count + 1) (omega arith) in (
-      (omega arith, omega arith),
-      AreBelow-more (n + count) (n + suc count) (stubs n arcs count) (omega arith)
-          (stubs-below n arcs count below (omega arith)),
-    )
+stubs-below n arcs (suc count) below within = grind (arith, nat_tests, AreBelow-more, stubs, stubs-below n arcs count below (omega arith))
 
 -- a stub is a class with its arc, so that stubs add no class
 class_count-stubs : (n : ℕ) (arcs : ℕ → ℕ) (count : ℕ) → ((i : ℕ) → i < 10 → arcs i < n) → count ≤ 6
     → class_count (classes_of (n + count) (stubs n arcs count)) ≡ n
-class_count-stubs n arcs zero below within =
-    let e : n + zero ≡ n = omega arith in ap (λ k. class_count (range_with_len 0 k)) e ∙ class_count-range n
+class_count-stubs n arcs zero below within = grind (arith, nat_tests, class_count-range)
 class_count-stubs n arcs (suc count) below within =
     let e : n + suc count ≡ n + count + 1 = omega arith in
     let end = below (count + 1) (omega arith) in
@@ -123,10 +108,8 @@ Respects-stub f n arcs (suc count) i respects below = elim (last_or_before i cou
 unstubbed-respects : (n : ℕ) (arcs : ℕ → ℕ) (count : ℕ) → ((i : ℕ) → i < 10 → arcs i < n) → count ≤ 6
     → Respects (unstubbed n arcs) (stubs n arcs count)
 unstubbed-respects n arcs zero below within = tt
-unstubbed-respects n arcs (suc count) below within = (
-  unstubbed-below n arcs (arcs (count + 1)) (below (count + 1) (omega arith)) ∙ sym (unstubbed-stub n arcs count),
-  unstubbed-respects n arcs count below (omega arith),
-)
+unstubbed-respects n arcs (suc count) below within =
+    grind (arith, nat_tests, unstubbed-below, unstubbed-stub, unstubbed-respects n arcs count below (omega arith))
 
 below_or_stub : (x n : ℕ) → x < n + 6 → (x < n) ⊎ ((x ≡ n + (x - n)) × (x - n < 6))
 below_or_stub x n below = grind (arith, nat_tests)
@@ -181,38 +164,19 @@ class_count-unstubbed n arcs pairs below pairs_below =
 -- the triangle with its ends at stubs
 
 pub at_stubs-side : (n : ℕ) (arcs : ℕ → ℕ) (i : ℕ) → 7 ≤ i → at_stubs n arcs i ≡ arcs i
-at_stubs-side n arcs i from = chosen i (arcs i) (cond (nat_eq i 0) 0 (n + (i - 1))) from
-  where
-    chosen : (i x y : ℕ) → 7 ≤ i → cond (nat_lt 6 i) x y ≡ x
-    chosen i x y from = grind (arith, nat_tests)
+at_stubs-side n arcs i from = grind (arith, nat_tests)
 
 at_stubs-zero : (n : ℕ) (arcs : ℕ → ℕ) (i : ℕ) → i ≡ 0 → at_stubs n arcs i ≡ 0
 at_stubs-zero n arcs i is_zero = ap (λ k. at_stubs n arcs k) is_zero
 
 at_stubs-end : (n : ℕ) (arcs : ℕ → ℕ) (i : ℕ) → 1 ≤ i → i < 7 → at_stubs n arcs i ≡ n + (i - 1)
-at_stubs-end n arcs i from below = chosen i (arcs i) (n + (i - 1)) from below
-  where
-    chosen : (i x y : ℕ) → 1 ≤ i → i < 7 → cond (nat_lt 6 i) x (cond (nat_eq i 0) 0 y) ≡ y
-    chosen i x y from below = grind (arith, nat_tests)
+at_stubs-end n arcs i from below = grind (arith, nat_tests)
 
 kind_of : (i : ℕ) → i < 10 → (i ≡ 0) ⊎ (((1 ≤ i) × (i < 7)) ⊎ (7 ≤ i))
 kind_of i below = grind (arith, nat_tests)
 
 pub at_stubs-places : (n : ℕ) (arcs : ℕ → ℕ) → IsPlacedTriangle n arcs → Places (at_stubs n arcs) 10 (n + 6)
-at_stubs-places n arcs placed i below = elim (kind_of i below) [
-  | inl is_zero ↦ let is = at_stubs-zero n arcs i is_zero in omega arith
-  | inr other ↦ elim other [
-    | inl end ↦
-        let is = at_stubs-end n arcs i end.0 end.1 in
-        let small = end.1 in
-        let large = end.0 in
-        omega arith
-    | inr side ↦
-        let is = at_stubs-side n arcs i side in
-        let small = placed.below i below in
-        omega arith
-  ]
-]
+at_stubs-places n arcs placed = grind (arith, nat_tests)
 
 -- the arc of each inside number's place
 pub unstubbed-at_stubs : (n : ℕ) (arcs : ℕ → ℕ) → IsPlacedTriangle n arcs → (i : ℕ) → i < 10 → unstubbed n arcs (at_stubs n arcs i) ≡ arcs i
@@ -233,54 +197,12 @@ unstubbed-at_stubs n arcs placed i below = elim (kind_of i below) [
 
 -- an end or the number 0 is at no side's place
 pub end-no_side : (n : ℕ) (arcs : ℕ → ℕ) → IsPlacedTriangle n arcs → (i : ℕ) → i < 7 → IsNoSide arcs (at_stubs n arcs i)
-end-no_side n arcs placed i below side from side_below same = elim (kind_of i (omega arith)) [
-  | inl is_zero ↦
-      placed.apart 0 side (omega arith) from side_below (placed.zero_kept ∙ sym (at_stubs-zero n arcs i is_zero) ∙ same)
-  | inr other ↦ elim other [
-    | inl end ↦
-        let is = at_stubs-end n arcs i end.0 end.1 in
-        let small = placed.below side side_below in
-        absurd (omega (arith, is, same, small))
-    | inr large ↦ absurd (omega arith)
-  ]
-]
+end-no_side n arcs placed i below = grind (arith, nat_tests)
 
 at_stubs-apart_ordered : (n : ℕ) (arcs : ℕ → ℕ) → IsPlacedTriangle n arcs → (i j : ℕ) → i < j → j < 10
     → at_stubs n arcs i ≡ at_stubs n arcs j → ⊥
-at_stubs-apart_ordered n arcs placed i j less below same = elim (kind_of j below) [
-  | inl is_zero ↦ absurd (omega arith)
-  | inr other ↦ elim other [
-    | inl end ↦
-        let is_j = at_stubs-end n arcs j end.0 end.1 in
-        let small = end.1 in
-        let some = placed.below 0 (omega arith) in
-        elim (kind_of i (omega arith)) [
-          | inl is_zero ↦ let is_i = at_stubs-zero n arcs i is_zero in absurd (omega (arith, is_i, is_j, same, some, less))
-          | inr either ↦ elim either [
-            | inl end_i ↦
-                let is_i = at_stubs-end n arcs i end_i.0 end_i.1 in
-                let from = end_i.0 in
-                absurd (omega (arith, is_i, is_j, same, less, from))
-            | inr large ↦ absurd (omega arith)
-          ]
-        ]
-    | inr side ↦ elim (kind_of i (omega arith)) [
-      | inl is_zero ↦ end-no_side n arcs placed i (omega arith) j side below (same ∙ at_stubs-side n arcs j side)
-      | inr either ↦ elim either [
-        | inl end_i ↦ end-no_side n arcs placed i end_i.1 j side below (same ∙ at_stubs-side n arcs j side)
-        | inr large ↦
-            placed.apart i j less side below (sym (at_stubs-side n arcs i large) ∙ same ∙ at_stubs-side n arcs j side)
-      ]
-    ]
-  ]
-]
+at_stubs-apart_ordered n arcs placed i j less below same = grind (arith, nat_tests)
 
 pub at_stubs-apart : (n : ℕ) (arcs : ℕ → ℕ) → IsPlacedTriangle n arcs → (i j : ℕ) → i < 10 → j < 10
     → at_stubs n arcs i ≡ at_stubs n arcs j → i ≡ j
-at_stubs-apart n arcs placed i j i_below j_below same = elim (cases_order i j) [
-  | inl is ↦ is
-  | inr other ↦ elim other [
-    | inl less ↦ absurd (at_stubs-apart_ordered n arcs placed i j less j_below same)
-    | inr greater ↦ absurd (at_stubs-apart_ordered n arcs placed j i greater i_below (sym same))
-  ]
-]
+at_stubs-apart n arcs placed i j i_below j_below same = grind (arith, nat_tests)

@@ -1,4 +1,5 @@
 -- What the calls of a diagram know of its code.
+use Rattle.std.proofs.lemmas.Bool.Decides.{nat_tests}
 use Rattle.std.proofs.Common.{◌+◌, ◌≤◌, ℕ, IsTrue, arith}
 use Rattle.kh_types.specs.declared.dart.Dart.{Dart}
 use Rattle.kh_types.specs.declared.limits.TheConstants.{COMPONENTS}
@@ -13,8 +14,7 @@ within : (most count loops : ℕ) → count + loops ≤ most → loops ≤ most
 within most count loops few = omega arith
 
 pub accepted_loops : (code : Code) → IsTrue (accepted code) → code.loops ≤ COMPONENTS
-accepted_loops code is =
-    within COMPONENTS (component_count code.crossings) code.loops ((IsAccepted-is code).0 is).components
+accepted_loops code is = grind (arith, nat_tests, within, IsAccepted-is)
 
 -- and the slots of an accepted code hold arcs
 pub accepted_arcs : (code : Code) (dart : Dart) → IsTrue (accepted code) → IsDart code.crossings dart

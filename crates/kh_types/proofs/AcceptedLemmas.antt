@@ -25,12 +25,10 @@ use Rattle.kh_types.proofs.DartPairs.{IsDart-at, dart_place-below, dart_at-place
 -- no fault, and no test that holds
 
 fault_if-none : (holds : Bool) (fault : CodeFault) → (fault_if holds fault ≡ None) ↔ (holds ≡ false)
-fault_if-none true fault = (λ none. absurd (cc), λ fails. absurd (cc))
-fault_if-none false fault = (λ none. refl, λ fails. refl)
+fault_if-none holds fault = grind (arith, nat_tests)
 
 pub second_fails : (b c : Bool) → (b && c) ≡ false → b ≡ true → c ≡ false
-second_fails true c fails holds = fails
-second_fails false c fails holds = absurd (cc)
+second_fails b c fails holds = grind (arith, nat_tests)
 
 -- a range has no fault exactly where none of its numbers has one
 in_range : (fault_at : ℕ → Option CodeFault) (a n x : ℕ) → first_of fault_at (range_with_len a n) ≡ None → a ≤ x → x < a + n
@@ -57,11 +55,7 @@ each_crossing : (fault_at : ℕ → Option CodeFault) (Fact : ℕ → Type 0) (c
     → ((crossing : ℕ) → (fault_at crossing ≡ None) ↔ Fact crossing)
     → (first_of fault_at (range_with_len 1 (length crossings)) ≡ None)
     ↔ ((crossing : ℕ) → IsCrossing crossings crossing → Fact crossing)
-each_crossing fault_at Fact crossings iff =
-    let all = crossings-none fault_at crossings in (
-      λ none crossing is. (iff crossing).0 (all.0 none crossing is),
-      λ facts. all.1 (λ crossing is. (iff crossing).1 (facts crossing is)),
-    )
+each_crossing fault_at Fact crossings iff = grind (arith, nat_tests, crossings-none)
 
 -- a rule of each arc
 each_arc : (fault_at : ℕ → Option CodeFault) (Fact : ℕ → Type 0) (crossings : List (List ℕ))
@@ -81,12 +75,7 @@ none-within x most fault = (λ none. grind (arith, nat_tests), λ within. grind 
 
 arc_range_at-none : (crossings : List (List ℕ)) (place : ℕ)
     → (arc_range_at crossings place ≡ None) ↔ IsArc crossings (arc_of crossings (dart_at place))
-arc_range_at-none crossings place =
-    let dart = dart_at place in
-    let iff = none-within (arc_of crossings dart) (arc_count crossings) (ArcRange dart.crossing dart.slot) in (
-      λ none. record { positive = (iff.0 none).0; within = (iff.0 none).1 },
-      λ is. iff.1 (is.positive, is.within),
-    )
+arc_range_at-none crossings place = grind (arith, nat_tests)
 
 pub arc_range_fault-none : (crossings : List (List ℕ))
     → (arc_range_fault crossings ≡ None) ↔ ((dart : Dart) → IsDart crossings dart → IsArc crossings (arc_of crossings dart))
@@ -213,33 +202,25 @@ two_arc_at-none crossings later is =
 
 pub two_arc_fault-none : (crossings : List (List ℕ)) → (two_arc_fault crossings ≡ None)
     ↔ ((later : ℕ) → IsCrossing crossings later → IsFirstOfTwo crossings later)
-two_arc_fault-none crossings =
-    let iff = crossings-none (two_arc_at crossings (components_of crossings)) crossings in (
-      λ none later is. (two_arc_at-none crossings later is).0 (iff.0 none later is),
-      λ first. iff.1 (λ later is. (two_arc_at-none crossings later is).1 (first later is)),
-    )
+two_arc_fault-none crossings = grind (arith, nat_tests, crossings-none, two_arc_at-none)
 
 -- faces, and components with loops
 
 pub genus_fault-none : (crossings : List (List ℕ))
     → (genus_fault crossings ≡ None) ↔ (face_count crossings ≡ planar_face_count crossings)
-genus_fault-none crossings =
-    let faces = face_count crossings in
-    let planar = planar_face_count crossings in none-same faces planar (Genus faces planar)
+genus_fault-none crossings = grind (arith, nat_tests)
 
 none-most : (most count : ℕ) (fault : CodeFault) → (fault_if (nat_lt most count) fault ≡ None) ↔ (count ≤ most)
 none-most most count fault = (λ none. grind (arith, nat_tests), λ few. grind (arith, nat_tests))
 
 pub components_fault-none : (code : Code)
     → (components_fault code ≡ None) ↔ (component_count code.crossings + code.loops ≤ COMPONENTS)
-components_fault-none code =
-    let count = component_count code.crossings + code.loops in none-most COMPONENTS count (Components count)
+components_fault-none code = grind (arith, nat_tests)
 
 -- a code is directed exactly where it breaks none of the first six rules
 
 option_or-none : (a b : Option CodeFault) → (option_or a b ≡ None) ↔ ((a ≡ None) × (b ≡ None))
-option_or-none None b = (λ none. (refl, none), λ both. both.1)
-option_or-none (Some x) b = (λ none. absurd (cc), λ both. absurd (cc))
+option_or-none a b = grind (arith, nat_tests)
 
 pub direction_fault-none : (crossings : List (List ℕ)) → (direction_fault crossings ≡ None) ↔ IsDirected crossings
 direction_fault-none crossings =

@@ -21,20 +21,16 @@ abbrev sign_of : Bool → ℕ → ℤ
 sign_of even x = cond even (pos x) (neg_ℤ (pos x))
 
 sign_of-add : (even : Bool) (x y : ℕ) → sign_of even (x + y) ≡ sign_of even x +ℤ sign_of even y
-sign_of-add true x y = omega (arith, ints)
-sign_of-add false x y = omega (arith, ints)
+sign_of-add even x y = grind (arith, nat_tests)
 
 sign_of-zero : (even : Bool) → sign_of even 0 ≡ pos 0
-sign_of-zero true = refl
-sign_of-zero false = refl
+sign_of-zero even = grind (arith, nat_tests)
 
 pub signed_by-add : (i : ℤ) (x y : ℕ) → signed_by i (x + y) ≡ signed_by i x +ℤ signed_by i y
-signed_by-add (pos i) x y = sign_of-add (nat_eq (i % 2) 0) x y
-signed_by-add (negsuc i) x y = sign_of-add (nat_eq (suc i % 2) 0) x y
+signed_by-add i x y = grind (arith, nat_tests)
 
 pub signed_by-zero : (i : ℤ) → signed_by i 0 ≡ pos 0
-signed_by-zero (pos i) = sign_of-zero (nat_eq (i % 2) 0)
-signed_by-zero (negsuc i) = sign_of-zero (nat_eq (suc i % 2) 0)
+signed_by-zero i = grind (arith, nat_tests)
 
 -- neighbouring degrees have opposite signs
 
@@ -43,21 +39,10 @@ parity-next : (k : ℕ)
 parity-next k = grind (arith, nat_tests)
 
 signed_by_parity-next : (k x : ℕ) → signed_by_parity k x +ℤ signed_by_parity (suc k) x ≡ pos 0
-signed_by_parity-next k x = elim (parity-next k) [
-  | inl (even, odd) ↦ ap₂ (λ a b. sign_of a x +ℤ sign_of b x) even odd ∙ omega (arith, ints)
-  | inr (odd, even) ↦ ap₂ (λ a b. sign_of a x +ℤ sign_of b x) odd even ∙ omega (arith, ints)
-]
+signed_by_parity-next k x = grind (arith, nat_tests)
 
 pub signed_by-next : (i j : ℤ) (x : ℕ) → i +ℤ pos 1 ≡ j → signed_by i x +ℤ signed_by j x ≡ pos 0
-signed_by-next (pos k) j x next =
-    let is : j ≡ pos (suc k) = omega (arith, ints) in
-    ap (λ (i : ℤ). signed_by_parity k x +ℤ signed_by i x) is ∙ signed_by_parity-next k x
-signed_by-next (negsuc zero) j x next =
-    let is : j ≡ pos 0 = omega (arith, ints) in
-    ap (λ (i : ℤ). signed_by_parity 1 x +ℤ signed_by i x) is ∙ omega (arith, ints)
-signed_by-next (negsuc (suc k)) j x next =
-    let is : j ≡ negsuc k = omega (arith, ints) in
-    ap (λ (i : ℤ). signed_by_parity (suc (suc k)) x +ℤ signed_by i x) is ∙ omega (arith, ints, signed_by_parity-next (suc k) x)
+signed_by-next i j x next = grind (arith, nat_tests)
 
 -- numbers of one parity have one sign, and a difference has that of the sum
 
@@ -65,8 +50,7 @@ pub signed_by_parity-alike : (x y size : ℕ) → x % 2 ≡ y % 2 → signed_by_
 signed_by_parity-alike x y size same = ap (λ bit. cond (nat_eq bit 0) (pos size) (neg_ℤ (pos size))) same
 
 pub signed_by-less : (degree : ℤ) (a b size : ℕ) → degree ≡ pos a -ℤ pos b → signed_by degree size ≡ signed_by_parity (a + b) size
-signed_by-less (pos above) a b size is = signed_by_parity-alike above (a + b) size (omega (arith, ints, is))
-signed_by-less (negsuc below) a b size is = signed_by_parity-alike (suc below) (a + b) size (omega (arith, ints, is))
+signed_by-less degree a b size is = grind (arith, nat_tests)
 
 -- alternating sums
 

@@ -8,16 +8,10 @@ use Rattle.kh_types.proofs.Ranges.{sum_by-range_more}
 
 -- a number has no bit from the place on of which it has fewer
 pub bit-past : (number place size : ℕ) → number < 2 ^ size → size ≤ place → bit number place ≡ 0
-bit-past number place size below past =
-    let power : 2 ^ size ≤ 2 ^ place = pow_mono past in
-    let less : number < 2 ^ place = omega arith in
-    ap (λ n. n % 2) (div-eq_of_lt less)
+bit-past number place size below past = grind (arith, nat_tests, pow_mono, div-eq_of_lt)
 
 pub bit-cases : (number place : ℕ) → (bit number place ≡ 0) ⊎ (bit number place ≡ 1)
-bit-cases number place = by (number / 2 ^ place)
-  where
-    by : (n : ℕ) → (n % 2 ≡ 0) ⊎ (n % 2 ≡ 1)
-    by n = grind (arith, nat_tests)
+bit-cases number place = grind (arith, nat_tests)
 
 pub ones-more : (count number : ℕ) → ones (count + 1) number ≡ ones count number + bit number count
 ones-more count number = sum_by-range_more (bit number) 0 count count (omega arith)

@@ -1,5 +1,6 @@
 -- What a cancellation keeps: the sizes of the matrices, the places, and that dead ones are dead.
-use Rattle.std.proofs.Common.{◌≡◌, ℕ, zero, suc, ◌+◌, ◌∙◌, List, [], ◌∷◌, ℤ, pos, negsuc, ◌+ℤ◌, ◌-ℤ◌, length, map, ap₂, refl, Bool, true, false}
+use Rattle.std.proofs.lemmas.Bool.Decides.{nat_tests}
+use Rattle.std.proofs.Common.{arith, ◌≡◌, ℕ, zero, suc, ◌+◌, ◌∙◌, List, [], ◌∷◌, ℤ, pos, negsuc, ◌+ℤ◌, ◌-ℤ◌, length, map, ap₂, refl, Bool, true, false}
 use Rattle.std.specs.Prelude.{nat_eq, slice_index_or, if◌then◌else◌}
 use Rattle.std.specs.List.{enumerate_from}
 use Rattle.std.specs.Ordering.{int_eq}
@@ -30,12 +31,10 @@ abbrev pub places_from : ℕ → ℕ → List Bool → List Bool
 places_from place n alive = map (λ at. if nat_eq at.0 place then false else at.1) (enumerate_from n alive)
 
 places_from-length : (place n : ℕ) (alive : List Bool) → length (places_from place n alive) ≡ length alive
-places_from-length place n alive =
-    length-map (enumerate_from n alive) (λ at. if nat_eq at.0 place then false else at.1) ∙ length-enumerate_from n alive
+places_from-length place n alive = grind (arith, nat_tests, length-map, length-enumerate_from)
 
 dead_still : (dies is_alive : Bool) → is_alive ≡ false → (if dies then false else is_alive) ≡ false
-dead_still true is_alive dead = refl
-dead_still false is_alive dead = dead
+dead_still dies is_alive dead = grind (arith, nat_tests)
 
 places_from-dead : (place n at : ℕ) (alive : List Bool) → slice_index_or alive at true ≡ false
     → slice_index_or (places_from place n alive) at true ≡ false
@@ -63,19 +62,10 @@ keeps-place entry place degree =
 
 keeps-chosen : (first second third : Bool) (before a b c d : Degree) → Keeps before a → Keeps before b → Keeps before c
     → Keeps before d → Keeps before (if first then a else if second then b else if third then c else d)
-keeps-chosen true second third before a b c d in_a in_b in_c in_d = in_a
-keeps-chosen false true third before a b c d in_a in_b in_c in_d = in_b
-keeps-chosen false false true before a b c d in_a in_b in_c in_d = in_c
-keeps-chosen false false false before a b c d in_a in_b in_c in_d = in_d
+keeps-chosen first second third before a b c d in_a in_b in_c in_d = grind (arith, nat_tests)
 
 keeps-cancelled : (p : ℕ) (pivot : Pivot) (i : ℤ) (degree : Degree) → Keeps degree (cancelled_degree p pivot i degree)
-keeps-cancelled p pivot i degree =
-    keeps-chosen (int_eq i pivot.degree) (int_eq i (pivot.degree +ℤ pos 1)) (int_eq (i +ℤ pos 1) pivot.degree) degree
-    (record { alive = without_place pivot.column degree.alive; matrix = cancelled_matrix p pivot degree.matrix })
-    (record { alive = without_place pivot.row degree.alive; matrix = without_column pivot.row degree.matrix })
-    (record { alive = degree.alive; matrix = without_row pivot.column degree.matrix })
-    degree
-    (keeps-place _ pivot.column degree) (keeps-place _ pivot.row degree) (keeps-entries _ degree) (keeps-all degree)
+keeps-cancelled p pivot i degree = grind (arith, nat_tests, keeps-chosen, keeps-place, keeps-entries, keeps-all)
 
 -- the degrees by their numbers: what is kept of each of the degrees is kept of all
 abbrev degrees_from : ℕ → Pivot → ℤ → ℕ → List Degree → List Degree
@@ -107,6 +97,4 @@ dead-cancel p complex pivot i = (keeps-from p complex pivot (i -ℤ complex.low)
 
 pub degrees-cancel : (p : ℕ) (complex : Complex) (pivot : Pivot)
     → length (cancel p complex pivot).degrees ≡ length complex.degrees
-degrees-cancel p complex pivot =
-    length-map (enumerate_from 0 complex.degrees) (λ at. cancelled_degree p pivot (complex.low +ℤ pos at.0) at.1)
-    ∙ length-enumerate_from 0 complex.degrees
+degrees-cancel p complex pivot = grind (arith, nat_tests, length-map, length-enumerate_from)

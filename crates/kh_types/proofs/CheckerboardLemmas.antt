@@ -1,4 +1,5 @@
 -- The checkerboard condition and its fault.
+use Rattle.std.proofs.lemmas.Bool.Decides.{nat_tests}
 use Rattle.std.proofs.Common.{◌≡◌, ℕ, ◌-◌, ◌+◌, ◌*◌, ◌^◌, ◌∙◌, List, [], ◌∷◌, length, refl, sym, ap, arith, Bool, true, false, not}
 use Rattle.std.specs.Prelude.{None}
 use Rattle.kh_types.specs.declared.fault.CodeFault.{CodeFault}
@@ -10,8 +11,7 @@ use Rattle.kh_types.proofs.FaultLemmas.{none_at, none_of_all}
 
 -- a test whose failure would be a fault holds where there is none
 kept_true : (holds : Bool) (fault : CodeFault) → fault_if (not holds) fault ≡ None → holds ≡ true
-kept_true true fault none = refl
-kept_true false fault none = absurd (cc)
+kept_true holds fault none = grind (arith, nat_tests)
 
 -- an arc without a fault has a choice
 has_choice-none : (crossings : List (List ℕ)) (arc : ℕ) → checkerboard_at crossings arc ≡ None → has_choice crossings arc ≡ true

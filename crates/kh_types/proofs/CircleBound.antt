@@ -1,6 +1,7 @@
 -- A state has at most as many circles as there are crossings, components and loops together. One more pair for each crossing, the
 -- ends of its under pass, joins all arcs at the crossing, whatever its smoothing, and so joins all that the passes join. Each pair
 -- lowers the number of classes by one at most.
+use Rattle.std.proofs.lemmas.Bool.Decides.{nat_tests}
 use Rattle.std.proofs.Common.{◌≡◌, ℕ, suc, ◌+◌, ◌-◌, ◌<◌, ◌≤◌, ◌∙◌, List, [], ◌∷◌, ◌++◌, sym, refl, length, get_or, ap, arith, Bool, true, false}
 use Rattle.std.specs.Prelude.{nat_eq}
 use Rattle.std.specs.List.{flat_map, AllByRecursion}
@@ -26,8 +27,7 @@ under_of slots = (arc_in slots 0, arc_in slots 2) ∷ []
 -- with the ends of the under pass, a smoothing joins those of the over pass too
 over-joined : (f : ℕ → ℕ) (is_zero : Bool) (slots : List ℕ) → Respects f (pairs_by is_zero slots)
     → f (arc_in slots 0) ≡ f (arc_in slots 2) → f (arc_in slots 1) ≡ f (arc_in slots 3)
-over-joined f true slots smoothed under = sym smoothed.0 ∙ under ∙ smoothed.1.0
-over-joined f false slots smoothed under = smoothed.1.0 ∙ sym under ∙ smoothed.0
+over-joined f is_zero slots smoothed under = grind (arith, nat_tests)
 
 passes-joined : (f : ℕ → ℕ) (state place : ℕ) (crossings : List (List ℕ)) → Respects f (smoothings_from state place crossings)
     → Respects f (flat_map under_of crossings) → Respects f (flat_map passes_of crossings)
@@ -65,18 +65,13 @@ ArcsBelow-slots n crossings arcs few =
 
 pairs_by-below : (n : ℕ) (is_zero : Bool) (slots : List ℕ) → ((slot : ℕ) → slot < 4 → arc_in slots slot < n)
     → AreBelow n (pairs_by is_zero slots)
-pairs_by-below n true slots below =
-    ((below 0 (omega arith), below 1 (omega arith)), ((below 2 (omega arith), below 3 (omega arith)), tt))
-pairs_by-below n false slots below =
-    ((below 0 (omega arith), below 3 (omega arith)), ((below 1 (omega arith), below 2 (omega arith)), tt))
+pairs_by-below n is_zero slots below = grind (arith, nat_tests)
 
 smoothings_from-below : (n state place : ℕ) (crossings : List (List ℕ)) → ArcsBelow n crossings
     → AreBelow n (smoothings_from state place crossings)
 smoothings_from-below n state place [] below = tt
 smoothings_from-below n state place (slots ∷ crossings) below =
-    AllByRecursion-append (λ pair. (pair.0 < n) × (pair.1 < n)) (smoothing_of (bit state place) slots)
-    (smoothings_from state (place + 1) crossings) (pairs_by-below n (nat_eq (bit state place) 0) slots below.0)
-    (smoothings_from-below n state (place + 1) crossings below.1)
+    grind (arith, nat_tests, AllByRecursion-append, smoothings_from, pairs_by-below, smoothings_from-below n state (place + 1) crossings below.1)
 
 pub smoothings_of-below : (n state : ℕ) (crossings : List (List ℕ)) → ArcsBelow n crossings
     → AreBelow n (smoothings_of crossings state)
@@ -84,14 +79,11 @@ smoothings_of-below n state = smoothings_from-below n state 0
 
 pub passes_of-below : (n : ℕ) (crossings : List (List ℕ)) → ArcsBelow n crossings → AreBelow n (flat_map passes_of crossings)
 passes_of-below n [] below = tt
-passes_of-below n (slots ∷ crossings) below =
-    let later = passes_of-below n crossings below.1 in
-    ((below.0 0 (omega arith), below.0 2 (omega arith)), ((below.0 1 (omega arith), below.0 3 (omega arith)), later))
+passes_of-below n (slots ∷ crossings) below = grind (arith, nat_tests, passes_of-below n crossings below.1)
 
 under_of-below : (n : ℕ) (crossings : List (List ℕ)) → ArcsBelow n crossings → AreBelow n (flat_map under_of crossings)
 under_of-below n [] below = tt
-under_of-below n (slots ∷ crossings) below =
-    ((below.0 0 (omega arith), below.0 2 (omega arith)), under_of-below n crossings below.1)
+under_of-below n (slots ∷ crossings) below = grind (arith, nat_tests, under_of-below n crossings below.1)
 
 length-under_of : (crossings : List (List ℕ)) → length (flat_map under_of crossings) ≡ length crossings
 length-under_of [] = refl

@@ -29,8 +29,7 @@ pub arc-at_place : (crossings : List (List ℕ)) (choice place : ℕ) → IsColo
 arc-at_place crossings choice place coloured below = coloured.arcs (dart_at place) (IsDart-at crossings place below)
 
 pub colour-at_place : (choice place : ℕ) → colour choice (dart_at place) ≡ place_colour choice place
-colour-at_place choice place =
-    let e : place / 4 + 1 - 1 ≡ place / 4 = omega arith in ap (λ k. (bit choice k + place % 4) % 2) e
+colour-at_place choice place = grind (arith, nat_tests)
 
 pub one_place : (crossings : List (List ℕ)) (choice place other : ℕ) → IsColoured crossings choice → place < 4 * length crossings
     → other < 4 * length crossings → arc_at crossings place ≡ arc_at crossings other
@@ -105,14 +104,7 @@ is_arc crossings name = nat_lt 0 name && nat_lt name (2 * length crossings + 1)
 
 pub arc_or_not : (crossings : List (List ℕ)) (name : ℕ)
     → (IsArc crossings name × (is_arc crossings name ≡ true)) ⊎ ((IsArc crossings name → ⊥) × (is_arc crossings name ≡ false))
-arc_or_not crossings name = elim (tells name (2 * length crossings)) [
-  | inl is ↦ inl (record { positive = is.0; within = is.1 }, is.2)
-  | inr not ↦ inr (λ is. not.0 is.positive is.within, not.1)
-]
-  where
-    tells : (x m : ℕ) → ((1 ≤ x) × (x ≤ m) × ((nat_lt 0 x && nat_lt x (m + 1)) ≡ true))
-        ⊎ ((1 ≤ x → x ≤ m → ⊥) × ((nat_lt 0 x && nat_lt x (m + 1)) ≡ false))
-    tells x m = grind (arith, nat_tests)
+arc_or_not crossings name = grind (arith, nat_tests)
 
 -- the arc that follows on a circle in one of the two directions: that of the dart across from the arc's dart of a colour; what is
 -- no arc stays
@@ -122,17 +114,11 @@ follower crossings choice state side name =
 
 pub follower-arc : (crossings : List (List ℕ)) (choice state side name : ℕ) → IsArc crossings name
     → follower crossings choice state side name ≡ arc_at crossings (across state (sided crossings choice side name))
-follower-arc crossings choice state side name is = elim (arc_or_not crossings name) [
-  | inl arc ↦ ap (λ b. cond b (arc_at crossings (across state (sided crossings choice side name))) name) arc.1
-  | inr none ↦ absurd (none.0 is)
-]
+follower-arc crossings choice state side name is = grind (arith, nat_tests)
 
 pub follower-other : (crossings : List (List ℕ)) (choice state side name : ℕ) → (IsArc crossings name → ⊥)
     → follower crossings choice state side name ≡ name
-follower-other crossings choice state side name other = elim (arc_or_not crossings name) [
-  | inl arc ↦ absurd (other arc.0)
-  | inr none ↦ ap (λ b. cond b (arc_at crossings (across state (sided crossings choice side name))) name) none.1
-]
+follower-other crossings choice state side name other = grind (arith, nat_tests)
 
 -- the arc behind a dart of the colour
 pub follower-place : (crossings : List (List ℕ)) (choice state side place : ℕ) → HasArcsTwice crossings → IsColoured crossings choice
@@ -148,17 +134,12 @@ follower-place crossings choice state side place twice coloured below place_belo
 IsArc-follower : (crossings : List (List ℕ)) (choice state side arc : ℕ) → HasArcsTwice crossings → IsColoured crossings choice
     → side < 2 → IsArc crossings arc → IsArc crossings (follower crossings choice state side arc)
 IsArc-follower crossings choice state side arc twice coloured below is =
-    let place = sided crossings choice side arc in
-    let there = IsSided-sided crossings choice side arc twice coloured is below in
-    subst (λ (next : ℕ). IsArc crossings next) (sym (follower-arc crossings choice state side arc is))
-    (arc-at_place crossings choice (across state place) coloured (across-below (length crossings) state place there.below))
+    grind (arith, nat_tests, below, IsSided-sided, follower-arc, arc-at_place, across-below)
 
 follower-below : (crossings : List (List ℕ)) (choice state side m name : ℕ) → HasArcsTwice crossings → IsColoured crossings choice
     → side < 2 → 2 * length crossings < m → name < m → follower crossings choice state side name < m
-follower-below crossings choice state side m name twice coloured below enough name_below = elim (arc_or_not crossings name) [
-  | inl arc ↦ omega (arith, (IsArc-follower crossings choice state side name twice coloured below arc.0).within, enough)
-  | inr none ↦ omega (arith, follower-other crossings choice state side name none.0, name_below)
-]
+follower-below crossings choice state side m name twice coloured below enough name_below =
+    grind (arith, nat_tests, below, arc_or_not, IsArc-follower, follower-other)
 
 -- the other direction leads back
 follower-back : (crossings : List (List ℕ)) (choice state side other name : ℕ) → HasArcsTwice crossings → IsColoured crossings choice

@@ -3,6 +3,7 @@
 -- A circle's number is its place among the least numbers of all circles, in ascending order: so it is how many circles have a lesser name
 -- (`position-counted`). From this count follow all the facts below: numbers are below the number of circles, the list of names has the
 -- circle's at that place, the order of numbers is that of names, and two circles with one number are one.
+use Rattle.std.proofs.lemmas.Bool.Decides.{nat_tests}
 use Rattle.std.proofs.Common.{◌≡◌, ℕ, ◌⊎◌, inl, inr, ◌+◌, ◌-◌, ◌<◌, ◌≤◌, ◌∙◌, List, ◌∷◌, ◌++◌, sym, ap, subst, length, arith, cond, IsTrue}
 use Rattle.std.specs.Prelude.{nat_eq, slice_index, min, max}
 use Rattle.std.specs.List.{filter, position_or_len, range_with_len}
@@ -129,16 +130,10 @@ in_some_order : (x y : ℕ) → ((x ≤ y) × (min x y ≡ x) × (max x y ≡ y)
 in_some_order x y = grind arith
 
 pub IsCircle-min : (code : Code) (state x y : ℕ) → IsCircle code state x → IsCircle code state y → IsCircle code state (min x y)
-IsCircle-min code state x y x_is y_is = elim (in_some_order x y) [
-  | inl up ↦ subst (λ (z : ℕ). IsCircle code state z) (sym up.1) x_is
-  | inr down ↦ subst (λ (z : ℕ). IsCircle code state z) (sym down.1) y_is
-]
+IsCircle-min code state x y x_is y_is = grind (arith, nat_tests)
 
 pub IsCircle-max : (code : Code) (state x y : ℕ) → IsCircle code state x → IsCircle code state y → IsCircle code state (max x y)
-IsCircle-max code state x y x_is y_is = elim (in_some_order x y) [
-  | inl up ↦ subst (λ (z : ℕ). IsCircle code state z) (sym up.2) y_is
-  | inr down ↦ subst (λ (z : ℕ). IsCircle code state z) (sym down.2) x_is
-]
+IsCircle-max code state x y x_is y_is = grind (arith, nat_tests)
 
 number_of-le : (code : Code) (state circle other : ℕ) → IsCircle code state circle → IsCircle code state other
     → circle ≤ other → number_of code state circle ≤ number_of code state other

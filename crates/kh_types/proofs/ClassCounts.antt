@@ -21,14 +21,7 @@ use Rattle.kh_types.proofs.JoinedClasses.{IsNamed-joined, IsNamed-classes_of, sl
 joined-bounds : (n : ℕ) (classes : List ℕ) (pair : ℕ × ℕ) → IsNamed n classes → pair.0 < n → pair.1 < n
     → (class_count (joined classes pair) ≤ class_count classes) × (class_count classes ≤ class_count (joined classes pair) + 1)
 joined-bounds n classes pair named first_below second_below =
-    elim (cases_eq (slice_index classes pair.0) (slice_index classes pair.1)) [
-      | inl same ↦
-          let e = class_count-joined_together classes pair same in
-          (omega (arith, e), omega (arith, e))
-      | inr apart ↦
-          let e = class_count-joined n classes pair named first_below second_below apart in
-          (omega (arith, e), omega (arith, e))
-    ]
+    grind (arith, nat_tests, cases_eq, class_count-joined_together, class_count-joined)
 
 -- more pairs lower the number of classes by as many at most, and never raise it
 fold-bounds : (n : ℕ) (classes : List ℕ) (pairs : List (ℕ × ℕ)) → IsNamed n classes → AreBelow n pairs
@@ -43,17 +36,12 @@ fold-bounds n classes (pair ∷ pairs) named below =
 pub class_count-append : (n : ℕ) (pairs more : List (ℕ × ℕ)) → AreBelow n pairs → AreBelow n more
     → (class_count (classes_of n (pairs ++ more)) ≤ class_count (classes_of n pairs))
     × (class_count (classes_of n pairs) ≤ class_count (classes_of n (pairs ++ more)) + length more)
-class_count-append n pairs more below more_below =
-    let bounds = fold-bounds n (classes_of n pairs) more (IsNamed-classes_of n pairs below) more_below in
-    let e : class_count (classes_of n (pairs ++ more)) ≡ class_count (fold joined (classes_of n pairs) more) =
-    ap class_count (fold-append joined (range_with_len 0 n) pairs more) in
-    (omega (arith, e, bounds.0), omega (arith, e, bounds.1))
+class_count-append n pairs more below more_below = grind (arith, nat_tests, fold-bounds, IsNamed-classes_of, fold-append)
 
 -- pairs of numbers below m are pairs of numbers below what is greater
 pub AreBelow-wider : (m n : ℕ) (pairs : List (ℕ × ℕ)) → m ≤ n → AreBelow m pairs → AreBelow n pairs
 AreBelow-wider m n [] wider below = tt
-AreBelow-wider m n (pair ∷ pairs) wider below =
-    ((omega (arith, below.0.0), omega (arith, below.0.1)), AreBelow-wider m n pairs wider below.1)
+AreBelow-wider m n (pair ∷ pairs) wider below = grind (arith, nat_tests, AreBelow-wider m n pairs wider below.1)
 
 -- two lists that agree below m agree there after pairs below m
 agree-fold : (m : ℕ) (xs ys : List ℕ) (pairs : List (ℕ × ℕ)) → m ≤ length xs → m ≤ length ys → AreBelow m pairs
@@ -61,13 +49,7 @@ agree-fold : (m : ℕ) (xs ys : List ℕ) (pairs : List (ℕ × ℕ)) → m ≤ 
     → slice_index (fold joined xs pairs) x ≡ slice_index (fold joined ys pairs) x
 agree-fold m xs ys [] xs_long ys_long below agree = agree
 agree-fold m xs ys (pair ∷ pairs) xs_long ys_long below agree =
-    agree-fold m (joined xs pair) (joined ys pair) pairs (omega (arith, length-joined xs pair)) (omega (arith, length-joined ys pair))
-    below.1
-    (λ z z_below.
-    slice_index-joined xs pair z (omega arith)
-    ∙ ap₂ (λ a b. merged a b (slice_index xs z)) (agree pair.0 below.0.0) (agree pair.1 below.0.1)
-    ∙ ap (λ c. merged (slice_index ys pair.0) (slice_index ys pair.1) c) (agree z z_below)
-    ∙ sym (slice_index-joined ys pair z (omega arith)))
+    grind (arith, nat_tests, length-joined, slice_index-joined, agree-fold m (joined xs pair) (joined ys pair) pairs (omega (arith, length-joined xs pair)) (omega (arith, length-joined ys pair)) below.1 (λ z z_below. slice_index-joined xs pair z (omega arith) ∙ ap₂ (λ a b. merged a b (slice_index xs z)) (agree pair.0 below.0.0) (agree pair.1 below.0.1) ∙ ap (λ c. merged (slice_index ys pair.0) (slice_index ys pair.1) c) (agree z z_below) ∙ sym (slice_index-joined ys pair z (omega arith))))
 
 pub merged-other : (x y class : ℕ) → x < class → y < class → merged x y class ≡ class
 merged-other x y class x_below y_below = grind (arith, nat_tests)
@@ -119,14 +101,7 @@ class_count-wider m k pairs below =
 -- the number 0 is the least of its class
 pub class_count-zero : (m : ℕ) (pairs : List (ℕ × ℕ)) → AreBelow (m + 1) pairs
     → class_count (classes_of (m + 1) pairs) ≡ length (filter (is_least (classes_of (m + 1) pairs)) (range_with_len 1 m)) + 1
-class_count-zero m pairs below =
-    let classes = classes_of (m + 1) pairs in
-    let named = IsNamed-classes_of (m + 1) pairs below in
-    let size : length classes ≡ suc m = omega (arith, named.size) in
-    let zero_own : slice_index classes 0 ≡ 0 = omega (arith, named.least 0 (omega arith)) in
-    let rest = filter (is_least classes) (range_with_len 1 m) in
-    ap (λ s. length (filter (is_least classes) (range_with_len 0 s))) size
-    ∙ ap (λ b. length (cond b (0 ∷ rest) rest)) (eq-eqb (slice_index classes 0) 0 zero_own) ∙ omega arith
+class_count-zero m pairs below = grind (arith, nat_tests, IsNamed-classes_of, eq-eqb)
 
 -- so the classes of arcs that passes join are the components, and one more of the number 0
 pub class_count-components : (crossings : List (List ℕ)) → AreBelow (arc_count crossings + 1) (flat_map passes_of crossings)

@@ -67,8 +67,7 @@ Respects-second g xs ys = AllByRecursion-second (λ (pair : ℕ × ℕ). g pair.
 pub slice_index-joined : (classes : List ℕ) (pair : ℕ × ℕ) (x : ℕ) → x < length classes
     → slice_index (joined classes pair) x
     ≡ merged (slice_index classes pair.0) (slice_index classes pair.1) (slice_index classes x)
-slice_index-joined classes pair x below =
-    get_or-map (merged (slice_index classes pair.0) (slice_index classes pair.1)) classes x 0 0 below
+slice_index-joined classes pair x below = grind (arith, nat_tests, get_or-map)
 
 pub length-joined : (classes : List ℕ) (pair : ℕ × ℕ) → length (joined classes pair) ≡ length classes
 length-joined classes pair = length-map classes (merged (slice_index classes pair.0) (slice_index classes pair.1))
@@ -111,21 +110,13 @@ IsOneOnClasses f n classes = (x y : ℕ) → x < n → y < n → slice_index cla
 
 pub one_on_joined : (f : ℕ → ℕ) (n : ℕ) (classes : List ℕ) (pair : ℕ × ℕ) → length classes ≡ n → pair.0 < n → pair.1 < n
     → f pair.0 ≡ f pair.1 → IsOneOnClasses f n classes → IsOneOnClasses f n (joined classes pair)
-one_on_joined f n classes pair is_n first_below second_below respects one x y x_below y_below same =
-    let a = slice_index classes pair.0 in
-    let b = slice_index classes pair.1 in
-    let joined_same : merged a b (slice_index classes x) ≡ merged a b (slice_index classes y) =
-    sym (slice_index-joined classes pair x (omega arith)) ∙ same ∙ slice_index-joined classes pair y (omega arith) in
-    one_value a b (slice_index classes x) (slice_index classes y) (f pair.0) (f pair.1) (f x) (f y) joined_same respects
-    (one x y x_below y_below) (one x pair.0 x_below first_below) (one x pair.1 x_below second_below)
-    (one y pair.0 y_below first_below) (one y pair.1 y_below second_below)
+one_on_joined f n classes pair is_n first_below second_below respects one = grind (arith, nat_tests, slice_index-joined, one_value)
 
 one_on_all : (f : ℕ → ℕ) (n : ℕ) (classes : List ℕ) (pairs : List (ℕ × ℕ)) → length classes ≡ n → AreBelow n pairs
     → Respects f pairs → IsOneOnClasses f n classes → IsOneOnClasses f n (fold joined classes pairs)
 one_on_all f n classes [] is_n below respects one = one
 one_on_all f n classes (pair ∷ pairs) is_n below respects one =
-    one_on_all f n (joined classes pair) pairs (length-joined classes pair ∙ is_n) below.1 respects.1
-    (one_on_joined f n classes pair is_n below.0.0 below.0.1 respects.0 one)
+    grind (arith, nat_tests, length-joined, one_on_joined, one_on_all f n (joined classes pair) pairs (length-joined classes pair ∙ is_n) below.1 respects.1 (one_on_joined f n classes pair is_n below.0.0 below.0.1 respects.0 one))
 
 pub classes-finest : (f : ℕ → ℕ) (n : ℕ) (pairs : List (ℕ × ℕ)) → Respects f pairs → AreBelow n pairs
     → (x y : ℕ) → x < n → y < n → slice_index (classes_of n pairs) x ≡ slice_index (classes_of n pairs) y → f x ≡ f y

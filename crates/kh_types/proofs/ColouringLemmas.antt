@@ -46,15 +46,7 @@ AreOfCrossings crossings arcs = (arc : ℕ) → 1 ≤ arc → arc ≤ arcs
 pub AreOfCrossings-more : (crossings : List (List ℕ)) (arcs arc : ℕ) (equation : Equation) → AreOfCrossings crossings arcs
     → arcs + 1 ≡ arc → equation ≡ equation_of crossings arc → IsCrossing crossings equation.crossing
     → IsCrossing crossings equation.other → AreOfCrossings crossings arc
-AreOfCrossings-more crossings arcs arc equation are is_arc is_equation first second other from within =
-    let n = length crossings in
-    elim (cases_lt other arc) [
-      | inl earlier ↦ are other from (omega (arith, is_arc, earlier))
-      | inr last ↦
-          subst (λ (e : Equation). (place_of e.crossing < n) × (place_of e.other < n))
-          (is_equation ∙ ap (equation_of crossings) (omega (arith, within, last)))
-          (omega (arith, first.positive, first.within), omega (arith, second.positive, second.within))
-    ]
+AreOfCrossings-more crossings arcs arc equation are is_arc is_equation first second = grind (arith, nat_tests)
 
 pub FollowsTo-none : (crossings : List (List ℕ)) (colours : List ℕ) → length colours ≡ length crossings
     → FollowsTo crossings 0 (range_with_len 0 (length crossings)) colours
@@ -72,98 +64,54 @@ FollowsTo-none crossings colours size = record {
 
 odd_kept : (turns : Bool) (x y s : ℕ) → nat_eq ((x + (y + s)) % 2) 1 ≡ true
     → nat_eq ((changed_colour turns x + (changed_colour turns y + s)) % 2) 1 ≡ true
-odd_kept false x y s odd = odd
-odd_kept true x y s odd =
-    let e : (x + (y + s)) % 2 ≡ 1 = eqb-true ((x + (y + s)) % 2) 1 odd in
-    eq-eqb ((1 - x % 2 + (1 - y % 2 + s)) % 2) 1 (omega (arith, e))
+odd_kept turns x y s odd = grind (arith, nat_tests)
 
 odd_made : (is : Bool) (u v x y s : ℕ) → nat_eq ((x + (y + s)) % 2) 1 ≡ is → (not is && nat_eq u v) ≡ false
     → nat_eq ((changed_colour (not is && nat_eq u v) x + (changed_colour (not is && nat_eq v v) y + s)) % 2) 1 ≡ true
-odd_made true u v x y s odd apart = odd
-odd_made false u v x y s even apart =
-    let same : nat_eq v v ≡ true = eq-eqb v v refl in
-    let differs : (x + (y + s)) % 2 ≢ 1 = λ e. grind (arith, nat_tests) in
-    rw (apart, same) (eq-eqb ((x + (1 - y % 2 + s)) % 2) 1 (omega (arith, differs)))
+odd_made is u v x y s odd apart = grind (arith, nat_tests)
 
 against_kept : (turns : Bool) (a b x y : ℕ) → (a + x) % 2 ≡ (b + y) % 2
     → (a + changed_colour turns x) % 2 ≡ (b + changed_colour turns y) % 2
-against_kept false a b x y same = same
-against_kept true a b x y same = omega (arith, same)
+against_kept turns a b x y same = grind (arith, nat_tests)
 
 against_both : (a b x y s : ℕ) → nat_eq ((a + (b + s)) % 2) 1 ≡ true → nat_eq ((x + (y + s)) % 2) 1 ≡ true
     → (a + x) % 2 ≡ (b + y) % 2
-against_both a b x y s solved odd =
-    omega (arith, eqb-true ((a + (b + s)) % 2) 1 solved, eqb-true ((x + (y + s)) % 2) 1 odd)
+against_both a b x y s solved odd = grind (arith, nat_tests)
 
 -- the colours after an equation, place by place
 slice_index-after : (classes colours : List ℕ) (equation : Equation) (n place : ℕ) → length colours ≡ n → place < n
     → slice_index (colours_after classes colours equation) place ≡ colour_after classes colours equation place
-slice_index-after classes colours equation n place size below =
-    get_or-map-range_with_len (colour_after classes colours equation) 0 (length colours) place place 0 (omega (arith, size, below))
-    (omega arith)
+slice_index-after classes colours equation n place size below = grind (arith, nat_tests, get_or-map-range_with_len)
 
 -- an equation that was solved before stays solved
 coloured-kept : (classes colours : List ℕ) (equation other : Equation) (n : ℕ) → length colours ≡ n
     → place_of other.crossing < n → place_of other.other < n → is_tied classes other ≡ true → is_coloured colours other ≡ true
     → is_coloured (colours_after classes colours equation) other ≡ true
 coloured-kept classes colours equation other n size first_below other_below tied coloured =
-    let same = eqb-true (slice_index classes (place_of other.crossing)) (slice_index classes (place_of other.other)) tied in
-    let first = slice_index-after classes colours equation n (place_of other.crossing) size first_below
-    ∙ ap (λ class. changed_colour (not (is_coloured colours equation) && nat_eq class (slice_index classes (place_of equation.other)))
-    (slice_index colours (place_of other.crossing))) same in
-    let second = slice_index-after classes colours equation n (place_of other.other) size other_below in
-    ap (λ x. nat_eq ((x + (slice_index (colours_after classes colours equation) (place_of other.other) + other.slots)) % 2) 1) first
-    ∙ ap (λ y. nat_eq ((changed_colour (changes classes colours equation (place_of other.other))
-    (slice_index colours (place_of other.crossing)) + (y + other.slots)) % 2) 1) second
-    ∙ odd_kept (changes classes colours equation (place_of other.other)) (slice_index colours (place_of other.crossing))
-    (slice_index colours (place_of other.other)) other.slots coloured
+    grind (arith, nat_tests, tied, coloured, eqb-true, slice_index-after, odd_kept)
 
 -- an equation that contradicts none before it is solved after it
 coloured-made : (classes colours : List ℕ) (equation : Equation) (n : ℕ) → length colours ≡ n
     → place_of equation.crossing < n → place_of equation.other < n → contradicts classes colours equation ≡ false
     → is_coloured (colours_after classes colours equation) equation ≡ true
-coloured-made classes colours equation n size first_below other_below free =
-    let first = slice_index-after classes colours equation n (place_of equation.crossing) size first_below in
-    let second = slice_index-after classes colours equation n (place_of equation.other) size other_below in
-    ap (λ x. nat_eq ((x + (slice_index (colours_after classes colours equation) (place_of equation.other) + equation.slots)) % 2) 1) first
-    ∙ ap (λ y. nat_eq ((colour_after classes colours equation (place_of equation.crossing) + (y + equation.slots)) % 2) 1) second
-    ∙ odd_made (is_coloured colours equation) (slice_index classes (place_of equation.crossing))
-    (slice_index classes (place_of equation.other)) (slice_index colours (place_of equation.crossing))
-    (slice_index colours (place_of equation.other)) equation.slots refl free
+coloured-made classes colours equation n size first_below other_below free = grind (arith, nat_tests, slice_index-after, odd_made)
 
 -- numbers of one class stay in one class
 tied-kept : (classes : List ℕ) (pair : ℕ × ℕ) (x y n : ℕ) → length classes ≡ n → x < n → y < n
     → nat_eq (slice_index classes x) (slice_index classes y) ≡ true
     → nat_eq (slice_index (joined classes pair) x) (slice_index (joined classes pair) y) ≡ true
-tied-kept classes pair x y n size x_below y_below tied =
-    let same = eqb-true (slice_index classes x) (slice_index classes y) tied in
-    eq-eqb (slice_index (joined classes pair) x) (slice_index (joined classes pair) y)
-    (slice_index-joined classes pair x (omega (arith, size, x_below))
-    ∙ ap (merged (slice_index classes pair.0) (slice_index classes pair.1)) same
-    ∙ sym (slice_index-joined classes pair y (omega (arith, size, y_below))))
+tied-kept classes pair x y n size x_below y_below tied = grind (arith, nat_tests, tied, eqb-true, eq-eqb, slice_index-joined)
 
 -- the two crossings of the new equation come into one class
 tied-made : (classes : List ℕ) (pair : ℕ × ℕ) (n : ℕ) → length classes ≡ n → pair.0 < n → pair.1 < n
     → nat_eq (slice_index (joined classes pair) pair.0) (slice_index (joined classes pair) pair.1) ≡ true
-tied-made classes pair n size first_below second_below =
-    eq-eqb (slice_index (joined classes pair) pair.0) (slice_index (joined classes pair) pair.1)
-    (slice_index-joined classes pair pair.0 (omega (arith, size, first_below))
-    ∙ merged-both (slice_index classes pair.0) (slice_index classes pair.1)
-    ∙ sym (slice_index-joined classes pair pair.1 (omega (arith, size, second_below))))
+tied-made classes pair n size first_below second_below = grind (arith, nat_tests, eq-eqb, slice_index-joined, merged-both)
 
 -- a choice that agrees with the colours on a class agrees with the changed colours there
 forced-kept : (classes colours : List ℕ) (equation : Equation) (choice n : ℕ) → length colours ≡ n
     → IsOneOnClasses (against choice colours) n classes
     → IsOneOnClasses (against choice (colours_after classes colours equation)) n classes
-forced-kept classes colours equation choice n size one x y x_below y_below same =
-    let first = slice_index-after classes colours equation n x size x_below
-    ∙ ap (λ class. changed_colour (not (is_coloured colours equation) && nat_eq class (slice_index classes (place_of equation.other)))
-    (slice_index colours x)) same in
-    let second = slice_index-after classes colours equation n y size y_below in
-    ap (λ z. (bit choice x + z) % 2) first
-    ∙ against_kept (changes classes colours equation y) (bit choice x) (bit choice y) (slice_index colours x) (slice_index colours y)
-    (one x y x_below y_below same)
-    ∙ ap (λ z. (bit choice y + z) % 2) (sym second)
+forced-kept classes colours equation choice n size one x y x_below y_below same = grind (arith, nat_tests, slice_index-after, against_kept)
 
 -- one arc more
 pub FollowsTo-more : (crossings : List (List ℕ)) (arcs arc : ℕ) (equation : Equation) (classes colours : List ℕ)
@@ -222,9 +170,7 @@ never_odd : (a b x y s : ℕ) → nat_eq ((a + (b + s)) % 2) 1 ≡ true → (a +
 never_odd a b x y s solved agree = eq-eqb ((x + (y + s)) % 2) 1 (omega (arith, eqb-true ((a + (b + s)) % 2) 1 solved, agree))
 
 both_true : (coloured tied : Bool) → (not coloured && tied) ≡ true → (coloured ≡ false) × (tied ≡ true)
-both_true false true holds = (refl, refl)
-both_true false false holds = absurd (cc)
-both_true true tied holds = absurd (cc)
+both_true coloured tied holds = grind (arith, nat_tests)
 
 pub FollowsTo-fault : (crossings : List (List ℕ)) (arcs arc : ℕ) (equation : Equation) (classes colours : List ℕ)
     → FollowsTo crossings arcs classes colours → AreOfCrossings crossings arc → arcs + 1 ≡ arc
@@ -277,8 +223,7 @@ bit-number_of (colour ∷ colours) (suc place) =
     ∙ ap (λ z. z / 2 ^ place % 2) half ∙ bit-number_of colours place
 
 odd_of_bits : (a b x y s : ℕ) → a ≡ x % 2 → b ≡ y % 2 → nat_eq ((x + (y + s)) % 2) 1 ≡ true → nat_eq ((a + (b + s)) % 2) 1 ≡ true
-odd_of_bits a b x y s is_a is_b odd =
-    eq-eqb ((a + (b + s)) % 2) 1 (omega (arith, is_a, is_b, eqb-true ((x + (y + s)) % 2) 1 odd))
+odd_of_bits a b x y s is_a is_b odd = grind (arith, nat_tests)
 
 pub FollowsTo-fine : (crossings : List (List ℕ)) (arcs : ℕ) (classes colours : List ℕ) → FollowsTo crossings arcs classes colours
     → checkerboard_at crossings arcs ≡ None

@@ -3,6 +3,7 @@
 -- The test goes over the degrees by their numbers, and over the rows and columns that are there; the fact speaks of all integers and all
 -- numbers. Past the end of a list sizes are 0 and entries are 0, so nothing is left to test there: a degree either has a number or has no
 -- places, a product of two matrices has the entry 0 outside of both, and a dead place is within its degree.
+use Rattle.std.proofs.lemmas.Bool.Decides.{nat_tests}
 use Rattle.std.proofs.Common.{◌≡◌, ℕ, ◌+◌, ◌*◌, ◌%◌, ◌<◌, ◌≤◌, ◌∙◌, ◌⊎◌, inl, inr, List, [], ◌∷◌, ℤ, pos, negsuc, ◌+ℤ◌, ◌-ℤ◌, length, ap, sym, ap₂, subst, subst₂, refl, arith, Bool, true, IsTrue, sum_by}
 use Rattle.std.specs.Prelude.{nat_eq, slice_index_or}
 use Rattle.std.specs.List.{range_with_len}
@@ -18,41 +19,24 @@ use Rattle.kh_types.proofs.MatrixTests.{HasSize, EntriesFit, all_below-at, all_b
 
 sum_by-zeros : (f : ℕ → ℕ) (xs : List ℕ) → ((x : ℕ) → f x ≡ 0) → sum_by f xs ≡ 0
 sum_by-zeros f [] zeros = refl
-sum_by-zeros f (x ∷ xs) zeros =
-    let first = zeros x in
-    let rest = sum_by-zeros f xs zeros in
-    sum_by-cons f x xs ∙ omega arith
+sum_by-zeros f (x ∷ xs) zeros = grind (arith, nat_tests, sum_by-cons, sum_by-zeros f xs zeros)
 
 -- where the row has only entries 0, or the column, the product has the entry 0
 product-zero_row : (p : ℕ) (degree next : Degree) (row column : ℕ) → ((middle : ℕ) → entry_in next.matrix row middle ≡ 0)
     → product_of p degree next row column ≡ 0
-product-zero_row p degree next row column zeros =
-    ap (λ sum. sum % p)
-    (sum_by-zeros (λ middle. entry_in next.matrix row middle * entry_in degree.matrix middle column)
-    (range_with_len 0 (length next.alive))
-    (λ middle. ap (λ entry. entry * entry_in degree.matrix middle column) (zeros middle) ∙ omega arith))
-    ∙ zero-mod p
+product-zero_row p degree next row column zeros = grind (arith, nat_tests, sum_by-zeros, zero-mod)
 
 product-zero_column : (p : ℕ) (degree next : Degree) (row column : ℕ)
     → ((middle : ℕ) → entry_in degree.matrix middle column ≡ 0) → product_of p degree next row column ≡ 0
-product-zero_column p degree next row column zeros =
-    ap (λ sum. sum % p)
-    (sum_by-zeros (λ middle. entry_in next.matrix row middle * entry_in degree.matrix middle column)
-    (range_with_len 0 (length next.alive))
-    (λ middle. ap (λ entry. entry_in next.matrix row middle * entry) (zeros middle) ∙ omega arith))
-    ∙ zero-mod p
+product-zero_column p degree next row column zeros = grind (arith, nat_tests, sum_by-zeros, zero-mod)
 
 -- the degrees by their numbers: that of a number, and the one after it
 pub degree_of-number : (complex : Complex) (k : ℕ) → degree_of complex (complex.low +ℤ pos k) ≡ degree_number complex k
-degree_of-number complex k =
-    let distance : complex.low +ℤ pos k -ℤ complex.low ≡ pos k = omega (arith, ints) in
-    ap (degree_from complex) distance
+degree_of-number complex k = grind (arith, nat_tests)
 
 pub degree_of-next : (complex : Complex) (k : ℕ)
     → degree_of complex (complex.low +ℤ pos k +ℤ pos 1) ≡ degree_number complex (k + 1)
-degree_of-next complex k =
-    let distance : complex.low +ℤ pos k +ℤ pos 1 -ℤ complex.low ≡ pos (k + 1) = omega (arith, ints) in
-    ap (degree_from complex) distance
+degree_of-next complex k = grind (arith, nat_tests)
 
 -- a degree has a number, or it is outside of the complex and has no places
 abbrev HasNumber : Complex → ℤ → Type 0
@@ -176,21 +160,11 @@ product-numbered p complex k row column tested within =
 
 product-everywhere : (p : ℕ) (complex : Complex) (i : ℤ) (row column : ℕ) → Tested p complex
     → product_entry p complex i row column ≡ 0
-product-everywhere p complex i row column tested =
-    elim (placed_at complex i (i -ℤ complex.low) refl) [
-      | inl numbered ↦
-          ap (λ d. product_entry p complex d row column) numbered.2
-          ∙ product-numbered p complex numbered.0 row column tested numbered.1
-      | inr outside ↦
-          product-zero_column p (degree_of complex i) (degree_of complex (i +ℤ pos 1)) row column
-          (λ middle. ap (λ degree. entry_in degree.matrix middle column) outside)
-    ]
+product-everywhere p complex i row column tested = grind (arith, nat_tests, placed_at, product-numbered, product-zero_column)
 
 -- all entries fit, inside of the complex and outside
 entries-outside : (p : ℕ) (next : Degree) → 0 < p → EntriesFit p empty_degree next
-entries-outside p next positive row column =
-    fits-zero p (entry_in [] row column) (slice_index_or [] column true) (slice_index_or next.alive row true) positive
-    (entry-past_rows [] row column (omega arith))
+entries-outside p next positive = omega arith
 
 entries-everywhere : (p : ℕ) (complex : Complex) (i : ℤ) → 0 < p → Tested p complex
     → EntriesFit p (degree_of complex i) (degree_of complex (i +ℤ pos 1))

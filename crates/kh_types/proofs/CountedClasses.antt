@@ -1,4 +1,5 @@
 -- Classes that correspond are as many.
+use Rattle.std.proofs.lemmas.Bool.Decides.{nat_tests}
 use Rattle.std.proofs.Common.{List, ap, ap₂, arith, inl, inr, length, map, refl, subst, suc, sym, zero, ℕ, ◌*◌, ◌+◌, ◌<◌, ◌∙◌, ◌≡◌, ◌≤◌}
 use Rattle.std.proofs.lemmas.Bool.{cases_eq, eq-eqb, ne_eqb}
 use Rattle.std.proofs.lemmas.List.Sums.{length-filter}
@@ -20,9 +21,7 @@ pub record AreAlike (m n : ℕ) (f back : ℕ → ℕ) (first second : List ℕ)
 
 counted : (m : ℕ) (classes : List ℕ) → IsNamed m classes
     → class_count classes ≡ sum_by (λ x. one_if (nat_eq (slice_index classes x) x)) (range_with_len 0 m)
-counted m classes named =
-    length-filter (is_least classes) (range_with_len 0 (length classes))
-    ∙ ap (λ k. sum_by (λ x. one_if (nat_eq (slice_index classes x) x)) (range_with_len 0 k)) named.size
+counted m classes named = grind (arith, nat_tests, length-filter)
 
 small : (n : ℕ) (classes : List ℕ) (x : ℕ) → IsNamed n classes → x < n → slice_index classes x < n
 small n classes x named below = omega (arith, named.least x below, below)

@@ -1,4 +1,5 @@
 -- A checkerboard choice gives each arc one dart of either colour.
+use Rattle.std.proofs.lemmas.Bool.Decides.{nat_tests}
 use Rattle.std.proofs.Common.{◌≡◌, ◌≢◌, ℕ, ◌⊎◌, inl, inr, ◌+◌, ◌-◌, ◌*◌, ◌%◌, ◌<◌, ◌∙◌, List, [], length, refl, sym, ap, subst, arith, IsTrue, true}
 use Rattle.std.specs.Prelude.{slice_index_or}
 use Rattle.std.proofs.lemmas.Bool.{eqb-true}
@@ -16,37 +17,16 @@ use Rattle.kh_types.proofs.AcceptedLemmas.{IsAccepted-is, HasArcsTwice-directed}
 -- the two darts of an arc differ in colour where a choice solves its equation
 differ-solved : (crossings : List (List ℕ)) (choice arc : ℕ) → solves_at crossings choice arc ≡ true
     → colour choice (first_dart crossings arc) ≢ colour choice (partner crossings (first_dart crossings arc))
-differ-solved crossings choice arc solves same =
-    let dart = first_dart crossings arc in
-    let other = partner crossings dart in
-    odd_sum (bit choice (place_of dart.crossing)) dart.slot (bit choice (place_of other.crossing)) other.slot
-    (eqb-true ((bit choice (place_of dart.crossing) + (bit choice (place_of other.crossing) + (dart.slot + other.slot))) % 2) 1
-    solves)
-    same
-  where
-    odd_sum : (x s y t : ℕ) → (x + (y + (s + t))) % 2 ≡ 1 → (x + s) % 2 ≢ (y + t) % 2
-    odd_sum x s y t odd alike = absurd (omega (arith, odd, alike))
+differ-solved crossings choice arc solves = grind (arith, nat_tests)
 
 -- of two things of different colours one has a given colour
 one_of_two : (x y side : ℕ) → x % 2 ≢ y % 2 → side < 2 → (x % 2 ≡ side) ⊎ (y % 2 ≡ side)
-one_of_two x y side differ below =
-    let x_below : x % 2 < 2 = omega arith in
-    let y_below : y % 2 < 2 = omega arith in
-    grind arith
+one_of_two x y side differ below = grind (arith, nat_tests)
 
 -- two of two darts that differ in colour are one where they have one colour
 one_dart : (choice : ℕ) (first second dart other : Dart) → colour choice first ≢ colour choice second
     → (dart ≡ first) ⊎ (dart ≡ second) → (other ≡ first) ⊎ (other ≡ second) → colour choice dart ≡ colour choice other → dart ≡ other
-one_dart choice first second dart other differ is other_is alike = elim is [
-  | inl is_first ↦ elim other_is [
-    | inl other_first ↦ is_first ∙ sym other_first
-    | inr other_second ↦ absurd (differ (ap (colour choice) (sym is_first) ∙ alike ∙ ap (colour choice) other_second))
-  ]
-  | inr is_second ↦ elim other_is [
-    | inl other_first ↦ absurd (differ (ap (colour choice) (sym other_first) ∙ sym alike ∙ ap (colour choice) is_second))
-    | inr other_second ↦ is_second ∙ sym other_second
-  ]
-]
+one_dart choice first second dart other differ is other_is alike = grind (arith, nat_tests)
 
 pub IsColoured-checkerboard : (crossings : List (List ℕ)) (board : IsCheckerboard crossings) → HasArcsTwice crossings
     → IsColoured crossings board.choice
@@ -80,9 +60,7 @@ IsColoured-checkerboard crossings board twice =
     }
 
 pub IsColoured-accepted : (code : Code) → IsTrue (accepted code) → (choice : ℕ) × IsColoured code.crossings choice
-IsColoured-accepted code holds =
-    let is = (IsAccepted-is code).0 holds in
-    (is.checkerboard.choice, IsColoured-checkerboard code.crossings is.checkerboard (HasArcsTwice-directed code.crossings is.directed))
+IsColoured-accepted code holds = grind (arith, nat_tests, IsAccepted-is, IsColoured-checkerboard, HasArcsTwice-directed)
 
 -- the same by places and slots
 
@@ -108,10 +86,7 @@ colour-dart_of choice place slot = ap (λ p. colour_at choice p slot) (place_bac
 
 pub IsDart-dart_of : (crossings : List (List ℕ)) (place slot : ℕ) → place < length crossings → slot < 4
     → IsDart crossings (dart_of place slot)
-IsDart-dart_of crossings place slot below slot_below = record {
-  crossing = record { positive = omega arith; within = omega (arith, below) };
-  slot = slot_below;
-}
+IsDart-dart_of crossings place slot below slot_below = omega arith
 
 pub arcs-places : (crossings : List (List ℕ)) (choice place slot : ℕ) → IsColoured crossings choice → place < length crossings
     → slot < 4 → IsArc crossings (arc_at crossings place slot)

@@ -1,5 +1,6 @@
 -- Searches over darts as searches over their places.
-use Rattle.std.proofs.Common.{◌≡◌, ℕ, ◌*◌, ◌∙◌, List, length, sym, Bool}
+use Rattle.std.proofs.lemmas.Bool.Decides.{nat_tests}
+use Rattle.std.proofs.Common.{arith, ◌≡◌, ℕ, ◌*◌, ◌∙◌, List, length, sym, Bool}
 use Rattle.std.specs.Prelude.{nat_eq}
 use Rattle.std.specs.List.{filter, range_with_len}
 use Rattle.std.proofs.lemmas.List.Sums.{length-filter}
@@ -17,6 +18,4 @@ is_partner_at crossings dart place = is_partner crossings dart (dart_at place)
 -- the places of the darts of an arc are as many as its darts
 pub times_by_places : (crossings : List (List ℕ)) (arc : ℕ)
     → length (filter (is_dart_of crossings arc) (range_with_len 0 (4 * length crossings))) ≡ times crossings arc
-times_by_places crossings arc =
-    length-filter (is_dart_of crossings arc) (range_with_len 0 (4 * length crossings))
-    ∙ sym (count_by-map (λ dart. nat_eq (arc_of crossings dart) arc) dart_at (range_with_len 0 (4 * length crossings)))
+times_by_places crossings arc = grind (arith, nat_tests, length-filter, count_by-map)

@@ -3,6 +3,7 @@
 -- Darts are places 4k + slot, so that searches are over a range. An arc that stands twice has two places that pass the test of its darts;
 -- without the dart itself one is left, which the search for a partner finds, and which is the only one (`partner_at-only`). So the partner
 -- of the partner is the dart. All is said by places first, then carried over to darts.
+use Rattle.std.proofs.lemmas.Bool.Decides.{nat_tests}
 use Rattle.std.proofs.Common.{◌≡◌, ◌≢◌, ℕ, ◌⊎◌, inl, inr, ◌+◌, ◌-◌, ◌*◌, ◌/◌, ◌%◌, ◌<◌, ◌≤◌, ◌∙◌, List, refl, sym, ap, subst, length, arith, Bool, true, false, not, ◌&&◌}
 use Rattle.std.specs.Prelude.{nat_eq, Option, Some, None, unwrap_or}
 use Rattle.std.specs.List.{count_by, find, range_with_len}
@@ -22,14 +23,10 @@ pub dart_place-at : (place : ℕ) → dart_place (dart_at place) ≡ place
 dart_place-at place = omega arith
 
 pub IsDart-at : (crossings : List (List ℕ)) (place : ℕ) → place < 4 * length crossings → IsDart crossings (dart_at place)
-IsDart-at crossings place below = record {
-  crossing = record { positive = omega arith; within = omega (arith, below) };
-  slot = omega arith;
-}
+IsDart-at crossings place below = omega arith
 
 pub dart_place-below : (crossings : List (List ℕ)) (dart : Dart) → IsDart crossings dart → dart_place dart < 4 * length crossings
-dart_place-below crossings dart is =
-    omega (arith, is.crossing.positive, is.crossing.within, is.slot)
+dart_place-below crossings dart is = omega arith
 
 crossing_back : (crossing slot : ℕ) → 1 ≤ crossing → slot < 4 → (4 * (crossing - 1) + slot) / 4 + 1 ≡ crossing
 crossing_back crossing slot positive below = omega arith
@@ -43,26 +40,19 @@ same_parts : (crossing other slot other_slot : ℕ) → crossing ≡ other → s
 same_parts crossing other slot other_slot same same_slot = cc
 
 pub dart_at-place : (crossings : List (List ℕ)) (dart : Dart) → IsDart crossings dart → dart_at (dart_place dart) ≡ dart
-dart_at-place crossings dart is =
-    same_parts (dart_place dart / 4 + 1) dart.crossing (dart_place dart % 4) dart.slot
-    (crossing_back dart.crossing dart.slot is.crossing.positive is.slot) (slot_back (dart.crossing - 1) dart.slot is.slot)
+dart_at-place crossings dart is = grind (arith, nat_tests)
 
 -- two darts are one exactly where their places are
 is_same_dart-at : (place : ℕ) → is_same_dart (dart_at place) (dart_at place) ≡ true
-is_same_dart-at place =
-    and_from (nat_eq (place / 4 + 1) (place / 4 + 1)) (nat_eq (place % 4) (place % 4)) (eq-eqb (place / 4 + 1) (place / 4 + 1) refl)
-    (eq-eqb (place % 4) (place % 4) refl)
+is_same_dart-at place = grind (arith, nat_tests)
 
 same_place : (place other : ℕ) → is_same_dart (dart_at place) (dart_at other) ≡ true → place ≡ other
-same_place place other holds =
-    let both = and_parts (nat_eq (place / 4 + 1) (other / 4 + 1)) (nat_eq (place % 4) (other % 4)) holds in
-    omega (arith, eqb-true (place / 4 + 1) (other / 4 + 1) both.0, eqb-true (place % 4) (other % 4) both.1)
+same_place place other holds = grind (arith, nat_tests)
 
 -- the places of the darts of an arc are as many as its darts
 count-is_dart_of : (crossings : List (List ℕ)) (arc : ℕ)
     → count_by (is_dart_of crossings arc) (range_with_len 0 (4 * length crossings)) ≡ times crossings arc
-count-is_dart_of crossings arc =
-    sym (count_by-map (λ dart. nat_eq (arc_of crossings dart) arc) dart_at (range_with_len 0 (4 * length crossings)))
+count-is_dart_of crossings arc = grind (arith, nat_tests, count_by-map)
 
 -- another place with a dart of the same arc
 pub record IsOtherPlace (crossings : List (List ℕ)) (place other : ℕ) : Type 0 where
@@ -73,26 +63,11 @@ pub record IsOtherPlace (crossings : List (List ℕ)) (place other : ℕ) : Type
 -- these are the places that a search for a partner accepts
 is_partner_at-other : (crossings : List (List ℕ)) (place other : ℕ) → IsOtherPlace crossings place other
     → is_partner_at crossings (dart_at place) other ≡ true
-is_partner_at-other crossings place other is =
-    and_from (nat_eq (arc_of crossings (dart_at other)) (arc_of crossings (dart_at place)))
-    (not (is_same_dart (dart_at other) (dart_at place)))
-    (eq-eqb (arc_of crossings (dart_at other)) (arc_of crossings (dart_at place)) is.same_arc)
-    (elim (cases_Bool (is_same_dart (dart_at other) (dart_at place))) [
-      | inl same ↦ absurd (is.differs (same_place other place same))
-      | inr apart ↦ ap not apart
-    ])
+is_partner_at-other crossings place other is = grind (arith, nat_tests)
 
 other-is_partner_at : (crossings : List (List ℕ)) (place other : ℕ) → other < 4 * length crossings
     → is_partner_at crossings (dart_at place) other ≡ true → IsOtherPlace crossings place other
-other-is_partner_at crossings place other below passes =
-    let same = is_same_dart (dart_at other) (dart_at place) in
-    let tells = and_parts (nat_eq (arc_of crossings (dart_at other)) (arc_of crossings (dart_at place))) (not same) passes in
-    record {
-      below = below;
-      differs = λ is. both_ways same (not-true same tells.1)
-          (ap (λ k. is_same_dart (dart_at k) (dart_at place)) is ∙ is_same_dart-at place);
-      same_arc = eqb-true (arc_of crossings (dart_at other)) (arc_of crossings (dart_at place)) tells.0;
-    }
+other-is_partner_at crossings place other below passes = grind (arith, nat_tests)
 
 -- where the arc of a dart stands twice, the search accepts one place
 count-is_partner_at : (crossings : List (List ℕ)) (place : ℕ) → place < 4 * length crossings
@@ -114,23 +89,16 @@ count-is_partner_at crossings place below twice =
 
 -- the partner of the dart at a place is the dart at the place that the search finds
 found_dart : (o : Option ℕ) (place : ℕ) → unwrap_or (option_map dart_at o) (dart_at place) ≡ dart_at (unwrap_or o place)
-found_dart None place = refl
-found_dart (Some other) place = refl
+found_dart o place = grind (arith, nat_tests)
 
 partner-found : (crossings : List (List ℕ)) (place : ℕ)
     → partner crossings (dart_at place)
     ≡ dart_at (unwrap_or (find (is_partner_at crossings (dart_at place)) (range_with_len 0 (4 * length crossings))) place)
-partner-found crossings place =
-    let places = range_with_len 0 (4 * length crossings) in
-    ap (λ o. unwrap_or o (dart_at place)) (find-map (is_partner crossings (dart_at place)) dart_at places)
-    ∙ found_dart (find (is_partner_at crossings (dart_at place)) places) place
+partner-found crossings place = grind (arith, nat_tests, find-map, found_dart, is_partner_at)
 
 pub partner-at_place : (crossings : List (List ℕ)) (place : ℕ)
     → partner crossings (dart_at place) ≡ dart_at (partner_at crossings place)
-partner-at_place crossings place =
-    let found = unwrap_or (find (is_partner_at crossings (dart_at place)) (range_with_len 0 (4 * length crossings))) place in
-    partner-found crossings place
-    ∙ ap dart_at (sym (ap dart_place (partner-found crossings place) ∙ dart_place-at found))
+partner-at_place crossings place = grind (arith, nat_tests, is_partner_at, partner-found, dart_place-at)
 
 -- the arc of the dart at a place stands twice
 twice-at : (crossings : List (List ℕ)) (place : ℕ) → HasArcsTwice crossings → place < 4 * length crossings
@@ -179,8 +147,7 @@ IsPairing-partner_at crossings twice = record {
 
 pub partner-is : (crossings : List (List ℕ)) (dart : Dart) → IsDart crossings dart
     → partner crossings dart ≡ dart_at (partner_at crossings (dart_place dart))
-partner-is crossings dart is =
-    ap (λ d. partner crossings d) (sym (dart_at-place crossings dart is)) ∙ partner-at_place crossings (dart_place dart)
+partner-is crossings dart is = grind (arith, nat_tests, dart_at-place, partner-at_place)
 
 pub IsOtherDart-partner : (crossings : List (List ℕ)) (dart : Dart) → HasArcsTwice crossings → IsDart crossings dart
     → IsOtherDart crossings dart (partner crossings dart)
@@ -223,10 +190,7 @@ partner-partner crossings dart twice is =
 -- whether two darts are one
 cases_dart : (crossings : List (List ℕ)) (dart other : Dart) → IsDart crossings dart → IsDart crossings other
     → (dart ≡ other) ⊎ (dart ≢ other)
-cases_dart crossings dart other is is_other = elim (cases_eq (dart_place dart) (dart_place other)) [
-  | inl same ↦ inl (sym (dart_at-place crossings dart is) ∙ ap dart_at same ∙ dart_at-place crossings other is_other)
-  | inr apart ↦ inr (λ same. apart (ap dart_place same))
-]
+cases_dart crossings dart other is is_other = grind (arith, nat_tests)
 
 -- each dart of an arc is a given dart of it or that one's partner
 pub dart_or_partner : (crossings : List (List ℕ)) (dart other : Dart) → HasArcsTwice crossings → IsDart crossings dart
@@ -256,9 +220,7 @@ IsDartOf-first_dart crossings arc twice is_arc =
 -- so each dart of an arc is the first one or the first one's partner
 pub first_dart_or_partner : (crossings : List (List ℕ)) (arc : ℕ) (dart : Dart) → HasArcsTwice crossings → IsArc crossings arc
     → IsDartOf crossings arc dart → (dart ≡ first_dart crossings arc) ⊎ (dart ≡ partner crossings (first_dart crossings arc))
-first_dart_or_partner crossings arc dart twice is_arc is =
-    let first = IsDartOf-first_dart crossings arc twice is_arc in
-    dart_or_partner crossings (first_dart crossings arc) dart twice first.within is.within (is.on_arc ∙ sym first.on_arc)
+first_dart_or_partner crossings arc dart twice is_arc is = grind (arith, nat_tests, IsDartOf-first_dart, dart_or_partner)
 
 pub HasPairedDarts-twice : (crossings : List (List ℕ)) → HasArcsTwice crossings → HasPairedDarts crossings
 HasPairedDarts-twice crossings twice = record {

@@ -1,4 +1,5 @@
 -- A row that a combination of others gives may be put to 0, and so may a column.
+use Rattle.std.proofs.lemmas.Bool.Decides.{nat_tests}
 use Rattle.std.proofs.Common.{◌≡◌, ℕ, zero, suc, ◌+◌, ◌-◌, ◌*◌, ◌%◌, ◌<◌, ◌≢◌, ◌∙◌, inl, inr, refl, ap, sym, arith, Bool}
 use Rattle.std.specs.Prelude.{nat_eq, if◌then◌else◌}
 use Rattle.std.proofs.lemmas.Bool.Decides.{eqb_tells}
@@ -55,18 +56,10 @@ abbrev pub column_cleared : ℕ → (ℕ → ℕ → ℕ) → ℕ → ℕ → �
 column_cleared a matrix row column = if nat_eq column a then 0 else matrix row column
 
 row_cleared-at : (a i j : ℕ) (M : ℕ → ℕ → ℕ) → i ≡ a → row_cleared a M i j ≡ 0
-row_cleared-at a i j M same =
-    elim (eqb_tells i a) [
-      | inl yes_same ↦ ap (λ is_a. if is_a then 0 else M i j) yes_same.0
-      | inr other ↦ absurd (other.1 same)
-    ]
+row_cleared-at a i j M same = grind (arith, nat_tests)
 
 row_cleared-other : (a i j : ℕ) (M : ℕ → ℕ → ℕ) → i ≢ a → row_cleared a M i j ≡ M i j
-row_cleared-other a i j M differs =
-    elim (eqb_tells i a) [
-      | inl same ↦ absurd (differs same.1)
-      | inr other ↦ ap (λ is_a. if is_a then 0 else M i j) other.0
-    ]
+row_cleared-other a i j M differs = grind (arith, nat_tests)
 
 pub factors-row_cleared : (p s a : ℕ) (M : ℕ → ℕ → ℕ) → Factors p M s → Factors p (row_cleared a M) s
 factors-row_cleared p s a M =
@@ -77,14 +70,9 @@ factors-row_cleared p s a M =
 pub sum_below-apart : (m a : ℕ) (f g : ℕ → ℕ) → a < m → g a ≡ 0 → ((l : ℕ) → l ≢ a → g l ≡ f l)
     → sum_below m f ≡ f a + sum_below m g
 sum_below-apart zero a f g below is_zero others = absurd (omega arith)
-sum_below-apart (suc m) zero f g below is_zero others =
-    let rest = sum_below-equal m (λ k. g (suc k)) (λ k. f (suc k)) (λ k. others (suc k) (omega arith)) in
-    omega arith
+sum_below-apart (suc m) zero f g below is_zero others = grind (arith, nat_tests, sum_below-equal)
 sum_below-apart (suc m) (suc a) f g below is_zero others =
-    let first = others 0 (omega arith) in
-    let rest = sum_below-apart m a (λ k. f (suc k)) (λ k. g (suc k)) (omega arith) is_zero
-    (λ l differs. others (suc l) (λ same. differs (omega arith))) in
-    omega arith
+    grind (arith, nat_tests, sum_below-apart m a (λ k. f (suc k)) (λ k. g (suc k)) (omega arith) is_zero (λ l differs. others (suc l) (λ same. differs (omega arith))))
 
 pub factors-row_back : (p s m a : ℕ) (M : ℕ → ℕ → ℕ) → HasInverses p → IsDependent p m a M → Factors p (row_cleared a M) s
     → Factors p M s

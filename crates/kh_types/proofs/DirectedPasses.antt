@@ -25,8 +25,7 @@ IsDart-across crossings dart is = record { crossing = is.crossing; slot = omega 
 
 -- darts at the same crossing and slot are one
 pub same_dart : (dart other : Dart) → dart.crossing ≡ other.crossing → dart.slot ≡ other.slot → dart ≡ other
-same_dart dart other same same_slot =
-    ap (λ crossing. dart_with crossing dart.slot) same ∙ ap (λ slot. dart_with other.crossing slot) same_slot
+same_dart dart other same same_slot = grind (arith, nat_tests)
 
 pub across-across : (dart : Dart) → dart.slot < 4 → across (across dart) ≡ dart
 across-across dart below = same_dart (across (across dart)) dart refl (omega arith)
@@ -54,12 +53,7 @@ is_head-across crossings dart below = turned_round (is_positive crossings dart.c
 pub head-cases : (crossings : List (List ℕ)) (dart : Dart) → is_head crossings dart ≡ true
     → (dart.slot ≡ 0)
     ⊎ (((is_positive crossings dart.crossing ≡ true) × (dart.slot ≡ 3)) ⊎ ((is_positive crossings dart.crossing ≡ false) × (dart.slot ≡ 1)))
-head-cases crossings dart is = cases (is_positive crossings dart.crossing) dart.slot is
-  where
-    cases : (positive : Bool) (slot : ℕ) → (nat_eq slot 0 || nat_eq slot (if positive then 3 else 1)) ≡ true
-        → (slot ≡ 0) ⊎ (((positive ≡ true) × (slot ≡ 3)) ⊎ ((positive ≡ false) × (slot ≡ 1)))
-    cases true slot is = grind (arith, nat_tests)
-    cases false slot is = grind (arith, nat_tests)
+head-cases crossings dart is = grind (arith, nat_tests)
 
 -- the test by which a crossing is positive, in components of three arcs or more and in smaller ones
 pub by_size : (m : ℕ) (large small : Bool) → 2 < m → (if nat_le 3 m then large else small) ≡ large
@@ -96,18 +90,7 @@ over-both crossings crossing directed is small =
 pub over-positive : (crossings : List (List ℕ)) (crossing : ℕ) → IsDirected crossings → IsCrossing crossings crossing
     → is_positive crossings crossing ≡ true
     → arc_in (slots_of crossings crossing) 1 ≡ next crossings (arc_in (slots_of crossings crossing) 3)
-over-positive crossings crossing directed is positive =
-    let slots = slots_of crossings crossing in
-    let components = components_of crossings in
-    elim (cases_lt 2 (size_at crossings (arc_in slots 1))) [
-      | inr small ↦ (over-both crossings crossing directed is small).1
-      | inl large ↦
-          eqb-true (arc_in slots 1) (next crossings (arc_in slots 3))
-          (sym
-          (by_size (size_at crossings (arc_in slots 1)) (is_positive_by_next components slots)
-          (is_positive_of_two crossings components crossing) large)
-          ∙ positive)
-    ]
+over-positive crossings crossing directed is positive = grind (arith, nat_tests, cases_lt, size_at, over-both, eqb-true, by_size)
 
 -- that of any other leads from slot 1 to slot 3
 pub over-negative : (crossings : List (List ℕ)) (crossing : ℕ) → IsDirected crossings → IsCrossing crossings crossing
@@ -158,28 +141,11 @@ arc_of-across crossings dart directed is head =
 pub is_positive-under : (crossings : List (List ℕ)) (crossing under : ℕ) → size_at crossings (arc_in (slots_of crossings crossing) 1) ≤ 2
     → first_under crossings (components_of crossings) (component crossings (arc_in (slots_of crossings crossing) 1)) ≡ Some under
     → is_positive crossings crossing ≡ is_positive_by_under crossings (slots_of crossings crossing) under
-is_positive-under crossings crossing under small found =
-    let slots = slots_of crossings crossing in
-    let components = components_of crossings in
-    let first = nat_eq (unwrap_or (first_over crossings components (component crossings (arc_in slots 1))) 0) crossing in
-    by_smallness (size_at crossings (arc_in slots 1)) (is_positive_by_next components slots)
-    (is_positive_of_two crossings components crossing) small
-    ∙ ap
-    (λ (o : Option ℕ). if is_some o then is_positive_by_under crossings slots (unwrap_or o 0) else is_positive_by_order slots first)
-    found
+is_positive-under crossings crossing under small found = grind (arith, nat_tests)
 
 -- and by the first over pass, where it passes under nowhere
 pub is_positive-order : (crossings : List (List ℕ)) (crossing over : ℕ) → size_at crossings (arc_in (slots_of crossings crossing) 1) ≤ 2
     → first_under crossings (components_of crossings) (component crossings (arc_in (slots_of crossings crossing) 1)) ≡ None
     → first_over crossings (components_of crossings) (component crossings (arc_in (slots_of crossings crossing) 1)) ≡ Some over
     → is_positive crossings crossing ≡ is_positive_by_order (slots_of crossings crossing) (nat_eq over crossing)
-is_positive-order crossings crossing over small none found =
-    let slots = slots_of crossings crossing in
-    let components = components_of crossings in
-    let first = nat_eq (unwrap_or (first_over crossings components (component crossings (arc_in slots 1))) 0) crossing in
-    by_smallness (size_at crossings (arc_in slots 1)) (is_positive_by_next components slots)
-    (is_positive_of_two crossings components crossing) small
-    ∙ ap
-    (λ (o : Option ℕ). if is_some o then is_positive_by_under crossings slots (unwrap_or o 0) else is_positive_by_order slots first)
-    none
-    ∙ ap (λ (o : Option ℕ). is_positive_by_order slots (nat_eq (unwrap_or o 0) crossing)) found
+is_positive-order crossings crossing over small none found = grind (arith, nat_tests)

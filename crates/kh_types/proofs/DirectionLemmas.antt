@@ -1,5 +1,6 @@
 -- Counts of signs.
-use Rattle.std.proofs.Common.{◌≤◌, ℕ, List, length, subst}
+use Rattle.std.proofs.lemmas.Bool.Decides.{nat_tests}
+use Rattle.std.proofs.Common.{arith, ◌≤◌, ℕ, List, length, subst}
 use Rattle.std.proofs.lemmas.List.Sums.{count_by-le-length}
 use Rattle.std.proofs.lemmas.List.FromFn.{length-range_with_len}
 use Rattle.kh_types.specs.Code.{crossing_numbers}
@@ -8,6 +9,4 @@ use Rattle.kh_types.specs.Directions.{plus_count, is_positive_in}
 
 -- no more crossings are positive than there are
 pub plus_count-le : (crossings : List (List ℕ)) → plus_count crossings ≤ length crossings
-plus_count-le crossings =
-    subst (λ (n : ℕ). plus_count crossings ≤ n) (length-range_with_len 1 (length crossings))
-    (count_by-le-length (is_positive_in crossings (components_of crossings)) (crossing_numbers crossings))
+plus_count-le crossings = grind (arith, nat_tests, length-range_with_len, count_by-le-length)

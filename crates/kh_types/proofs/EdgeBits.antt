@@ -1,4 +1,5 @@
 -- The bits of a number to which a power of two is added where it has a 0.
+use Rattle.std.proofs.lemmas.Bool.Decides.{nat_tests}
 use Rattle.std.proofs.Common.{◌≡◌, ◌≢◌, ℕ, ◌⊎◌, inl, inr, ◌+◌, ◌-◌, ◌*◌, ◌/◌, ◌%◌, ◌^◌, ◌<◌, ◌≤◌, ◌∙◌, sym, ap, arith}
 use Rattle.std.proofs.Math.Nat.{add-div_right, add-mul-div_right, div-div-eq-div-mul, div-lt_iff_lt-mul, lt-mul-div-succ, mul-le-mul_right}
 use Rattle.std.proofs.lemmas.Nat.{pow-add, pow_pos}
@@ -15,8 +16,7 @@ same-by_two x y = omega arith
 
 -- the bit there becomes 1
 pub bit-set_there : (state place : ℕ) → bit state place ≡ 0 → bit (state + 2 ^ place) place ≡ 1
-bit-set_there state place is_zero =
-    ap (λ q. q % 2) (add-div_right state (pow_pos place)) ∙ odd-next (state / 2 ^ place) is_zero
+bit-set_there state place is_zero = grind (arith, nat_tests, add-div_right, pow_pos, odd-next)
 
 -- at a lower place a multiple of two is added
 set-below : (state low rest : ℕ) → bit (state + 2 ^ (low + (rest + 1))) low ≡ bit state low
@@ -28,18 +28,10 @@ set-below state low rest =
 
 -- at a higher place the half of an even number stays
 high-quotient : (state place rest : ℕ) → state / 2 ^ (place + (1 + rest)) ≡ state / 2 ^ place / 2 / 2 ^ rest
-high-quotient state place rest =
-    ap (λ p. state / p) (pow-add 2 place (1 + rest) ∙ ap (λ p. 2 ^ place * p) (pow-add 2 1 rest))
-    ∙ sym (div-div-eq-div-mul state (2 ^ place) (2 * 2 ^ rest))
-    ∙ sym (div-div-eq-div-mul (state / 2 ^ place) 2 (2 ^ rest))
+high-quotient state place rest = grind (arith, nat_tests, pow-add, div-div-eq-div-mul)
 
 set-above : (state place rest : ℕ) → bit state place ≡ 0 → bit (state + 2 ^ place) (place + (1 + rest)) ≡ bit state (place + (1 + rest))
-set-above state place rest is_zero =
-    ap (λ q. q % 2)
-    (high-quotient (state + 2 ^ place) place rest
-    ∙ ap (λ q. q / 2 / 2 ^ rest) (add-div_right state (pow_pos place))
-    ∙ ap (λ q. q / 2 ^ rest) (half-same (state / 2 ^ place) is_zero)
-    ∙ sym (high-quotient state place rest))
+set-above state place rest is_zero = grind (arith, nat_tests, high-quotient, add-div_right, pow_pos, half-same)
 
 pub lower_or_higher : (k place : ℕ) → k ≢ place → (k < place) ⊎ (place < k)
 lower_or_higher k place other = grind arith

@@ -1,5 +1,6 @@
 -- Along an edge two images of the permutation are exchanged, those of the two arcs that come to the crossing: so their circles are
 -- joined, or one circle is parted.
+use Rattle.std.proofs.lemmas.Bool.Decides.{nat_tests}
 use Rattle.std.proofs.Common.{◌≡◌, ◌≢◌, ℕ, ◌⊎◌, inl, inr, ◌+◌, ◌-◌, ◌*◌, ◌/◌, ◌%◌, ◌<◌, ◌∙◌, List, refl, sym, ap, subst, length, arith, IsTrue}
 use Rattle.kh_types.specs.Acceptance.{accepted}
 use Rattle.kh_types.specs.Bits.{bit}
@@ -18,10 +19,7 @@ use Rattle.kh_types.proofs.Exchanges.{AreJoined-exchanged}
 use Rattle.kh_types.proofs.JoinedSlots.{across-slot, arc_at-slot, place_colour}
 
 place_colour-slot : (choice k slot : ℕ) → slot < 4 → place_colour choice (4 * k + slot) ≡ (bit choice k + slot) % 2
-place_colour-slot choice k slot below =
-    let here : (4 * k + slot) / 4 ≡ k = omega (arith, below) in
-    let there : (4 * k + slot) % 4 ≡ slot = omega (arith, below) in
-    ap (λ j. (bit choice j + (4 * k + slot) % 4) % 2) here ∙ ap (λ s. (bit choice k + s) % 2) there
+place_colour-slot choice k slot below = grind (arith, nat_tests)
 
 -- one step from the dart at a slot of the crossing
 step-slot : (crossings : List (List ℕ)) (choice state side k slot smoothing : ℕ) → HasArcsTwice crossings
@@ -30,20 +28,12 @@ step-slot : (crossings : List (List ℕ)) (choice state side k slot smoothing : 
     → follower crossings choice state side (arc_at crossings (4 * k + slot))
     ≡ arc_at crossings (4 * k + joined_slot smoothing slot)
 step-slot crossings choice state side k slot smoothing twice coloured side_below below slot_below is_side is_bit =
-    follower-place crossings choice state side (4 * k + slot) twice coloured side_below (omega (arith, below, slot_below)) is_side
-    ∙ ap (λ p. arc_at crossings p) (across-slot state k slot slot_below)
-    ∙ ap (λ b. arc_at crossings (4 * k + joined_slot b slot)) is_bit
+    grind (arith, nat_tests, follower-place, across-slot)
 
 -- a dart of the same colour as slot 0, at its crossing, is at slot 0 or at slot 2
 same_colour : (choice k place : ℕ) → place / 4 ≡ k → place_colour choice place ≡ place_colour choice (4 * k + 0)
     → (place ≡ 4 * k + 0) ⊎ (place ≡ 4 * k + 2)
-same_colour choice k place here alike =
-    even (bit choice k) (place % 4) place k (omega arith) (omega (arith, here))
-    (ap (λ j. (bit choice j + place % 4) % 2) (sym here) ∙ alike ∙ place_colour-slot choice k 0 (omega arith))
-  where
-    even : (x slot place k : ℕ) → slot < 4 → place ≡ 4 * k + slot → (x + slot) % 2 ≡ (x + 0) % 2
-        → (place ≡ 4 * k + 0) ⊎ (place ≡ 4 * k + 2)
-    even x slot place k below is same = grind arith
+same_colour choice k place here alike = grind (arith, nat_tests)
 
 -- two states that differ at the crossing at one place, by the arcs at its slots 0 and 2
 IsExchange-edge : (code : Code) (choice tail head k : ℕ) → IsTrue (accepted code) → IsColoured code.crossings choice

@@ -107,20 +107,11 @@ record AreOn (code : Code) (state crossing k g : ℕ) : Type 0 where
 
 touches : (code : Code) (state crossing k g x : ℕ) → AreOn code state crossing k g → (x ≡ k) ⊎ (x ≡ g)
     → slice_index (circles_of code state) x ≡ x → (is_least (circles_of code state) x && is_touched code state crossing x) ≡ true
-touches code state crossing k g x on is own =
-    and_from (is_least (circles_of code state) x) (is_touched code state crossing x) (eq-eqb (slice_index (circles_of code state) x) x own)
-    (is_touched-slots code state crossing x
-    ∙ hit (circle_at code state crossing 0) (circle_at code state crossing 1) (circle_at code state crossing 2)
-    (circle_at code state crossing 3) k g x on.two is)
+touches code state crossing k g x on is own = grind (arith, nat_tests)
 
 touches_not : (code : Code) (state crossing k g x : ℕ) → AreOn code state crossing k g → x ≢ k → x ≢ g
     → (is_least (circles_of code state) x && is_touched code state crossing x) ≡ false
-touches_not code state crossing k g x on not_k not_g =
-    and_right (is_least (circles_of code state) x) (is_touched code state crossing x)
-    (is_touched-slots code state crossing x
-    ∙ missed (circle_at code state crossing 0) (circle_at code state crossing 1) (circle_at code state crossing 2)
-    (circle_at code state crossing 3) k g x (elim on.two [ inl s ↦ inl s.0 | inr s ↦ inr s.0 ]) on.second
-    (elim on.two [ inl s ↦ inr s.1 | inr s ↦ inl s.1 ]) on.fourth not_k not_g)
+touches_not code state crossing k g x on not_k not_g = grind (arith, nat_tests)
 
 -- so it touches these two
 touched-two : (code : Code) (state crossing k g : ℕ) → AreOn code state crossing k g → 1 ≤ k → k < g

@@ -12,25 +12,12 @@ use Rattle.kh_types.specs.Permutations.{AreJoined, IsExchange}
 use Rattle.kh_types.proofs.Ways.{IsOneToOne, IsWay-whole}
 
 pub IsExchange-back : (m : ℕ) (f other : ℕ → ℕ) (d e : ℕ) → IsExchange m f other d e → IsExchange m other f d e
-IsExchange-back m f other d e exchanged = record {
-  x_below = exchanged.x_below;
-  y_below = exchanged.y_below;
-  apart = exchanged.apart;
-  at_x = sym exchanged.at_y;
-  at_y = sym exchanged.at_x;
-  others = λ x below not_d not_e. sym (exchanged.others x below not_d not_e);
-}
+IsExchange-back m f other d e exchanged = omega arith
 
 -- what the steps from all numbers keep, said of d, of e and of the others
 keeps-each : (m : ℕ) (f g : ℕ → ℕ) (d e : ℕ) → g d ≡ g (f d) → g e ≡ g (f e) → ((y : ℕ) → y < m → y ≢ d → y ≢ e → g y ≡ g (f y))
     → (y : ℕ) → y < m → g y ≡ g (f y)
-keeps-each m f g d e at_d at_e others y below = elim (cases_eq y d) [
-  | inl is_d ↦ ap g is_d ∙ at_d ∙ ap (λ z. g (f z)) (sym is_d)
-  | inr not_d ↦ elim (cases_eq y e) [
-    | inl is_e ↦ ap g is_e ∙ at_e ∙ ap (λ z. g (f z)) (sym is_e)
-    | inr not_e ↦ others y below not_d not_e
-  ]
-]
+keeps-each m f g d e at_d at_e others y below = grind (arith, nat_tests)
 
 -- d and e are on two cycles of the one function and on one of the other
 pub record ArePartedBy (cycles joined : List ℕ) (d e : ℕ) : Type 0 where

@@ -1,4 +1,5 @@
 -- Matrices that factor through a number: what is left by a pivot factors through one less, and what leads back to it.
+use Rattle.std.proofs.lemmas.Bool.Decides.{nat_tests}
 use Rattle.std.proofs.Common.{◌≡◌, ℕ, zero, suc, ◌+◌, ◌-◌, ◌*◌, ◌%◌, ◌<◌, ◌∙◌, inl, inr, refl, ap, sym, arith}
 use Rattle.std.proofs.lemmas.Bool.Decides.{eqb_tells}
 use Rattle.kh_types.specs.Rank.{inverse}
@@ -13,8 +14,7 @@ in_front first rest zero = first
 in_front first rest (suc k) = rest k
 
 pub factors-same : (p s : ℕ) (M N : ℕ → ℕ → ℕ) → ((i j : ℕ) → Same p (M i j) (N i j)) → Factors p M s → Factors p N s
-factors-same p s M N same f =
-    record { left = f.left; right = f.right; product = λ i j. f.product i j ∙ same i j }
+factors-same p s M N same f = grind (arith, nat_tests)
 
 -- a column times a row is added
 pub factors-added : (p s : ℕ) (u v : ℕ → ℕ) (M N : ℕ → ℕ → ℕ) → ((i j : ℕ) → Same p (u i * v j + N i j) (M i j))

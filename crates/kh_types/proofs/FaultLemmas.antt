@@ -1,4 +1,5 @@
 -- The first fault of the numbers of a range.
+use Rattle.std.proofs.lemmas.Bool.Decides.{nat_tests}
 use Rattle.std.proofs.Common.{◌≡◌, ℕ, zero, suc, ◌+◌, ◌-◌, ◌<◌, ◌∙◌, List, [], ◌∷◌, ◌++◌, refl, ap, sym, arith}
 use Rattle.std.specs.Prelude.{Option, Some, None, is_none, IsTrue}
 use Rattle.std.specs.List.{range_with_len}
@@ -9,15 +10,12 @@ use Rattle.kh_types.specs.Acceptance.{first_of, direction_fault, checkerboard_fa
 use Rattle.kh_types.proofs.Ranges.{range_more, range_around}
 
 option_or_assoc : (a b c : Option CodeFault) → option_or (option_or a b) c ≡ option_or a (option_or b c)
-option_or_assoc None b c = refl
-option_or_assoc (Some x) b c = refl
+option_or_assoc a b c = grind (arith, nat_tests)
 
 first_of-append : (fault_at : ℕ → Option CodeFault) (xs ys : List ℕ)
     → first_of fault_at (xs ++ ys) ≡ option_or (first_of fault_at xs) (first_of fault_at ys)
 first_of-append fault_at [] ys = refl
-first_of-append fault_at (x ∷ xs) ys =
-    ap (λ o. option_or (fault_at x) o) (first_of-append fault_at xs ys)
-    ∙ sym (option_or_assoc (fault_at x) (first_of fault_at xs) (first_of fault_at ys))
+first_of-append fault_at (x ∷ xs) ys = grind (arith, nat_tests, option_or_assoc, first_of-append fault_at xs ys)
 
 -- the fault of a number, where the numbers before it have none
 pub first_of_at : (fault_at : ℕ → Option CodeFault) (a n k j : ℕ) (fault : CodeFault) → k < n → a + k ≡ j
@@ -42,8 +40,7 @@ none_of_more fault_at a k j is_j none has_none =
 
 -- where the numbers of a range have no fault, none of them has one, and the other way round
 option_or-none : (a b : Option CodeFault) → option_or a b ≡ None → (a ≡ None) × (b ≡ None)
-option_or-none None b none = (refl, none)
-option_or-none (Some x) b none = absurd (cc)
+option_or-none a b none = grind (arith, nat_tests)
 
 pub none_at : (fault_at : ℕ → Option CodeFault) (a n k : ℕ) → k < n → first_of fault_at (range_with_len a n) ≡ None
     → fault_at (a + k) ≡ None
@@ -66,8 +63,7 @@ none_of_all fault_at a (suc n) none =
 
 -- no fault, by its test
 none_is : (fault : Option CodeFault) → IsTrue (is_none fault) → fault ≡ None
-none_is None none = refl
-none_is (Some x) none = absurd (cc)
+none_is fault none = grind (arith, nat_tests)
 
 -- an accepted code breaks none of the four groups of rules
 pub faults-from_accepted : (code : Code) → IsTrue (accepted code)
@@ -87,10 +83,7 @@ faults-from_accepted code holds =
 -- the first of four faults, where there is none
 first_of_none : (a b c d : Option CodeFault) → a ≡ None → b ≡ None → c ≡ None → d ≡ None
     → IsTrue (is_none (option_or a (option_or b (option_or c d))))
-first_of_none a b c d no_a no_b no_c no_d =
-    ap is_none
-    (ap (λ o. option_or o (option_or b (option_or c d))) no_a ∙ ap (λ o. option_or o (option_or c d)) no_b
-    ∙ ap (λ o. option_or o d) no_c ∙ no_d)
+first_of_none a b c d no_a no_b no_c no_d = grind (arith, nat_tests)
 
 pub accepted-from_faults : (code : Code)
     → (direction_fault code.crossings ≡ None) × (checkerboard_fault code.crossings ≡ None) × (genus_fault code.crossings ≡ None)

@@ -36,11 +36,7 @@ pub count_by-half : (p : ℕ → Bool) (a n : ℕ)
     → ((x : ℕ) → a ≤ x → x < a + n → p x ≡ true → (x + 1 < a + n) × (p (x + 1) ≡ false))
     → 2 * count_by p (range_with_len a n) ≤ n
 count_by-half p a zero apart = omega arith
-count_by-half p a (suc zero) apart = elim (cases_Bool (p a)) [
-  | inl passes ↦ absurd (omega (arith, (apart a (omega arith) (omega arith) passes).0))
-  | inr fails ↦
-      let none : count_by p (range_with_len a 1) ≡ 0 = first_of_range p a 0 ∙ ap (λ b. cond b 1 0 + 0) fails in omega (arith, none)
-]
+count_by-half p a (suc zero) apart = grind (arith, nat_tests, cases_Bool, first_of_range)
 count_by-half p a (suc (suc n)) apart = elim (cases_Bool (p a)) [
   | inl passes ↦
       let after = (apart a (omega arith) (omega arith) passes).1 in
@@ -62,30 +58,14 @@ count_by-half p a (suc (suc n)) apart = elim (cases_Bool (p a)) [
 step_of : (components : List ℕ) (arc : ℕ) → slice_index components arc ≡ arc
     → (if nat_eq (component_of components (arc + 1)) (component_of components arc) then arc + 1 else component_of components arc) ≢ arc
     → slice_index components (arc + 1) ≡ arc
-step_of components arc own differs = elim (cases_Bool (nat_eq (slice_index components (arc + 1)) (slice_index components arc))) [
-  | inl same ↦ eqb-true (slice_index components (arc + 1)) (slice_index components arc) same ∙ own
-  | inr other ↦ absurd (differs (ap (λ b. if b then arc + 1 else component_of components arc) other ∙ own))
-]
+step_of components arc own differs = grind (arith, nat_tests)
 
 -- so the least arc of a component is followed by an arc that is not the least of one
 least-apart : (crossings : List (List ℕ)) → IsDirected crossings → HasNoSingleArcs crossings → (arc : ℕ) → IsArc crossings arc
     → is_least (components_of crossings) arc ≡ true
     → (arc + 1 < 1 + arc_count crossings) × (is_least (components_of crossings) (arc + 1) ≡ false)
 least-apart crossings directed no_single arc is least =
-    let components = components_of crossings in
-    let own = eqb-true (slice_index components arc) arc least in
-    let after = step_of components arc own (no_single arc is) in
-    let inside : arc + 1 < 1 + arc_count crossings = elim (cases_lt (arc + 1) (1 + arc_count crossings)) [
-      | inl below ↦ below
-      | inr past ↦
-          let zero_there : slice_index components (arc + 1) ≡ 0 =
-          get_or_past components (arc + 1) 0 (omega (arith, (IsNamed-components_of crossings directed).size, past)) in
-          absurd (omega (arith, after, zero_there, is.positive))
-    ] in (
-      inside,
-      false_from_ne_true (is_least components (arc + 1))
-          (λ same. omega (arith, after, eqb-true (slice_index components (arc + 1)) (arc + 1) same)),
-    )
+    grind (arith, nat_tests, eqb-true, step_of, cases_lt, get_or_past, IsNamed-components_of, false_from_ne_true)
 
 pub component_count-le : (crossings : List (List ℕ)) → IsDirected crossings → HasNoSingleArcs crossings
     → component_count crossings ≤ length crossings
@@ -100,49 +80,25 @@ component_count-le crossings directed no_single =
 
 option_or-other : (count : ℕ) (a b : Option CodeFault) → a ≢ Some (Components count) → b ≢ Some (Components count)
     → option_or a b ≢ Some (Components count)
-option_or-other count None b first second = second
-option_or-other count (Some fault) b first second = first
+option_or-other count a b first second = grind (arith, nat_tests)
 
 first_of-other : (count : ℕ) (fault_at : ℕ → Option CodeFault) (xs : List ℕ)
     → ((x : ℕ) → fault_at x ≢ Some (Components count)) → first_of fault_at xs ≢ Some (Components count)
 first_of-other count fault_at [] each = λ same. absurd (cc)
-first_of-other count fault_at (x ∷ xs) each =
-    option_or-other count (fault_at x) (first_of fault_at xs) (each x) (first_of-other count fault_at xs each)
+first_of-other count fault_at (x ∷ xs) each = grind (arith, nat_tests, option_or-other, first_of-other count fault_at xs each)
 
 fault_if-other : (count : ℕ) (holds : Bool) (fault : CodeFault) → fault ≢ Components count
     → fault_if holds fault ≢ Some (Components count)
-fault_if-other count true fault other = λ same. other (ap (λ o. unwrap_or o fault) same)
-fault_if-other count false fault other = λ same. absurd (cc)
+fault_if-other count holds fault other = grind (arith, nat_tests)
 
 direction_fault-other : (count : ℕ) (crossings : List (List ℕ)) → direction_fault crossings ≢ Some (Components count)
-direction_fault-other count crossings =
-    option_or-other count (arc_range_fault crossings) (option_or (arc_times_fault crossings) (option_or (interval_fault crossings)
-    (option_or (under_fault crossings) (option_or (over_fault crossings) (two_arc_fault crossings)))))
-    (first_of-other count (arc_range_at crossings) (range_with_len 0 (dart_count crossings))
-    (λ place. fault_if-other count _ _ (λ same. absurd (cc))))
-    (option_or-other count (arc_times_fault crossings) (option_or (interval_fault crossings)
-    (option_or (under_fault crossings) (option_or (over_fault crossings) (two_arc_fault crossings))))
-    (first_of-other count (arc_times_at crossings) (arcs crossings) (λ arc. fault_if-other count _ _ (λ same. absurd (cc))))
-    (option_or-other count (interval_fault crossings)
-    (option_or (under_fault crossings) (option_or (over_fault crossings) (two_arc_fault crossings)))
-    (first_of-other count (interval_at (components_of crossings)) (arcs crossings)
-    (λ arc. fault_if-other count _ _ (λ same. absurd (cc))))
-    (option_or-other count (under_fault crossings) (option_or (over_fault crossings) (two_arc_fault crossings))
-    (first_of-other count (under_at crossings (components_of crossings)) (crossing_numbers crossings)
-    (λ crossing. fault_if-other count _ _ (λ same. absurd (cc))))
-    (option_or-other count (over_fault crossings) (two_arc_fault crossings)
-    (first_of-other count (over_at crossings (components_of crossings)) (crossing_numbers crossings)
-    (λ crossing. fault_if-other count _ _ (λ same. absurd (cc))))
-    (first_of-other count (two_arc_at crossings (components_of crossings)) (crossing_numbers crossings)
-    (λ crossing. fault_if-other count _ _ (λ same. absurd (cc))))))))
+direction_fault-other count crossings = grind (arith, nat_tests, option_or-other, first_of-other, fault_if-other)
 
 last_of : (count : ℕ) (direction checkerboard genus components : Option CodeFault) → direction ≢ Some (Components count)
     → checkerboard ≢ Some (Components count) → genus ≢ Some (Components count)
     → (direction ≡ None → checkerboard ≡ None → components ≢ Some (Components count))
     → option_or direction (option_or checkerboard (option_or genus components)) ≢ Some (Components count)
-last_of count (Some fault) checkerboard genus components first second third last = first
-last_of count None (Some fault) genus components first second third last = second
-last_of count None None genus components first second third last = option_or-other count genus components third (last refl refl)
+last_of count direction checkerboard genus components first second third last = grind (arith, nat_tests)
 
 few_fault : (most found : ℕ) (fault : CodeFault) → found ≤ most → fault_if (nat_lt most found) fault ≡ None
 few_fault most found fault few = grind (arith, nat_tests)

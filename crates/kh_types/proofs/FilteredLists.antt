@@ -1,4 +1,5 @@
 -- Lists of which a part alone passes a test.
+use Rattle.std.proofs.lemmas.Bool.Decides.{nat_tests}
 use Rattle.std.proofs.Common.{◌≡◌, ℕ, suc, ◌<◌, ◌∙◌, inl, inr, List, [], ◌∷◌, ◌++◌, length, get_or, refl, sym, ap, arith, Bool, false, cond}
 use Rattle.std.specs.List.{filter, flat_map, list_any}
 use Rattle.std.proofs.lemmas.Bool.{cases_Bool, or_parts}
@@ -15,14 +16,7 @@ filter-none p (x ∷ xs) d fails =
 pub flat_map-filter : {X Y : Type 0} (p : X → Bool) (f : X → List Y) (xs : List X) → ((x : X) → p x ≡ false → f x ≡ [])
     → flat_map f (filter p xs) ≡ flat_map f xs
 flat_map-filter p f [] none = refl
-flat_map-filter {X} {Y} p f (x ∷ xs) none = elim (cases_Bool (p x)) [
-  | inl passes ↦
-      ap (λ b. flat_map f (cond b (x ∷ filter p xs) (filter p xs))) passes
-      ∙ ap (λ (ys : List Y). f x ++ ys) (flat_map-filter p f xs none)
-  | inr fails ↦
-      ap (λ b. flat_map f (cond b (x ∷ filter p xs) (filter p xs))) fails ∙ flat_map-filter p f xs none
-      ∙ ap (λ (ys : List Y). ys ++ flat_map f xs) (sym (none x fails))
-]
+flat_map-filter {X} {Y} p f (x ∷ xs) none = grind (arith, nat_tests, cases_Bool, flat_map-filter p f xs none)
 
 -- what fails where another test does, which no element passes
 pub filter-unless_any : {X : Type 0} (p q : X → Bool) (xs : List X) → ((x : X) → p x ≡ false → q x ≡ false)

@@ -1,4 +1,5 @@
 -- The numbers of a range that pass a test, where they are one or two, and the place of one among them.
+use Rattle.std.proofs.lemmas.Bool.Decides.{nat_tests}
 use Rattle.std.proofs.Common.{◌≡◌, ◌≢◌, ℕ, zero, suc, ◌+◌, ◌-◌, ◌<◌, ◌≤◌, ◌∙◌, List, [], ◌∷◌, ◌++◌, length, refl, ap, arith, Bool, true, false, cond, not, ◌&&◌}
 use Rattle.std.specs.Prelude.{nat_eq}
 use Rattle.std.specs.List.{filter, position_or_len, range_with_len}
@@ -9,8 +10,7 @@ use Rattle.kh_types.proofs.Ranges.{range_around}
 pub filter-none : (p : ℕ → Bool) (a n : ℕ) → ((k : ℕ) → a ≤ k → k < a + n → p k ≡ false) → filter p (range_with_len a n) ≡ []
 filter-none p a zero fails = refl
 filter-none p a (suc n) fails =
-    ap (λ b. cond b (a ∷ filter p (range_with_len (a + 1) n)) (filter p (range_with_len (a + 1) n))) (fails a (omega arith) (omega arith))
-    ∙ filter-none p (a + 1) n (λ k from below. fails k (omega (arith, from)) (omega (arith, below)))
+    grind (arith, nat_tests, filter-none p (a + 1) n (λ k from below. fails k (omega (arith, from)) (omega (arith, below))))
 
 -- the first that passes
 filter-at : (p : ℕ → Bool) (a n k : ℕ) → a ≤ k → k < a + n → p k ≡ true → ((j : ℕ) → a ≤ j → j < k → p j ≡ false)
@@ -43,24 +43,15 @@ filter-two p a n k g from order below k_passes g_passes fails =
 -- what passes two tests, one after the other
 filter-both : (a b : Bool) (x : ℕ) (rest both : List ℕ) (p : ℕ → Bool) → p x ≡ b → filter p rest ≡ both
     → filter p (cond a (x ∷ rest) rest) ≡ cond (a && b) (x ∷ both) both
-filter-both true b x rest both p is_b same =
-    ap (λ c. cond c (x ∷ filter p rest) (filter p rest)) is_b ∙ ap (λ ys. cond b (x ∷ ys) ys) same
-filter-both false b x rest both p is_b same = same
+filter-both a b x rest both p is_b same = grind (arith, nat_tests)
 
 pub filter-filter : (p q : ℕ → Bool) (xs : List ℕ) → filter q (filter p xs) ≡ filter (λ x. p x && q x) xs
 filter-filter p q [] = refl
-filter-filter p q (x ∷ xs) =
-    filter-both (p x) (q x) x (filter p xs) (filter (λ y. p y && q y) xs) q refl (filter-filter p q xs)
+filter-filter p q (x ∷ xs) = grind (arith, nat_tests, filter-both, filter-filter p q xs)
 
 -- the place of a number behind the lesser ones that pass a test is how many those are
 pub position-behind : (p : ℕ → Bool) (a k c : ℕ) (rest : List ℕ) → a + k ≡ c
     → position_or_len (nat_eq c) (filter p (range_with_len a k) ++ c ∷ rest) ≡ length (filter p (range_with_len a k))
 position-behind p a zero c rest is = ap (λ b. cond (not b) (1 + position_or_len (nat_eq c) rest) 0) (eq-eqb c c refl)
 position-behind p a (suc k) c rest is =
-    let passed = filter p (range_with_len (a + 1) k) in
-    let later : position_or_len (nat_eq c) (passed ++ c ∷ rest) ≡ length passed = position-behind p (a + 1) k c rest (omega (arith, is)) in
-    let apart : nat_eq c a ≡ false = false_from_ne_true (nat_eq c a) (λ same. omega (arith, is, eqb-true c a same)) in
-    elim (p a) as (λ b. position_or_len (nat_eq c) (cond b (a ∷ passed) passed ++ c ∷ rest) ≡ length (cond b (a ∷ passed) passed)) [
-      | true ↦ ap (λ b. cond (not b) (1 + position_or_len (nat_eq c) (passed ++ c ∷ rest)) 0) apart ∙ ap (λ n. 1 + n) later ∙ omega arith
-      | false ↦ later
-    ]
+    grind (arith, nat_tests, false_from_ne_true, eqb-true, position-behind p (a + 1) k c rest (omega (arith, is)))

@@ -4,6 +4,7 @@
 -- the search for a head and that for a tail each find the one dart there is (`HasEnds-directed`), and each pass leads from a head to the
 -- dart across. A single arc, with both ends of its pass, would have two darts of one colour: a checkerboard excludes it, so accepted codes
 -- have none, and the same holds for them (`HasEnds-accepted`).
+use Rattle.std.proofs.lemmas.Bool.Decides.{nat_tests}
 use Rattle.std.proofs.Common.{◌≡◌, ℕ, inl, inr, ◌+◌, ◌*◌, ◌%◌, ◌<◌, ◌∙◌, ◌-◌, List, refl, sym, ap, subst, length, arith, Bool, true, false, not, ◌&&◌}
 use Rattle.std.specs.Prelude.{nat_eq, ◌||◌, if◌then◌else◌, unwrap_or, IsTrue, MatchBool}
 use Rattle.std.specs.List.{find, range_with_len}
@@ -182,9 +183,7 @@ same_end crossings arc dart end directed moves is end_is same =
 -- the partner of a dart of an arc is on that arc
 IsDartOf-partner : (crossings : List (List ℕ)) (arc : ℕ) (dart : Dart) → IsDirected crossings → IsDartOf crossings arc dart
     → IsDartOf crossings arc (partner crossings dart)
-IsDartOf-partner crossings arc dart directed is =
-    let beside = IsOtherDart-partner crossings dart (HasArcsTwice-directed crossings directed) is.within in
-    record { within = beside.within; on_arc = beside.same_arc ∙ is.on_arc }
+IsDartOf-partner crossings arc dart directed is = grind (arith, nat_tests, IsOtherDart-partner, HasArcsTwice-directed)
 
 pub HasEnds-directed : (crossings : List (List ℕ)) → IsDirected crossings → HasNoSingleArcs crossings → (arc : ℕ)
     → IsArc crossings arc → HasEnds crossings arc

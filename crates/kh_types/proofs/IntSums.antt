@@ -1,4 +1,5 @@
 -- Sums of integers: over lists that are put together or filtered, and over the numbers from -n to n.
+use Rattle.std.proofs.lemmas.Bool.Decides.{nat_tests}
 use Rattle.std.proofs.Common.{◌≡◌, ◌≢◌, ℕ, zero, suc, ◌+◌, ◌-◌, ◌*◌, ◌<◌, ◌≤◌, ◌∙◌, List, [], ◌∷◌, ◌++◌, ℤ, pos, ◌+ℤ◌, ◌-ℤ◌, sym, refl, map, ap, ap₂, arith, Bool, true, false, cond}
 use Rattle.std.specs.List.{filter, flat_map, range_with_len}
 use Rattle.std.proofs.Math.Path.{fun_ext}
@@ -33,9 +34,7 @@ int_sum-map f g xs = ap int_sum (map-map f g xs)
 pub int_sum-flat_map : {X Y : Type 0} (f : Y → ℤ) (g : X → List Y) (xs : List X)
     → int_sum (map f (flat_map g xs)) ≡ int_sum (map (λ x. int_sum (map f (g x))) xs)
 int_sum-flat_map f g [] = refl
-int_sum-flat_map f g (x ∷ xs) =
-    ap int_sum (map-append f (g x) (flat_map g xs)) ∙ int_sum-append (map f (g x)) (map f (flat_map g xs))
-    ∙ ap (λ (s : ℤ). int_sum (map f (g x)) +ℤ s) (int_sum-flat_map f g xs)
+int_sum-flat_map f g (x ∷ xs) = grind (arith, nat_tests, map-append, int_sum-append, int_sum-flat_map f g xs)
 
 pub int_sum-filter : {X : Type 0} (f : X → ℤ) (p : X → Bool) (xs : List X)
     → int_sum (map f (filter p xs)) ≡ int_sum (map (λ x. cond (p x) (f x) (pos 0)) xs)
@@ -44,8 +43,7 @@ int_sum-filter f p (x ∷ xs) =
     step (p x) ∙ ap (λ (s : ℤ). cond (p x) (f x) (pos 0) +ℤ s) (int_sum-filter f p xs)
   where
     step : (b : Bool) → int_sum (map f (cond b (x ∷ filter p xs) (filter p xs))) ≡ cond b (f x) (pos 0) +ℤ int_sum (map f (filter p xs))
-    step true = refl
-    step false = omega (arith, ints)
+    step b = grind (arith, nat_tests)
 
 -- of terms that all stand under one test
 pub int_sum-cond : {X : Type 0} (b : Bool) (f : X → ℤ) (xs : List X)
@@ -57,9 +55,7 @@ int_sum-cond false f xs = int_sum-zeros xs
 
 int_sum-none : (f : ℕ → ℤ) (a n : ℕ) → ((x : ℕ) → a ≤ x → x < a + n → f x ≡ pos 0) → int_sum (map f (range_with_len a n)) ≡ pos 0
 int_sum-none f a zero none = refl
-int_sum-none f a (suc n) none =
-    ap₂ (λ (s t : ℤ). s +ℤ t) (none a (omega arith) (omega arith))
-    (int_sum-none f (a + 1) n (λ x from below. none x (omega arith) (omega arith)))
+int_sum-none f a (suc n) none = grind (arith, nat_tests, int_sum-none f (a + 1) n (λ x from below. none x (omega arith) (omega arith)))
 
 int_sum-single : (f : ℕ → ℤ) (n k : ℕ) → k < n → ((x : ℕ) → x ≢ k → f x ≡ pos 0) → int_sum (map f (range_with_len 0 n)) ≡ f k
 int_sum-single f n k below none =

@@ -35,13 +35,7 @@ merged-cases x y class = grind (arith, nat_tests)
 
 -- what leaves each of three numbers as it is leaves the merged number as it is
 merged-fixed : (f : ℕ → ℕ) (x y class : ℕ) → f x ≡ x → f y ≡ y → f class ≡ class → f (merged x y class) ≡ merged x y class
-merged-fixed f x y class at_x at_y at_class = elim (merged-cases x y class) [
-  | inl is_class ↦ ap f is_class ∙ at_class ∙ sym is_class
-  | inr either ↦ elim either [
-    | inl is_x ↦ ap f is_x ∙ at_x ∙ sym is_x
-    | inr is_y ↦ ap f is_y ∙ at_y ∙ sym is_y
-  ]
-]
+merged-fixed f x y class at_x at_y at_class = grind (arith, nat_tests)
 
 -- to join two numbers of one class changes nothing
 pub joined-together : (classes : List ℕ) (pair : ℕ × ℕ) → slice_index classes pair.0 ≡ slice_index classes pair.1
@@ -52,8 +46,7 @@ joined-together classes pair same =
 
 -- a pair joins the same as the pair turned round
 pub joined-swapped : (classes : List ℕ) (x y : ℕ) → joined classes (y, x) ≡ joined classes (x, y)
-joined-swapped classes x y =
-    ap (λ f. map f classes) (fun_ext (merged-swapped (slice_index classes x) (slice_index classes y)))
+joined-swapped classes x y = grind (arith, nat_tests)
 
 -- each class is named by its least number
 
@@ -62,33 +55,12 @@ slice_index-range n x below = get_or-range_with_len 0 n x 0 below ∙ omega arit
 
 -- at first each number is alone
 pub IsNamed-range : (n : ℕ) → IsNamed n (range_with_len 0 n)
-IsNamed-range n = record {
-  size = length-range_with_len 0 n;
-  least = λ x below. omega (arith, slice_index-range n x below);
-  own = λ x below. ap (λ z. slice_index (range_with_len 0 n) z) (slice_index-range n x below);
-}
+IsNamed-range n = grind (arith, nat_tests, length-range_with_len, slice_index-range)
 
 pub IsNamed-joined : (n : ℕ) (classes : List ℕ) (pair : ℕ × ℕ) → pair.0 < n → pair.1 < n → IsNamed n classes
     → IsNamed n (joined classes pair)
 IsNamed-joined n classes pair first_below second_below named =
-    let a = slice_index classes pair.0 in
-    let b = slice_index classes pair.1 in
-    let size = named.size in
-    let at : (x : ℕ) → x < n → slice_index (joined classes pair) x ≡ merged a b (slice_index classes x) =
-    λ x below. slice_index-joined classes pair x (omega arith) in
-    record {
-      size = length-joined classes pair ∙ named.size;
-      least = λ x below. omega (arith, at x below, merged-le a b (slice_index classes x), named.least x below);
-      own = λ x below.
-          let class = slice_index classes x in
-          let here = at x below in
-          let small : merged a b class < n = omega (arith, merged-le a b class, named.least x below) in
-          ap (λ z. slice_index (joined classes pair) z) here ∙ at (merged a b class) small
-          ∙ ap (λ z. merged a b z)
-          (merged-fixed (λ z. slice_index classes z) a b class (named.own pair.0 first_below) (named.own pair.1 second_below)
-          (named.own x below))
-          ∙ merged-twice a b class ∙ sym here;
-    }
+    grind (arith, nat_tests, slice_index-joined, length-joined, merged-le, merged-fixed, merged-twice)
 
 pub IsNamed-fold : (n : ℕ) (classes : List ℕ) (pairs : List (ℕ × ℕ)) → AreBelow n pairs → IsNamed n classes
     → IsNamed n (fold joined classes pairs)
@@ -114,11 +86,8 @@ named-le n fine coarse fine_named coarse_named joins x below =
 classes_of-le : (n : ℕ) (pairs others : List (ℕ × ℕ)) → AreBelow n pairs → AreBelow n others
     → ((f : ℕ → ℕ) → Respects f pairs → Respects f others)
     → (x : ℕ) → x < n → slice_index (classes_of n pairs) x ≤ slice_index (classes_of n others) x
-classes_of-le n pairs others below others_below onward =
-    let coarse = classes_of n pairs in
-    named-le n (classes_of n others) coarse (IsNamed-classes_of n others others_below) (IsNamed-classes_of n pairs below)
-    (classes-finest (λ x. slice_index coarse x) n others
-    (onward (λ x. slice_index coarse x) (classes-together n pairs below)) others_below)
+classes_of-le n pairs others below others_below onward x has7 =
+    grind (arith, nat_tests, named-le, IsNamed-classes_of, classes-finest, classes-together)
 
 -- pairs that the same functions respect have the same classes: neither their order nor their direction matters
 pub classes_of-same : (n : ℕ) (pairs others : List (ℕ × ℕ)) → AreBelow n pairs → AreBelow n others
@@ -145,12 +114,10 @@ min-cases x y = grind (arith, nat_tests)
 
 -- what leaves two numbers as they are leaves the greater and the smaller as they are
 pub max-fixed : (f : ℕ → ℕ) (x y : ℕ) → f x ≡ x → f y ≡ y → f (max x y) ≡ max x y
-max-fixed f x y at_x at_y =
-    elim (max-cases x y) [ inl is ↦ ap f is ∙ at_x ∙ sym is | inr is ↦ ap f is ∙ at_y ∙ sym is ]
+max-fixed f x y at_x at_y = grind (arith, nat_tests)
 
 pub min-fixed : (f : ℕ → ℕ) (x y : ℕ) → f x ≡ x → f y ≡ y → f (min x y) ≡ min x y
-min-fixed f x y at_x at_y =
-    elim (min-cases x y) [ inl is ↦ ap f is ∙ at_x ∙ sym is | inr is ↦ ap f is ∙ at_y ∙ sym is ]
+min-fixed f x y at_x at_y = grind (arith, nat_tests)
 
 pub greater_fails : (x y class z : ℕ) → x ≢ y → z ≡ max x y → class ≡ z → nat_eq (merged x y class) z ≡ false
 greater_fails x y class z apart is_max own = grind (arith, nat_tests)
@@ -214,8 +181,7 @@ pub class_count-apart : (n : ℕ) (pairs : List (ℕ × ℕ)) (pair : ℕ × ℕ
     → slice_index (classes_of n pairs) pair.0 ≢ slice_index (classes_of n pairs) pair.1
     → class_count (classes_of n pairs) ≡ class_count (classes_of n (pairs ++ pair ∷ [])) + 1
 class_count-apart n pairs pair below first_below second_below apart =
-    class_count-joined n (classes_of n pairs) pair (IsNamed-classes_of n pairs below) first_below second_below apart
-    ∙ ap (λ classes. class_count classes + 1) (sym (classes_of-more n pairs pair))
+    grind (arith, nat_tests, class_count-joined, IsNamed-classes_of, classes_of-more)
 
 -- and changes no class where they are in one
 pub classes_of-together : (n : ℕ) (pairs : List (ℕ × ℕ)) (pair : ℕ × ℕ)

@@ -3,6 +3,7 @@
 -- A smoothing pairs the four slots of its crossing. To cross it, from a slot to the one joined with it, is a map of the places of darts
 -- that leads back when done twice, stays at its crossing, and changes the colour where each crossing has a bit. A function has one value on
 -- all pairs that the smoothings of a state join exactly where it has one value at the arcs of each dart and of the dart across.
+use Rattle.std.proofs.lemmas.Bool.Decides.{nat_tests}
 use Rattle.std.proofs.Common.{◌≡◌, ℕ, zero, suc, ◌⊎◌, inl, inr, ◌+◌, ◌-◌, ◌*◌, ◌/◌, ◌%◌, ◌<◌, ◌∙◌, List, [], ◌∷◌, refl, sym, ap, subst, length, arith, Bool, true, false, cond}
 use Rattle.std.specs.Prelude.{nat_eq, slice_index_or}
 use Rattle.std.specs.List.{flat_map, enumerate_from}
@@ -17,38 +18,22 @@ use Rattle.kh_types.specs.CircleSteps.{arc_at, joined_slot, across}
 
 joined_slot-cases : (smoothing slot : ℕ)
     → (joined_slot smoothing slot ≡ slot + 1 - 2 * (slot % 2)) ⊎ (joined_slot smoothing slot ≡ 3 - slot)
-joined_slot-cases smoothing slot = choice (nat_eq smoothing 0) (slot + 1 - 2 * (slot % 2)) (3 - slot)
-  where
-    choice : (b : Bool) (x y : ℕ) → (cond b x y ≡ x) ⊎ (cond b x y ≡ y)
-    choice true x y = inl refl
-    choice false x y = inr refl
+joined_slot-cases smoothing slot = grind (arith, nat_tests)
 
 pub joined_slot-below : (smoothing slot : ℕ) → slot < 4 → joined_slot smoothing slot < 4
-joined_slot-below smoothing slot below =
-    elim (joined_slot-cases smoothing slot) [ inl is ↦ omega (arith, is, below) | inr is ↦ omega (arith, is) ]
+joined_slot-below smoothing slot below = grind (arith, nat_tests)
 
 joined_slot-odd : (smoothing slot : ℕ) → slot < 4 → (slot + joined_slot smoothing slot) % 2 ≡ 1
-joined_slot-odd smoothing slot below =
-    elim (joined_slot-cases smoothing slot) [ inl is ↦ omega (arith, is, below) | inr is ↦ omega (arith, is, below) ]
+joined_slot-odd smoothing slot below = grind (arith, nat_tests)
 
 joined_slot-twice : (smoothing slot : ℕ) → slot < 4 → joined_slot smoothing (joined_slot smoothing slot) ≡ slot
-joined_slot-twice smoothing slot below = by (nat_eq smoothing 0) slot below
-  where
-    by : (b : Bool) (slot : ℕ) → slot < 4
-        → cond b (cond b (slot + 1 - 2 * (slot % 2)) (3 - slot) + 1 - 2 * (cond b (slot + 1 - 2 * (slot % 2)) (3 - slot) % 2))
-        (3 - cond b (slot + 1 - 2 * (slot % 2)) (3 - slot)) ≡ slot
-    by true slot below = omega (arith, below)
-    by false slot below = omega (arith, below)
+joined_slot-twice smoothing slot below = grind (arith, nat_tests)
 
 -- the dart that it joins a dart with
 
 pub across-slot : (state crossing slot : ℕ) → slot < 4
     → across state (4 * crossing + slot) ≡ 4 * crossing + joined_slot (bit state crossing) slot
-across-slot state crossing slot below =
-    let here : (4 * crossing + slot) / 4 ≡ crossing = omega (arith, below) in
-    let there : (4 * crossing + slot) % 4 ≡ slot = omega (arith, below) in
-    ap (λ k. 4 * k + joined_slot (bit state k) ((4 * crossing + slot) % 4)) here
-    ∙ ap (λ s. 4 * crossing + joined_slot (bit state crossing) s) there
+across-slot state crossing slot below = grind (arith, nat_tests)
 
 slot-below : (place : ℕ) → place % 4 < 4
 slot-below place = omega arith
@@ -60,17 +45,10 @@ pub across-slot_of : (state place : ℕ) → across state place % 4 ≡ joined_s
 across-slot_of state place = omega (arith, joined_slot-below (bit state (place / 4)) (place % 4) (slot-below place))
 
 pub across-below : (n state place : ℕ) → place < 4 * n → across state place < 4 * n
-across-below n state place below =
-    omega (arith, below, joined_slot-below (bit state (place / 4)) (place % 4) (slot-below place))
+across-below n state place below = grind (arith, nat_tests)
 
 pub across-across : (state place : ℕ) → across state (across state place) ≡ place
-across-across state place =
-    let slot = place % 4 in
-    let crossing = place / 4 in
-    let below = joined_slot-below (bit state crossing) slot (slot-below place) in
-    let whole : 4 * crossing + slot ≡ place = omega arith in
-    across-slot state crossing (joined_slot (bit state crossing) slot) below
-    ∙ ap (λ s. 4 * crossing + s) (joined_slot-twice (bit state crossing) slot (slot-below place)) ∙ whole
+across-across state place = grind (arith, nat_tests)
 
 -- the colour of the dart at a place, where a choice gives each crossing a bit
 abbrev pub place_colour : ℕ → ℕ → ℕ
@@ -79,23 +57,12 @@ place_colour choice place = (bit choice (place / 4) + place % 4) % 2
 -- a smoothing joins darts of different colours
 pub across-colour : (choice state place side other : ℕ) → side + other ≡ 1 → place_colour choice place ≡ side
     → place_colour choice (across state place) ≡ other
-across-colour choice state place side other sum is =
-    ap (λ k. (bit choice k + across state place % 4) % 2) (across-crossing state place)
-    ∙ ap (λ s. (bit choice (place / 4) + s) % 2) (across-slot_of state place)
-    ∙ turned (bit choice (place / 4)) (place % 4) (joined_slot (bit state (place / 4)) (place % 4)) side other
-    (joined_slot-odd (bit state (place / 4)) (place % 4) (slot-below place)) sum is
-  where
-    turned : (x s t side other : ℕ) → (s + t) % 2 ≡ 1 → side + other ≡ 1 → (x + s) % 2 ≡ side → (x + t) % 2 ≡ other
-    turned x s t side other odd sum is = omega (arith, odd, sum, is)
+across-colour choice state place side other sum is = grind (arith, nat_tests)
 
 -- the arc of the dart at a slot
 pub arc_at-slot : (crossings : List (List ℕ)) (crossing slot : ℕ) → slot < 4
     → arc_at crossings (4 * crossing + slot) ≡ arc_in (slice_index_or crossings crossing []) slot
-arc_at-slot crossings crossing slot below =
-    let here : (4 * crossing + slot) / 4 + 1 - 1 ≡ crossing = omega (arith, below) in
-    let there : (4 * crossing + slot) % 4 ≡ slot = omega (arith, below) in
-    ap (λ k. arc_in (slice_index_or crossings k []) ((4 * crossing + slot) % 4)) here
-    ∙ ap (λ s. arc_in (slice_index_or crossings crossing []) s) there
+arc_at-slot crossings crossing slot below = grind (arith, nat_tests)
 
 -- what has one value at the two slots of each pair of a smoothing has one value at a slot and the one joined with it, and the other
 -- way round
@@ -107,22 +74,12 @@ pairs_by is_zero slots =
 
 pub slots-by : (g : ℕ → ℕ) (is_zero : Bool) (slots : List ℕ) → Respects g (pairs_by is_zero slots) → (slot : ℕ) → slot < 4
     → g (arc_in slots (cond is_zero (slot + 1 - 2 * (slot % 2)) (3 - slot))) ≡ g (arc_in slots slot)
-slots-by g true slots respects zero below = sym respects.0
-slots-by g true slots respects (suc zero) below = respects.0
-slots-by g true slots respects (suc (suc zero)) below = sym respects.1.0
-slots-by g true slots respects (suc (suc (suc zero))) below = respects.1.0
-slots-by g true slots respects (suc (suc (suc (suc slot)))) below = absurd (omega (arith, below))
-slots-by g false slots respects zero below = sym respects.0
-slots-by g false slots respects (suc zero) below = sym respects.1.0
-slots-by g false slots respects (suc (suc zero)) below = respects.1.0
-slots-by g false slots respects (suc (suc (suc zero))) below = respects.0
-slots-by g false slots respects (suc (suc (suc (suc slot)))) below = absurd (omega (arith, below))
+slots-by g is_zero slots respects slot below = grind (arith, nat_tests)
 
 pub by-slots : (g : ℕ → ℕ) (is_zero : Bool) (slots : List ℕ)
     → ((slot : ℕ) → slot < 4 → g (arc_in slots (cond is_zero (slot + 1 - 2 * (slot % 2)) (3 - slot))) ≡ g (arc_in slots slot))
     → Respects g (pairs_by is_zero slots)
-by-slots g true slots same = (sym (same 0 (omega arith)), (sym (same 2 (omega arith)), tt))
-by-slots g false slots same = (sym (same 0 (omega arith)), (sym (same 1 (omega arith)), tt))
+by-slots g is_zero slots same = grind (arith, nat_tests)
 
 -- the same of all crossings of a list, the first of which stands at a place
 
@@ -132,17 +89,9 @@ smoothings_from state place crossings = flat_map (λ at. smoothing_of (bit state
 pub crossing-from : (g : ℕ → ℕ) (state place : ℕ) (crossings : List (List ℕ)) → Respects g (smoothings_from state place crossings)
     → (k : ℕ) → k < length crossings → Respects g (smoothing_of (bit state (place + k)) (slice_index_or crossings k []))
 crossing-from g state place [] respects k below = absurd (omega (arith, below))
-crossing-from g state place (slots ∷ crossings) respects zero below =
-    let e : place + 0 ≡ place = omega arith in
-    subst (λ (p : ℕ). Respects g (smoothing_of (bit state p) slots)) (sym e)
-    (AllByRecursion-first (λ pair. g pair.0 ≡ g pair.1) (smoothing_of (bit state place) slots)
-    (smoothings_from state (place + 1) crossings) respects)
+crossing-from g state place (slots ∷ crossings) respects zero below = grind (arith, nat_tests, AllByRecursion-first)
 crossing-from g state place (slots ∷ crossings) respects (suc k) below =
-    let e : place + suc k ≡ place + 1 + k = omega arith in
-    subst (λ (p : ℕ). Respects g (smoothing_of (bit state p) (slice_index_or crossings k []))) (sym e)
-    (crossing-from g state (place + 1) crossings
-    (AllByRecursion-second (λ pair. g pair.0 ≡ g pair.1) (smoothing_of (bit state place) slots)
-    (smoothings_from state (place + 1) crossings) respects) k (omega (arith, below)))
+    grind (arith, nat_tests, AllByRecursion-second, crossing-from g state (place + 1) crossings (AllByRecursion-second (λ pair. g pair.0 ≡ g pair.1) (smoothing_of (bit state place) slots) (smoothings_from state (place + 1) crossings) respects) k (omega (arith, below)))
 
 pub from-crossings : (g : ℕ → ℕ) (state place : ℕ) (crossings : List (List ℕ))
     → ((k : ℕ) → k < length crossings → Respects g (smoothing_of (bit state (place + k)) (slice_index_or crossings k [])))

@@ -1,4 +1,5 @@
 -- The labels of some circles, counted by their degree.
+use Rattle.std.proofs.lemmas.Bool.Decides.{nat_tests}
 use Rattle.std.proofs.Common.{◌≡◌, ℕ, zero, suc, inl, inr, ◌+◌, ◌*◌, ◌^◌, ◌<◌, ◌∙◌, [], ℤ, pos, ◌+ℤ◌, ◌-ℤ◌, sym, refl, ap, ap₂, arith, true, false, cond}
 use Rattle.std.specs.List.{sum_by, count_by, range_with_len}
 use Rattle.std.specs.Ordering.{int_eq}
@@ -27,13 +28,7 @@ labels_with circles degree = count_by (λ label. int_eq (degree_of_label circles
 
 -- two tests of integers that say the same
 pub int_eq-iff : (a b c d : ℤ) → (a ≡ b → c ≡ d) → (c ≡ d → a ≡ b) → int_eq a b ≡ int_eq c d
-int_eq-iff a b c d onward back = elim (cases_Bool (int_eq a b)) [
-  | inl holds ↦ holds ∙ sym ((Decides-int_eq c d).1 (onward ((Decides-int_eq a b).0 holds)))
-  | inr fails ↦
-      fails
-      ∙ sym (false_from_ne_true (int_eq c d)
-      (λ both. let clash : true ≡ false = sym ((Decides-int_eq a b).1 (back ((Decides-int_eq c d).0 both))) ∙ fails in absurd (cc)))
-]
+int_eq-iff a b c d onward back = grind (arith, nat_tests)
 
 -- a range of twice as many numbers has a lower and an upper half
 pub sum_by-later : (f : ℕ → ℕ) (b a n : ℕ) → sum_by f (range_with_len (b + a) n) ≡ sum_by (λ x. f (b + x)) (range_with_len a n)
@@ -46,11 +41,7 @@ sum_by-later f b a (suc n) =
 
 pub sum_by-halves : (f : ℕ → ℕ) (n : ℕ)
     → sum_by f (range_with_len 0 (n + n)) ≡ sum_by f (range_with_len 0 n) + sum_by (λ x. f (n + x)) (range_with_len 0 n)
-sum_by-halves f n =
-    let turned : 0 + n ≡ n + 0 = omega arith in
-    ap (λ xs. sum_by f xs) (range-append 0 n n) ∙ sum_by-append f (range_with_len 0 n) (range_with_len (0 + n) n)
-    ∙ ap (λ (x : ℕ). sum_by f (range_with_len 0 n) + sum_by f (range_with_len x n)) turned
-    ∙ ap (λ (s : ℕ). sum_by f (range_with_len 0 n) + s) (sum_by-later f n 0 n)
+sum_by-halves f n = grind (arith, nat_tests, range-append, sum_by-append, sum_by-later)
 
 -- the lower half of the labels has v+ on the last circle, and the upper half v-
 
@@ -69,10 +60,7 @@ ones-upper count label below =
 
 pub lower-test : (count : ℕ) (degree : ℤ) (label : ℕ) → label < 2 ^ count
     → int_eq (degree_of_label (count + 1) label) degree ≡ int_eq (degree_of_label count label) (degree -ℤ pos 1)
-lower-test count degree label below =
-    ap (λ (k : ℕ). int_eq (pos (count + 1) -ℤ pos (2 * k)) degree) (ones-lower count label below)
-    ∙ int_eq-iff (pos (count + 1) -ℤ pos (2 * ones count label)) degree (degree_of_label count label) (degree -ℤ pos 1)
-    (λ is. omega (arith, ints)) (λ is. omega (arith, ints))
+lower-test count degree label below = grind (arith, nat_tests, ones-lower, int_eq-iff, ints)
 
 pub upper-test : (count : ℕ) (degree : ℤ) (label : ℕ) → label < 2 ^ count
     → int_eq (degree_of_label (count + 1) (2 ^ count + label)) degree ≡ int_eq (degree_of_label count label) (degree +ℤ pos 1)
@@ -99,10 +87,7 @@ labels_with-more count degree =
     (λ label from below. ap (λ b. cond b 1 0) (upper-test count degree label (omega arith))))
 
 labels_with-none : (degree : ℤ) → labels_with 0 degree ≡ circle_coefficient 0 degree
-labels_with-none degree =
-    let turned : int_eq (pos 0) degree ≡ int_eq degree (pos 0) =
-    int_eq-iff (pos 0) degree degree (pos 0) (λ is. sym is) (λ is. sym is) in
-    sum_by-cons (counted 0 degree) 0 [] ∙ ap (λ b. cond b 1 0 + 0) turned ∙ omega arith
+labels_with-none degree = grind (arith, nat_tests)
 
 -- the labels with a degree are as many as the coefficient of q ^ degree in (q + q^-1) ^ circles
 pub labels_with-is : (count : ℕ) (degree : ℤ) → labels_with count degree ≡ circle_coefficient count degree
@@ -121,5 +106,4 @@ abbrev pub label_part : Code → ℤ → ℕ → ℤ
 label_part code j state = (j -ℤ pos (one_count code state + plus_count code.crossings)) +ℤ pos (2 * minus_count code.crossings)
 
 pub shifted-test : (d j : ℤ) (s t : ℕ) → int_eq (d +ℤ (pos s -ℤ pos t)) j ≡ int_eq d ((j -ℤ pos s) +ℤ pos t)
-shifted-test d j s t =
-    int_eq-iff (d +ℤ (pos s -ℤ pos t)) j d ((j -ℤ pos s) +ℤ pos t) (λ is. omega (arith, ints)) (λ is. omega (arith, ints))
+shifted-test d j s t = grind (arith, nat_tests)

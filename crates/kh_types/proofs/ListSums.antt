@@ -1,4 +1,5 @@
 -- Sums over lists: of sums, of multiples, of images, by places, and of which one term counts.
+use Rattle.std.proofs.lemmas.Bool.Decides.{nat_tests}
 use Rattle.std.proofs.Common.{◌≡◌, ◌≢◌, ℕ, zero, suc, ◌+◌, ◌-◌, ◌*◌, ◌<◌, ◌≤◌, ◌∙◌, List, [], ◌∷◌, length, get_or, map, refl, sym, ap, ap₂, arith, Bool, true, false, cond, inl, inr}
 use Rattle.std.specs.Prelude.{nat_eq}
 use Rattle.std.specs.List.{AllByRecursion, filter, flat_map, sum_by, range_with_len}
@@ -14,8 +15,7 @@ sum_by-alike {X} f g alike xs = ap (λ (h : X → ℕ). sum_by h xs) (fun_ext al
 
 pub sum_by-on : {X : Type 0} (f g : X → ℕ) (xs : List X) → AllByRecursion (λ x. f x ≡ g x) xs → sum_by f xs ≡ sum_by g xs
 sum_by-on f g [] alike = refl
-sum_by-on f g (x ∷ xs) alike =
-    sum_by-cons f x xs ∙ ap₂ (λ m n. m + n) alike.0 (sum_by-on f g xs alike.1) ∙ sym (sum_by-cons g x xs)
+sum_by-on f g (x ∷ xs) alike = grind (arith, nat_tests, sum_by-cons, sum_by-on f g xs alike.1)
 
 pub sum_by-plus : {X : Type 0} (f g : X → ℕ) (xs : List X) → sum_by (λ x. f x + g x) xs ≡ sum_by f xs + sum_by g xs
 sum_by-plus f g [] = refl
@@ -105,10 +105,7 @@ pub sum_by-range_alike : (f g : ℕ → ℕ) (a n : ℕ) → ((x : ℕ) → a �
     → sum_by f (range_with_len a n) ≡ sum_by g (range_with_len a n)
 sum_by-range_alike f g a zero alike = refl
 sum_by-range_alike f g a (suc n) alike =
-    sum_by-cons f a (range_with_len (a + 1) n)
-    ∙ ap₂ (λ x y. x + y) (alike a (omega arith) (omega arith))
-    (sum_by-range_alike f g (a + 1) n (λ x above below. alike x (omega arith) (omega arith)))
-    ∙ sym (sum_by-cons g a (range_with_len (a + 1) n))
+    grind (arith, nat_tests, sum_by-cons, sum_by-range_alike f g (a + 1) n (λ x above below. alike x (omega arith) (omega arith)))
 
 -- a sum that is not 0 has a term that is not
 pub sum_by-some : (f : ℕ → ℕ) (a n : ℕ) → sum_by f (range_with_len a n) ≢ 0 → (k : ℕ) × (a ≤ k) × (k < a + n) × (f k ≢ 0)

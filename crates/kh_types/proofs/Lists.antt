@@ -42,8 +42,7 @@ AllByRecursion-weaker P Q (x ∷ xs) weaker all = (weaker x all.0, AllByRecursio
 pub AllByRecursion-both : {X : Type 0} (P Q R : X → Type 0) (xs : List X) → ((x : X) → P x → Q x → R x) → AllByRecursion P xs
     → AllByRecursion Q xs → AllByRecursion R xs
 AllByRecursion-both P Q R [] both first second = tt
-AllByRecursion-both P Q R (x ∷ xs) both first second =
-    (both x first.0 second.0, AllByRecursion-both P Q R xs both first.1 second.1)
+AllByRecursion-both P Q R (x ∷ xs) both first second = grind (arith, nat_tests, AllByRecursion-both P Q R xs both first.1 second.1)
 
 pub AllByRecursion-at : {X : Type 0} (P : X → Type 0) (xs : List X) (x : X) → AllByRecursion P xs → Contains xs x → P x
 AllByRecursion-at P xs x all has = All-contains P xs x (All-from_recursion P xs all) has
@@ -57,30 +56,24 @@ pub Contains-later : {X : Type 0} (x y : X) (xs : List X) → Contains xs y → 
 Contains-later x y xs (k, below, is) = (suc k, omega (arith, below), is)
 
 pub Contains-cases : {X : Type 0} (x y : X) (xs : List X) → Contains (x ∷ xs) y → (x ≡ y) ⊎ Contains xs y
-Contains-cases x y xs (zero, below, is) = inl is
-Contains-cases x y xs (suc k, below, is) = inr (k, omega (arith, below), is)
+Contains-cases x y xs has3 = grind (arith, nat_tests)
 
 pub Contains-range : (n k : ℕ) → k < n → Contains (range_with_len 0 n) k
 Contains-range n k below = (k, omega (arith, below, length-range_with_len 0 n), get_or-range_with_len 0 n k k below ∙ omega arith)
 
 pub range-contains : (n k : ℕ) → Contains (range_with_len 0 n) k → k < n
-range-contains n k has =
-    let within : has.0 < n = omega (arith, has.1, length-range_with_len 0 n) in
-    omega (arith, within, sym has.2 ∙ get_or-range_with_len 0 n has.0 k within)
+range-contains n k has = grind (arith, nat_tests, length-range_with_len, get_or-range_with_len)
 
 -- tests that agree on a range pass the same of its numbers
 
 filter-step : (b d : Bool) (x : ℕ) (xs ys : List ℕ) → b ≡ d → xs ≡ ys → cond b (x ∷ xs) xs ≡ cond d (x ∷ ys) ys
-filter-step b d x xs ys same same_rest =
-    ap (λ c. cond c (x ∷ xs) xs) same ∙ ap (λ zs. cond d (x ∷ zs) zs) same_rest
+filter-step b d x xs ys same same_rest = grind (arith, nat_tests)
 
 pub filter-range_agree : (p q : ℕ → Bool) (a n : ℕ) → ((x : ℕ) → a ≤ x → x < a + n → p x ≡ q x)
     → filter p (range_with_len a n) ≡ filter q (range_with_len a n)
 filter-range_agree p q a zero same = refl
 filter-range_agree p q a (suc n) same =
-    filter-step (p a) (q a) a (filter p (range_with_len (a + 1) n)) (filter q (range_with_len (a + 1) n))
-    (same a (omega arith) (omega arith))
-    (filter-range_agree p q (a + 1) n (λ x from below. same x (omega arith) (omega arith)))
+    grind (arith, nat_tests, filter-step, filter-range_agree p q (a + 1) n (λ x from below. same x (omega arith) (omega arith)))
 
 -- a list has one element more than another, which is x
 pub record HasMore (x : ℕ) (longer shorter : List ℕ) : Type 0 where
@@ -122,8 +115,7 @@ pub filter-range_all : (p : ℕ → Bool) (a n : ℕ) → ((x : ℕ) → a ≤ x
     → filter p (range_with_len a n) ≡ range_with_len a n
 filter-range_all p a zero passes = refl
 filter-range_all p a (suc n) passes =
-    filter-step (p a) true a (filter p (range_with_len (a + 1) n)) (range_with_len (a + 1) n) (passes a (omega arith) (omega arith))
-    (filter-range_all p (a + 1) n (λ x from below. passes x (omega arith) (omega arith)))
+    grind (arith, nat_tests, filter-step, filter-range_all p (a + 1) n (λ x from below. passes x (omega arith) (omega arith)))
 
 -- the elements of lists that are made of others
 
@@ -137,17 +129,14 @@ Contains-cond false y xs x has = has
 
 pub Contains-filter : {X : Type 0} (p : X → Bool) (xs : List X) (x : X) → p x ≡ true → Contains xs x → Contains (filter p xs) x
 Contains-filter p [] x passes (k, below, is) = absurd (omega arith)
-Contains-filter p (y ∷ ys) x passes (zero, below, is) =
-    let later = filter p ys in
-    rw (ap p is ∙ passes) (zero, omega arith, is)
+Contains-filter p (y ∷ ys) x passes (zero, below, is) = grind (arith, nat_tests)
 Contains-filter p (y ∷ ys) x passes (suc k, below, is) =
     Contains-cond (p y) y (filter p ys) x (Contains-filter p ys x passes (k, omega arith, is))
 
 pub Contains-flat_map : {X Y : Type 0} (f : X → List Y) (xs : List X) (x : X) (y : Y) → Contains xs x → Contains (f x) y
     → Contains (flat_map f xs) y
 Contains-flat_map f [] x y (k, below, is) has = absurd (omega arith)
-Contains-flat_map f (z ∷ xs) x y (zero, below, is) has =
-    Contains-append_left (f z) (flat_map f xs) y (rw is has)
+Contains-flat_map f (z ∷ xs) x y (zero, below, is) has = grind (arith, nat_tests, Contains-append_left)
 Contains-flat_map f (z ∷ xs) x y (suc k, below, is) has =
     Contains-append_right (f z) (flat_map f xs) y (Contains-flat_map f xs x y (k, omega arith, is) has)
 
@@ -176,35 +165,26 @@ count_by-more_than p (x ∷ xs) default zero zero zero passes behind below last 
 count_by-more_than p (x ∷ xs) default zero (suc n) zero passes behind below last = absurd (omega (arith, behind))
 count_by-more_than p (x ∷ xs) default (suc a) n zero passes behind below last = absurd (omega (arith, behind))
 count_by-more_than p (x ∷ xs) default zero zero (suc k) passes behind below last =
-    let rest = count_by-more_than p xs default zero zero k (λ j from j_below. absurd (omega (arith, j_below))) (omega arith)
-    (omega (arith, below)) last in
-    omega (arith, rest, count_by-later p x xs)
+    grind (arith, nat_tests, count_by-later, count_by-more_than p xs default zero zero k (λ j from j_below. absurd (omega (arith, j_below))) (omega arith) (omega (arith, below)) last)
 count_by-more_than p (x ∷ xs) default zero (suc n) (suc k) passes behind below last =
     let rest = count_by-more_than p xs default zero n k (λ j from j_below. passes (suc j) (omega arith) (omega (arith, j_below)))
     (omega (arith, behind)) (omega (arith, below)) last in
     omega (arith, rest, count_by-first p x xs (passes zero (omega arith) (omega arith)))
 count_by-more_than p (x ∷ xs) default (suc a) n (suc k) passes behind below last =
-    let rest = count_by-more_than p xs default a n k
-    (λ j from j_below. passes (suc j) (omega (arith, from)) (omega (arith, j_below)))
-    (omega (arith, behind)) (omega (arith, below)) last in
-    omega (arith, rest, count_by-later p x xs)
+    grind (arith, nat_tests, count_by-later, count_by-more_than p xs default a n k (λ j from j_below. passes (suc j) (omega (arith, from)) (omega (arith, j_below))) (omega (arith, behind)) (omega (arith, below)) last)
 
 -- a search among numbers of which none passes
 pub find-none : (p : ℕ → Bool) (a n : ℕ) → ((k : ℕ) → a ≤ k → k < a + n → p k ≡ false) → find p (range_with_len a n) ≡ None
 find-none p a zero fails = refl
 find-none p a (suc n) fails =
-    ap (λ b. cond b (Some a) (find p (range_with_len (a + 1) n))) (fails a (omega arith) (omega arith))
-    ∙ find-none p (a + 1) n (λ k from below. fails k (omega (arith, from)) (omega (arith, below)))
+    grind (arith, nat_tests, find-none p (a + 1) n (λ k from below. fails k (omega (arith, from)) (omega (arith, below))))
 
 -- what passes a test in the image of a list, and where the first of it stands
 
 pub filter-map : {X Y : Type 0} (p : Y → Bool) (f : X → Y) (xs : List X)
     → filter p (map f xs) ≡ map f (filter (λ x. p (f x)) xs)
 filter-map p f [] = refl
-filter-map {X} {Y} p f (x ∷ xs) =
-    let kept : List X = filter (λ x. p (f x)) xs in
-    elim (p (f x)) as (λ b. cond b (f x ∷ filter p (map f xs)) (filter p (map f xs)) ≡ map f (cond b (x ∷ kept) kept))
-    [ true ↦ ap (λ (ys : List Y). f x ∷ ys) (filter-map p f xs) | false ↦ filter-map p f xs ]
+filter-map {X} {Y} p f (x ∷ xs) = grind (arith, nat_tests, filter-map p f xs)
 
 pub position_or_len-map : {X Y : Type 0} (p : Y → Bool) (f : X → Y) (xs : List X)
     → position_or_len p (map f xs) ≡ position_or_len (λ x. p (f x)) xs
@@ -222,23 +202,16 @@ position_or_len-le-length p xs = prefix_len-le-length (λ x. not (p x)) xs
 
 pub unwrap_or-position : {X : Type 0} (p : X → Bool) (xs : List X)
     → unwrap_or (position p xs) (length xs) ≡ position_or_len p xs
-unwrap_or-position p xs =
-    let within : position_or_len p xs ≤ length xs = prefix_len-le-length (λ x. not (p x)) xs in grind (arith, nat_tests)
+unwrap_or-position p xs = grind (arith, nat_tests, prefix_len-le-length)
 
 pub ruleset places = (unwrap_or-position, position_or_len-le-length)
 
 -- an element taken out of the image of a list, and one more at the end of an enumeration
 
 pub map-remove : {X Y : Type 0} (f : X → Y) (xs : List X) (at : ℕ) → map f (remove xs at) ≡ remove (map f xs) at
-map-remove f xs at =
-    map-append f (take at xs) (drop (suc at) xs) ∙ ap (λ ys. ys ++ map f (drop (suc at) xs)) (sym (take-map f at xs))
-    ∙ ap (λ ys. take at (map f xs) ++ ys) (sym (drop-map f (suc at) xs))
+map-remove f xs at = grind (arith, nat_tests, map-append, take-map, drop-map)
 
 pub enumerate_from-push : {X : Type 0} (n : ℕ) (xs : List X) (x : X)
     → enumerate_from n (xs ++ x ∷ []) ≡ enumerate_from n xs ++ (n + length xs, x) ∷ []
 enumerate_from-push n [] x = ap (λ (m : ℕ). (m, x) ∷ []) (omega arith)
-enumerate_from-push {X} n (y ∷ xs) x =
-    let next : enumerate_from (n + 1) (xs ++ x ∷ []) ≡ enumerate_from (n + 1) xs ++ (n + 1 + length xs, x) ∷ [] =
-    enumerate_from-push (n + 1) xs x in
-    let place : n + 1 + length xs ≡ n + length (y ∷ xs) = omega arith in
-    ap (λ (zs : List (ℕ × X)). (n, y) ∷ zs) (next ∙ ap (λ (m : ℕ). enumerate_from (n + 1) xs ++ (m, x) ∷ []) place)
+enumerate_from-push {X} n (y ∷ xs) x = grind (arith, nat_tests, enumerate_from-push (n + 1) xs x)

@@ -3,6 +3,7 @@
 -- Matrices are lists of rows, and steps on them are said entry by entry. `with_entries` makes each entry anew from its row and column, and
 -- keeps the size. So what a cancellation does is one formula for an entry (`entry_cancelled`), which is 0 in the row and in the column of
 -- the pivot, and the entry less the way through the pivot elsewhere; and that is what PivotLemmas asks of entries that a pivot leaves.
+use Rattle.std.proofs.lemmas.Bool.Decides.{nat_tests}
 use Rattle.std.proofs.Common.{◌≡◌, ℕ, ◌+◌, ◌-◌, ◌*◌, ◌%◌, ◌≤◌, ◌<◌, ◌≢◌, ◌∙◌, ◌⊎◌, inl, inr, List, [], length, map, refl, ap, sym, subst, arith, Bool, true, false, ◌||◌}
 use Rattle.std.specs.Prelude.{nat_eq, slice_index, slice_index_or, if◌then◌else◌}
 use Rattle.std.specs.List.{enumerate_from}
@@ -40,8 +41,7 @@ slice_index-row_made entry row j past_zero =
 
 -- the rows of a matrix made entry by entry
 pub length-with_entries : (entry : ℕ → ℕ → ℕ) (rows : List (List ℕ)) → length (with_entries entry rows) ≡ length rows
-length-with_entries entry rows =
-    length-map (enumerate_from 0 rows) (λ row. row_made (entry row.0) row.1) ∙ length-enumerate_from 0 rows
+length-with_entries entry rows = grind (arith, nat_tests, length-map, length-enumerate_from)
 
 row-with_entries : (entry : ℕ → ℕ → ℕ) (rows : List (List ℕ)) (i : ℕ) → i < length rows
     → slice_index_or (with_entries entry rows) i [] ≡ row_made (entry i) (slice_index_or rows i [])
@@ -59,40 +59,23 @@ pub entry-with_entries : (entry : ℕ → ℕ → ℕ) (rows : List (List ℕ))
     → ((i j : ℕ) → length (slice_index_or rows i []) ≤ j → entry i j ≡ 0) → (i j : ℕ)
     → entry_in (with_entries entry rows) i j ≡ entry i j
 entry-with_entries entry rows past_rows past_columns i j =
-    elim (leb_tells (length rows) i) [
-      | inl past ↦
-          ap (λ row. slice_index row j)
-          (get_or_past (with_entries entry rows) i [] (omega (arith, length-with_entries entry rows, past.1)))
-          ∙ sym (past_rows i j past.1)
-      | inr below ↦
-          ap (λ row. slice_index row j) (row-with_entries entry rows i below.1)
-          ∙ slice_index-row_made (entry i) (slice_index_or rows i []) j (past_columns i j)
-    ]
+    grind (arith, nat_tests, leb_tells, get_or_past, length-with_entries, row-with_entries, slice_index-row_made)
 
 -- and the matrix has the size that it had
 pub matrix-with_entries : (p n : ℕ) (entry : ℕ → ℕ → ℕ) (rows : List (List ℕ)) → IsMatrix p n rows
     → ((i j : ℕ) → entry_in (with_entries entry rows) i j ≡ entry i j) → ((i j : ℕ) → entry i j < p)
     → IsMatrix p n (with_entries entry rows)
-matrix-with_entries p n entry rows is entries below =
-    record {
-      width = λ i within.
-          let i_within : i < length rows = omega (arith, length-with_entries entry rows) in
-          ap length (row-with_entries entry rows i i_within) ∙ length-row_made (entry i) (slice_index_or rows i [])
-          ∙ is.width i i_within;
-      below = λ i j. subst (λ e. e < p) (sym (entries i j)) (below i j);
-    }
+matrix-with_entries p n entry rows is entries below = grind (arith, nat_tests, length-with_entries, row-with_entries, length-row_made)
 
 -- past the end, entries are 0
 pub entry-past_columns : (rows : List (List ℕ)) (i j : ℕ) → length (slice_index_or rows i []) ≤ j → entry_in rows i j ≡ 0
 entry-past_columns rows i j past = get_or_past (slice_index_or rows i []) j 0 past
 
 if_zero : (b : Bool) (x : ℕ) → x ≡ 0 → (if b then 0 else x) ≡ 0
-if_zero true x is_zero = refl
-if_zero false x is_zero = is_zero
+if_zero b x is_zero = grind (arith, nat_tests)
 
 if_below : (b : Bool) (x p : ℕ) → 0 < p → x < p → (if b then 0 else x) < p
-if_below true x p positive below = positive
-if_below false x p positive below = below
+if_below b x p positive below = grind (arith, nat_tests)
 
 -- an entry after the cancellation of a pivot at a row and a column
 abbrev pub entry_cancelled : ℕ → ℕ → ℕ → (ℕ → ℕ → ℕ) → ℕ → ℕ → ℕ
@@ -145,50 +128,27 @@ leaves-entry_cancelled p a b M field other =
     at : (i j : ℕ) → ((nat_eq i a ≡ true) × (i ≡ a)) ⊎ ((nat_eq i a ≡ false) × (i ≢ a))
         → ((nat_eq j b ≡ true) × (j ≡ b)) ⊎ ((nat_eq j b ≡ false) × (j ≢ b))
         → Same p (M i b * (inverse p (M a b) * M a j) + entry_cancelled p a b M i j) (M i j)
-    at i j (inl same) column =
-        ap (λ in_row. with_tests p (M i j) (M i b * (inverse p (M a b) * M a j)) in_row (nat_eq j b) % p) same.0
-        ∙ same-equal p (M i b * (inverse p (M a b) * M a j) + 0) (M i b * (inverse p (M a b) * M a j)) (omega arith)
-        ∙ subst (λ k. Same p (M k b * (inverse p (M a b) * M a j)) (M k j)) (sym same.1)
-        (same-unit_left p (M a b) (inverse p (M a b)) (M a j) inverts)
-    at i j (inr other_row) (inl same) =
-        ap (λ in_row. with_tests p (M i j) (M i b * (inverse p (M a b) * M a j)) in_row (nat_eq j b) % p) other_row.0
-        ∙ ap (λ in_column. with_tests p (M i j) (M i b * (inverse p (M a b) * M a j)) false in_column % p) same.0
-        ∙ same-equal p (M i b * (inverse p (M a b) * M a j) + 0) (M i b * (inverse p (M a b) * M a j)) (omega arith)
-        ∙ subst (λ k. Same p (M i b * (inverse p (M a b) * M a k)) (M i k)) (sym same.1)
-        (same-unit_right p (M a b) (inverse p (M a b)) (M i b) inverts)
-    at i j (inr other_row) (inr other_column) =
-        ap (λ in_row. with_tests p (M i j) (M i b * (inverse p (M a b) * M a j)) in_row (nat_eq j b) % p) other_row.0
-        ∙ ap (λ in_column. with_tests p (M i j) (M i b * (inverse p (M a b) * M a j)) false in_column % p) other_column.0
-        ∙ minus_mod-added p (M i j) (M i b * (inverse p (M a b) * M a j)) (omega (arith, field.above_one))
+    at i j (inl same) column = grind (arith, nat_tests, same-equal, same-unit_left, inverts)
+    at i j (inr other_row) (inl same) = grind (arith, nat_tests, same-equal, same-unit_right, inverts)
+    at i j (inr other_row) (inr other_column) = grind (arith, nat_tests, minus_mod-added)
 
 pub entry_cancelled-below : (p a b i j : ℕ) (M : ℕ → ℕ → ℕ) → 0 < p → entry_cancelled p a b M i j < p
-entry_cancelled-below p a b i j M positive =
-    let way = M i b * (inverse p (M a b) * M a j) in
-    if_below (nat_eq i a || nat_eq j b) (minus_mod p (M i j) way) p positive
-    (mod_below (M i j + (p - way % p)) p positive)
+entry_cancelled-below p a b i j M positive = grind (arith, nat_tests)
 
 -- the entries of a matrix with 0 in a row, and in a column
 pub entry-without_row : (dead : ℕ) (rows : List (List ℕ)) (i j : ℕ)
     → entry_in (without_row dead rows) i j ≡ row_cleared dead (entry_in rows) i j
-entry-without_row dead rows =
-    entry-with_entries (row_cleared dead (entry_in rows)) rows
-    (λ i j past. if_zero (nat_eq i dead) (entry_in rows i j) (entry-past_rows rows i j past))
-    (λ i j past. if_zero (nat_eq i dead) (entry_in rows i j) (entry-past_columns rows i j past))
+entry-without_row dead rows i j = grind (arith, nat_tests, entry-with_entries, row_cleared, if_zero, entry-past_rows, entry-past_columns)
 
 pub entry-without_column : (dead : ℕ) (rows : List (List ℕ)) (i j : ℕ)
     → entry_in (without_column dead rows) i j ≡ column_cleared dead (entry_in rows) i j
-entry-without_column dead rows =
-    entry-with_entries (column_cleared dead (entry_in rows)) rows
-    (λ i j past. if_zero (nat_eq j dead) (entry_in rows i j) (entry-past_rows rows i j past))
-    (λ i j past. if_zero (nat_eq j dead) (entry_in rows i j) (entry-past_columns rows i j past))
+entry-without_column dead rows i j =
+    grind (arith, nat_tests, entry-with_entries, column_cleared, if_zero, entry-past_rows, entry-past_columns)
 
 pub matrix-without_row : (p n dead : ℕ) (rows : List (List ℕ)) → 0 < p → IsMatrix p n rows → IsMatrix p n (without_row dead rows)
-matrix-without_row p n dead rows positive is =
-    matrix-with_entries p n (row_cleared dead (entry_in rows)) rows is (entry-without_row dead rows)
-    (λ i j. if_below (nat_eq i dead) (entry_in rows i j) p positive (is.below i j))
+matrix-without_row p n dead rows positive is = grind (arith, nat_tests, matrix-with_entries, row_cleared, entry-without_row, if_below)
 
 pub matrix-without_column : (p n dead : ℕ) (rows : List (List ℕ)) → 0 < p → IsMatrix p n rows
     → IsMatrix p n (without_column dead rows)
 matrix-without_column p n dead rows positive is =
-    matrix-with_entries p n (column_cleared dead (entry_in rows)) rows is (entry-without_column dead rows)
-    (λ i j. if_below (nat_eq j dead) (entry_in rows i j) p positive (is.below i j))
+    grind (arith, nat_tests, matrix-with_entries, column_cleared, entry-without_column, if_below)

@@ -83,20 +83,14 @@ pub record Fits (p entry : ℕ) (column_alive row_alive : Bool) : Type 0 where
 
 fits-from_test : (p entry : ℕ) (column_alive row_alive : Bool)
     → (nat_lt entry p && (nat_eq entry 0 || (column_alive && row_alive))) ≡ true → Fits p entry column_alive row_alive
-fits-from_test p entry column_alive row_alive pass =
-    record {
-      below = grind (arith, nat_tests);
-      dead_column = λ dead. grind (arith, nat_tests);
-      dead_row = λ dead. grind (arith, nat_tests);
-    }
+fits-from_test p entry column_alive row_alive pass = grind (arith, nat_tests)
 
 test-from_fits : (p entry : ℕ) (column_alive row_alive : Bool) → Fits p entry column_alive row_alive
     → (nat_lt entry p && (nat_eq entry 0 || (column_alive && row_alive))) ≡ true
 test-from_fits p entry column_alive row_alive fits = grind (arith, nat_tests, fits.below, fits.dead_column, fits.dead_row)
 
 pub fits-zero : (p entry : ℕ) (column_alive row_alive : Bool) → 0 < p → entry ≡ 0 → Fits p entry column_alive row_alive
-fits-zero p entry column_alive row_alive positive is_zero =
-    record { below = omega arith; dead_column = λ dead. is_zero; dead_row = λ dead. is_zero }
+fits-zero p entry column_alive row_alive positive is_zero = omega arith
 
 -- all entries of the matrix from a degree to the next fit, at whatever row and column
 abbrev pub EntriesFit : ℕ → Degree → Degree → Type 0
@@ -120,10 +114,4 @@ entries-from_test p degree next positive size pass row column =
     ]
 
 pub test-from_entries : (p : ℕ) (degree next : Degree) → EntriesFit p degree next → entries_fit p degree next ≡ true
-test-from_entries p degree next fits =
-    all_below-from (λ row. all_below (length degree.alive) (entry_fits p degree next row)) (length next.alive)
-    (λ row row_within.
-    all_below-from (entry_fits p degree next row) (length degree.alive)
-    (λ column column_within.
-    test-from_fits p (entry_in degree.matrix row column) (slice_index_or degree.alive column true)
-    (slice_index_or next.alive row true) (fits row column)))
+test-from_entries p degree next fits = grind (arith, nat_tests, all_below-from, test-from_fits)

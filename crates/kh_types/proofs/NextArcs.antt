@@ -45,17 +45,11 @@ component-own crossings directed arc is =
 component-positive : (crossings : List (List ℕ)) → IsDirected crossings → (arc : ℕ) → IsArc crossings arc
     → 1 ≤ component crossings arc
 component-positive crossings directed arc is =
-    let same = classes-finest (λ z. min z 1) (arc_count crossings + 1) (flat_map passes_of crossings)
-    (passes-positive crossings directed) (passes-below crossings directed) arc (component crossings arc) (omega (arith, is.within))
-    (omega (arith, is.within, component-le crossings directed arc is)) (sym (component-own crossings directed arc is)) in
-    omega (arith, same, is.positive)
+    grind (arith, nat_tests, classes-finest, passes-positive, passes-below, component-le, component-own)
 
 IsArc-component : (crossings : List (List ℕ)) → IsDirected crossings → (arc : ℕ) → IsArc crossings arc
     → IsArc crossings (component crossings arc)
-IsArc-component crossings directed arc is = record {
-  positive = component-positive crossings directed arc is;
-  within = omega (arith, component-le crossings directed arc is, is.within);
-}
+IsArc-component crossings directed arc is = grind (arith, nat_tests, component-positive, component-le)
 
 -- the arcs of a component are the numbers from its least arc on, as many as it has
 pub component-inside : (crossings : List (List ℕ)) → IsDirected crossings → (arc other : ℕ) → IsArc crossings arc
@@ -81,9 +75,7 @@ component-below crossings directed arc is behind =
 -- what is in a component other than that of 0 is an arc
 component-past : (crossings : List (List ℕ)) → IsDirected crossings → (other : ℕ) → arc_count crossings < other
     → component crossings other ≡ 0
-component-past crossings directed other past =
-    get_or_past (components_of crossings) other 0
-    (omega (arith, past, (IsNamed-components_of crossings directed).size))
+component-past crossings directed other past = grind (arith, nat_tests, get_or_past, IsNamed-components_of)
 
 IsArc-with_component : (crossings : List (List ℕ)) → IsDirected crossings → (other : ℕ) → 1 ≤ component crossings other
     → IsArc crossings other
@@ -98,12 +90,7 @@ IsArc-with_component crossings directed other positive = elim (cases_lt (arc_cou
 -- the number behind the last arc of a component is in another
 component-behind : (crossings : List (List ℕ)) → IsDirected crossings → (arc : ℕ) → IsArc crossings arc
     → component crossings arc + size_at crossings arc ≤ arc + 1 → component crossings (arc + 1) ≢ component crossings arc
-component-behind crossings directed arc is behind same =
-    let another = IsArc-with_component crossings directed (arc + 1)
-    (omega (arith, same, component-positive crossings directed arc is)) in
-    let same_size : size_at crossings (arc + 1) ≡ size_at crossings arc =
-    ap (λ first. arcs_in (components_of crossings) first) same in
-    component-below crossings directed (arc + 1) another (omega (arith, behind, same, same_size))
+component-behind crossings directed arc is behind = grind (arith, nat_tests, IsArc-with_component, component-positive, component-below)
 
 -- where an arc stands in its component, and which arc follows
 pub record HasPlace (crossings : List (List ℕ)) (arc : ℕ) : Type 0 where
@@ -149,9 +136,7 @@ component-next crossings directed arc is =
 
 pub IsArc-next : (crossings : List (List ℕ)) → IsDirected crossings → (arc : ℕ) → IsArc crossings arc
     → IsArc crossings (next crossings arc)
-IsArc-next crossings directed arc is =
-    IsArc-with_component crossings directed (next crossings arc)
-    (omega (arith, component-next crossings directed arc is, component-positive crossings directed arc is))
+IsArc-next crossings directed arc is = grind (arith, nat_tests, IsArc-with_component, component-next, component-positive)
 
 -- an arc is the next of one arc only
 pub next-injective : (crossings : List (List ℕ)) → IsDirected crossings → (arc other : ℕ) → IsArc crossings arc → IsArc crossings other

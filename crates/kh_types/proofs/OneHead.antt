@@ -68,16 +68,10 @@ over-goes crossings dart x directed is head is_x over =
 
 over-component : (crossings : List (List ℕ)) (x one three : ℕ) (positive : Bool) → IsDirected crossings → IsArc crossings x
     → OverGoes positive one three x (next crossings x) → component crossings one ≡ component crossings x
-over-component crossings x one three positive directed is goes = elim goes [
-  | inl from_three ↦ ap (λ z. component crossings z) from_three.2 ∙ component-next crossings directed x is
-  | inr from_one ↦ ap (λ z. component crossings z) from_one.1
-]
+over-component crossings x one three positive directed is goes = grind (arith, nat_tests, component, component-next)
 
 not_zero : (crossings : List (List ℕ)) (dart : Dart) → IsOverHead crossings dart → dart.slot ≢ 0
-not_zero crossings dart over is_zero = elim over [
-  | inl positive ↦ omega (arith, positive.1, is_zero)
-  | inr negative ↦ omega (arith, negative.1, is_zero)
-]
+not_zero crossings dart over = omega arith
 
 -- an under pass and an over pass: the over pass begins where the under pass ends
 under_over : (crossings : List (List ℕ)) (dart other : Dart) → IsDirected crossings → TwoHeads crossings dart other
@@ -123,15 +117,7 @@ under_over crossings dart other directed two moves is_under over =
 -- two over passes at one crossing are one
 over-crossings : (crossings : List (List ℕ)) (dart other : Dart) → TwoHeads crossings dart other → IsOverHead crossings dart
     → IsOverHead crossings other → dart.crossing ≢ other.crossing
-over-crossings crossings dart other two over other_over same =
-    two.beside.differs
-    (same_dart other dart (sym same)
-    (one_slot (is_positive crossings other.crossing) (is_positive crossings dart.crossing) other.slot dart.slot
-    (ap (λ crossing. is_positive crossings crossing) (sym same)) other_over over))
-  where
-    one_slot : (p q : Bool) (slot other_slot : ℕ) → p ≡ q → ((p ≡ true) × (slot ≡ 3)) ⊎ ((p ≡ false) × (slot ≡ 1))
-        → ((q ≡ true) × (other_slot ≡ 3)) ⊎ ((q ≡ false) × (other_slot ≡ 1)) → slot ≡ other_slot
-    one_slot p q slot other_slot same one two = grind arith
+over-crossings crossings dart other two over other_over = grind (arith, nat_tests)
 
 -- two over passes, of which the first listed goes up and the other goes down
 over_first : (crossings : List (List ℕ)) (dart other : Dart) → IsDirected crossings → TwoHeads crossings dart other
@@ -172,8 +158,7 @@ over_first crossings dart other directed two moves over other_over none found =
         → p ≡ (if nat_eq c c then nat_lt three one else nat_lt one three)
         → q ≡ (if nat_eq c e then nat_lt other_three other_one else nat_lt other_one other_three) → c ≢ e → y ≢ x
         → OverGoes p one three x y → OverGoes q other_one other_three x y → ⊥
-    against c e p q one three other_one other_three x y sign other_sign apart differ goes other_goes =
-        omega (arith, up c p one three x y sign differ goes, down c e q other_one other_three x y other_sign apart other_goes)
+    against c e p q one three other_one other_three x y sign other_sign apart differ goes other_goes = grind (arith, nat_tests, up, down)
 
 -- a component with two over heads passes under nowhere
 over-nowhere_under : (crossings : List (List ℕ)) (dart other : Dart) → IsDirected crossings → TwoHeads crossings dart other

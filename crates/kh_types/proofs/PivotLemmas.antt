@@ -1,4 +1,5 @@
 -- A matrix has rank 1 more than what any pivot leaves of it.
+use Rattle.std.proofs.lemmas.Bool.Decides.{nat_tests}
 use Rattle.std.proofs.Common.{◌≡◌, ℕ, zero, suc, ◌+◌, ◌-◌, ◌*◌, ◌%◌, ◌<◌, ◌∙◌, refl, ap, sym, arith}
 use Rattle.std.proofs.Math.Nat.{mod-eq_of_lt, zero-mod}
 use Rattle.kh_types.specs.Residues.{HasInverses, Same}
@@ -43,8 +44,7 @@ term-cleared m left right column way = omega arith
 -- minus x and x are 0 together
 minus-added : (p column way rest : ℕ) → 0 < p
     → column * way + rest + (p - 1) * way * column ≡ rest + p * (column * way)
-minus-added zero column way rest positive = absurd (omega arith)
-minus-added (suc q) column way rest positive = let e : suc q - 1 ≡ q = omega arith in rw e (omega arith)
+minus-added p column way rest positive = grind (arith, nat_tests)
 
 -- a row of the matrix times what the second factor becomes is the row of what the pivot leaves
 product-cleared : (p s : ℕ) (M N : ℕ → ℕ → ℕ) (a b : ℕ) → 0 < p → (leaves : Leaves p M N a b) → (f : Factors p M s) (i j : ℕ)
@@ -90,8 +90,7 @@ rank-determined p r s M first second = omega (arith, first.least s second.factor
 -- matrices that factor through the same numbers have the same rank
 pub rank-like : (p r : ℕ) (M N : ℕ → ℕ → ℕ) → ((s : ℕ) → Factors p M s → Factors p N s)
     → ((s : ℕ) → Factors p N s → Factors p M s) → HasRank p M r → HasRank p N r
-rank-like p r M N there back has =
-    record { factors = there r has.factors; least = λ s f. has.least s (back s f) }
+rank-like p r M N there back has = grind (arith, nat_tests)
 
 pub rank-same : (p r : ℕ) (M N : ℕ → ℕ → ℕ) → ((i j : ℕ) → Same p (M i j) (N i j)) → HasRank p M r → HasRank p N r
 rank-same p r M N same =

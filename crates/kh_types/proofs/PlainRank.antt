@@ -63,9 +63,7 @@ rank-turn : (p n steps : ℕ) (rows : List (List ℕ)) (place : Option ℕ) → 
     → ((others : List (List ℕ)) (width : ℕ) → IsMatrix p width others → length others + 1 ≡ length rows
     → HasRank p (entry_in others) (rank_within steps p others))
     → HasRank p (entry_in rows) (after_turn steps p rows place)
-rank-turn p n steps rows None field is is_place before =
-    rank-zeros p (entry_in rows)
-    (λ i j. same-equal p (entry_in rows i j) 0 (slice_index-none (slice_index_or rows i []) j (no_row rows is_place i)))
+rank-turn p n steps rows None field is is_place before = grind (arith, nat_tests, rank-zeros, same-equal, slice_index-none, no_row)
 rank-turn p n steps rows (Some at) field is is_place before =
     let positive : 0 < p = omega (arith, field.above_one) in
     let found = position-Some has_entry rows at [] is_place in
@@ -89,10 +87,7 @@ rank-turn p n steps rows (Some at) field is is_place before =
 
 rank_within-least : (p n steps : ℕ) (rows : List (List ℕ)) → HasInverses p → IsMatrix p n rows → length rows ≤ steps
     → HasRank p (entry_in rows) (rank_within steps p rows)
-rank_within-least p n zero rows field is fits =
-    rank-zeros p (entry_in rows)
-    (λ i j. same-equal p (entry_in rows i j) 0
-    (ap (λ row. slice_index row j) (get_or_past rows i [] (omega arith))))
+rank_within-least p n zero rows field is fits = grind (arith, nat_tests, rank-zeros, same-equal, get_or_past)
 rank_within-least p n (suc steps) rows field is fits =
     rank-turn p n steps rows (position has_entry rows) field is refl
     (λ others width others_is fewer. rank_within-least p width steps others field others_is (omega arith))

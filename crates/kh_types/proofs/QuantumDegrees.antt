@@ -1,4 +1,5 @@
 -- The sizes of the degrees of generators, and which degrees have generators.
+use Rattle.std.proofs.lemmas.Bool.Decides.{nat_tests}
 use Rattle.std.proofs.Common.{◌≡◌, ℕ, ◌+◌, ◌-◌, ◌*◌, ◌/◌, ◌^◌, ◌<◌, ◌≤◌, ◌∙◌, [], ℤ, pos, negsuc, ◌+ℤ◌, ◌-ℤ◌, ◌⊎◌, inl, inr, map, suc, refl, sym, length, get_or, true, subst, arith}
 use Rattle.std.specs.List.{All, range_with_len}
 use Rattle.std.specs.Ordering.{int_eq}
@@ -35,9 +36,7 @@ IsWithin-place n k i below is = (
 )
 
 pub place-IsWithin : (n : ℕ) (i : ℤ) → IsWithin n i → (k : ℕ) × (k < 2 * n + 1) × (i ≡ pos k -ℤ pos n)
-place-IsWithin n i (k, below, is) =
-    let within : k < 2 * n + 1 = omega (arith, length-map-range_with_len (λ m. pos m -ℤ pos n) 0 (2 * n + 1)) in
-    (k, within, sym is ∙ get_or-map-range_with_len (λ m. pos m -ℤ pos n) 0 (2 * n + 1) k k i within (omega arith))
+place-IsWithin n i has2 = grind (arith, nat_tests, length-map-range_with_len, get_or-map-range_with_len)
 
 -- what two functions make of the numbers from -n to n, on which they agree
 pub map-from_minus_agree : {X : Type 0} (f g : ℤ → X) (n : ℕ) → ((i : ℤ) → IsWithin n i → f i ≡ g i)

@@ -41,11 +41,7 @@ list_any-at p a n x from below passes =
 
 pub list_any-one : (p : ℕ → Bool) (a n : ℕ) → list_any p (range_with_len a n) ≡ true
     → (x : ℕ) × (a ≤ x) × (x < a + n) × (p x ≡ true)
-list_any-one p a n passes =
-    let found = Any-from_list_any p (range_with_len a n) passes in
-    let within : found.0 < n = omega (arith, length-range_with_len a n, found.2) in
-    let is : found.1 ≡ a + found.0 = sym found.3 ∙ get_or-range_with_len a n found.0 found.1 within in
-    (a + found.0, omega arith, omega arith, ap p (sym is) ∙ found.4)
+list_any-one p a n passes = grind (arith, nat_tests, passes, Any-from_list_any, length-range_with_len, get_or-range_with_len)
 
 -- what one number adds to a count
 abbrev pub counted : Bool → ℕ
@@ -136,8 +132,7 @@ but-same : (b : Bool) (m : ℕ) → (b && not (nat_eq m m)) ≡ false
 but-same b m = grind (arith, nat_tests)
 
 but-other : (b : Bool) (m k : ℕ) → k ≢ m → b ≡ (b && not (nat_eq k m))
-but-other true m k other = grind (arith, nat_tests)
-but-other false m k other = refl
+but-other b m k other = grind (arith, nat_tests)
 
 pub count_by-but : (p : ℕ → Bool) (a n m : ℕ) → a ≤ m → m < a + n → p m ≡ true
     → count_by p (range_with_len a n) ≡ count_by (but p m) (range_with_len a n) + 1

@@ -2,6 +2,7 @@
 --
 -- Loops go over ranges, so their invariants are about a range that becomes longer by its last number. Each function that a loop computes
 -- (filter, sum, count, map, search, all, any) has its step here, as it is, and for ranges from 0 and from 1 as `grind` applies it.
+use Rattle.std.proofs.lemmas.Bool.Decides.{nat_tests}
 use Rattle.std.proofs.Common.{◌≡◌, ℕ, zero, suc, ◌+◌, ◌-◌, ◌<◌, ◌≤◌, ◌∙◌, List, [], ◌∷◌, ◌++◌, map, length, get_or, ap, sym, arith, Bool, true, false, cond, refl, ◌&&◌, ◌||◌}
 use Rattle.std.specs.Prelude.{Option, Some, None}
 use Rattle.std.specs.List.{range_with_len, filter, count_by, sum_by, flat_map, list_all, list_any, find}
@@ -51,10 +52,7 @@ list_any-range_more p a n j is_j =
 
 -- a range is cut after any of its numbers
 pub range-append : (a k m : ℕ) → range_with_len a (k + m) ≡ range_with_len a k ++ range_with_len (a + k) m
-range-append a zero m =
-    let e : zero + m ≡ m = omega arith in
-    let b : a ≡ a + zero = omega arith in
-    ap (λ n. range_with_len a n) e ∙ ap (λ x. range_with_len x m) b
+range-append a zero m = grind (arith, nat_tests)
 range-append a (suc k) m =
     let e : suc k + m ≡ suc (k + m) = omega arith in
     let b : a + 1 + k ≡ a + suc k = omega arith in
@@ -72,8 +70,7 @@ range_around a n k j below is_j =
 -- one element more at the beginning of a search
 find-map_step : {X : Type 0} (passes : Bool) (f : ℕ → X) (x : ℕ) (later : Option X) (place : Option ℕ)
     → later ≡ option_map f place → cond passes (Some (f x)) later ≡ option_map f (cond passes (Some x) place)
-find-map_step true f x later place same = refl
-find-map_step false f x later place same = same
+find-map_step passes f x later place same = grind (arith, nat_tests)
 
 -- a search among what a function makes of numbers
 pub find-map : {X : Type 0} (p : X → Bool) (f : ℕ → X) (xs : List ℕ)
@@ -113,11 +110,7 @@ list_any-below p n k below passes =
     list_any_at p (range_with_len 0 n) k 0 within (ap p is_k ∙ passes)
 
 pub list_any-found : (p : ℕ → Bool) (n : ℕ) → list_any p (range_with_len 0 n) ≡ true → (k : ℕ) × (k < n) × (p k ≡ true)
-list_any-found p n passes =
-    let found = Any-from_list_any p (range_with_len 0 n) passes in
-    let below : found.0 < n = omega (arith, length-range_with_len 0 n, found.2) in
-    let is_k : found.1 ≡ found.0 = sym found.3 ∙ get_or-range_with_len 0 n found.0 found.1 below ∙ omega arith in
-    (found.0, below, ap p (sym is_k) ∙ found.4)
+list_any-found p n passes = grind (arith, nat_tests, Any-from_list_any, length-range_with_len, get_or-range_with_len)
 
 -- what all numbers of a range pass, the first of them pass
 pub list_all-range_prefix : (p : ℕ → Bool) (a k n : ℕ) → k ≤ n → list_all p (range_with_len a n) ≡ true
@@ -170,19 +163,12 @@ pub map-range_agree : {X : Type 0} (f g : ℕ → X) (a n : ℕ) → ((x : ℕ) 
     → map f (range_with_len a n) ≡ map g (range_with_len a n)
 map-range_agree f g a zero same = refl
 map-range_agree {X} f g a (suc n) same =
-    ap (λ (x : X). x ∷ map f (range_with_len (a + 1) n)) (same a (omega arith) (omega arith))
-    ∙ ap (λ (xs : List X). g a ∷ xs) (map-range_agree f g (a + 1) n (λ x from below. same x (omega arith) (omega arith)))
+    grind (arith, nat_tests, map-range_agree f g (a + 1) n (λ x from below. same x (omega arith) (omega arith)))
 
 -- the numbers below 2, as labels are, and below 4, as slots are
 
 pub below_two : (P : ℕ → Type 0) → P 0 → P 1 → (n : ℕ) → n < 2 → P n
-below_two P at_0 at_1 zero below = at_0
-below_two P at_0 at_1 (suc zero) below = at_1
-below_two P at_0 at_1 (suc (suc n)) below = absurd (omega (arith, below))
+below_two P at_0 at_1 n below = grind (arith, nat_tests)
 
 pub below_four : (P : ℕ → Type 0) → P 0 → P 1 → P 2 → P 3 → (n : ℕ) → n < 4 → P n
-below_four P at_0 at_1 at_2 at_3 zero below = at_0
-below_four P at_0 at_1 at_2 at_3 (suc zero) below = at_1
-below_four P at_0 at_1 at_2 at_3 (suc (suc zero)) below = at_2
-below_four P at_0 at_1 at_2 at_3 (suc (suc (suc zero))) below = at_3
-below_four P at_0 at_1 at_2 at_3 (suc (suc (suc (suc n)))) below = absurd (omega (arith, below))
+below_four P at_0 at_1 at_2 at_3 n below = grind (arith, nat_tests)

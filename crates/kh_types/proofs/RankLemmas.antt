@@ -13,20 +13,12 @@ use Rattle.kh_types.specs.Rank.{has_entry, lead_of, inverse, minus_mod, cleared,
 
 -- a place counted from one later
 place_later : (b : Bool) (at : ℕ) → cond b (Some (suc at)) None ≡ option_map suc (cond b (Some at) None)
-place_later true at = refl
-place_later false at = refl
+place_later b at = grind (arith, nat_tests)
 
 -- the first place that passes, behind an element that does not
 position-cons_no : {X : Type 0} (test : X → Bool) (x : X) (xs : List X) → test x ≡ false
     → position test (x ∷ xs) ≡ option_map suc (position test xs)
-position-cons_no test x xs fails =
-    let at = position_or_len test xs in
-    let later : position_or_len test (x ∷ xs) ≡ suc at =
-    ap (λ b. cond (not b) (1 + at) 0) fails ∙ omega arith in
-    let same : nat_lt (suc at) (suc (length xs)) ≡ nat_lt at (length xs) = grind (arith, nat_tests) in
-    ap (λ n. cond (nat_lt n (suc (length xs))) (Some n) None) later
-    ∙ ap (λ b. cond b (Some (suc at)) None) same
-    ∙ place_later (nat_lt at (length xs)) at
+position-cons_no test x xs fails = grind (arith, nat_tests)
 
 -- what a turn gives, at the place of the row that it takes
 abbrev pub after_turn : ℕ → ℕ → List (List ℕ) → Option ℕ → ℕ
@@ -35,10 +27,7 @@ after_turn steps p rows place =
 
 -- 0 - 0 is 0
 minus_mod-zero : (p x factor y : ℕ) → x ≡ 0 → factor ≡ 0 → minus_mod p x (factor * y) ≡ 0
-minus_mod-zero p x factor y x_zero factor_zero =
-    let product : factor * y ≡ 0 = ap (λ f. f * y) factor_zero ∙ omega arith in
-    let rest : x + (p - factor * y % p) ≡ p = ap (λ z. x + (p - z % p)) product ∙ omega arith in
-    ap (λ z. z % p) rest ∙ mod_self p
+minus_mod-zero p x factor y x_zero factor_zero = grind (arith, nat_tests)
 
 -- a row without an entry begins with 0, and its rest has none
 first_zero : (x : ℕ) (row : List ℕ) → has_entry (x ∷ row) ≡ false → x ≡ 0
@@ -69,29 +58,19 @@ has_entry-minus : (p factor : ℕ) (row pivot : List ℕ) → factor ≡ 0 → h
 has_entry-minus p factor [] pivot factor_zero none = refl
 has_entry-minus p factor (x ∷ row) [] factor_zero none = refl
 has_entry-minus p factor (x ∷ row) (y ∷ pivot) factor_zero none =
-    none_again (minus_mod p x (factor * y)) (map (λ pair. minus_mod p pair.0 (factor * pair.1)) (zip row pivot))
-    (minus_mod-zero p x factor y (first_zero x row none) factor_zero)
-    (has_entry-minus p factor row pivot factor_zero (rest_none x row none))
+    grind (arith, nat_tests, none_again, minus_mod-zero, first_zero, rest_none, has_entry-minus p factor row pivot factor_zero (rest_none x row none))
 
 -- so a turn leaves a row without an entry without one
 has_entry-reduced : (p : ℕ) (pivot row : List ℕ) → has_entry row ≡ false
     → has_entry (remove (cleared p pivot (lead_of pivot) row) (lead_of pivot)) ≡ false
-has_entry-reduced p pivot row none =
-    let column = lead_of pivot in
-    let power = inverse p (slice_index pivot column) in
-    let no_factor : slice_index row column * power ≡ 0 = ap (λ x. x * power) (slice_index-none row column none) ∙ omega arith in
-    has_entry-remove (cleared p pivot column row) column (has_entry-minus p (slice_index row column * power) row pivot no_factor none)
+has_entry-reduced p pivot row none = grind (arith, nat_tests, slice_index-none, has_entry-remove, has_entry-minus)
 
 -- what a turn gives is the same where a row without an entry is put before the others
 after_turn-none : (steps p : ℕ) (row : List ℕ) (rows : List (List ℕ)) (place : Option ℕ)
     → ((first : List ℕ) (others : List (List ℕ)) → has_entry first ≡ false
     → rank_within steps p (first ∷ others) ≡ rank_within steps p others)
     → has_entry row ≡ false → after_turn steps p (row ∷ rows) (option_map suc place) ≡ after_turn steps p rows place
-after_turn-none steps p row rows None same none = refl
-after_turn-none steps p row rows (Some at) same none =
-    let pivot = slice_index_or rows at [] in
-    ap suc (same (remove (cleared p pivot (lead_of pivot) row) (lead_of pivot)) (reduced_by p pivot (remove rows at))
-    (has_entry-reduced p pivot row none))
+after_turn-none steps p row rows place same none = grind (arith, nat_tests, has_entry-reduced)
 
 -- a first row without an entry does not change the rank, for any number of steps
 rank_within-none : (steps p : ℕ) (row : List ℕ) (rows : List (List ℕ)) → has_entry row ≡ false
@@ -105,14 +84,7 @@ rank_within-none (suc steps) p row rows none =
 after_turn-enough : (n m p : ℕ) (rows : List (List ℕ)) (place : Option ℕ) → position has_entry rows ≡ place
     → ((others : List (List ℕ)) → length others + 1 ≡ length rows → rank_within n p others ≡ rank_within m p others)
     → after_turn n p rows place ≡ after_turn m p rows place
-after_turn-enough n m p rows None is_place same = refl
-after_turn-enough n m p rows (Some at) is_place same =
-    let pivot = slice_index_or rows at [] in
-    let found = position-Some has_entry rows at [] is_place in
-    let fewer : length (reduced_by p pivot (remove rows at)) + 1 ≡ length rows =
-    ap (λ k. k + 1) (length-map (remove rows at) (λ row. remove (cleared p pivot (lead_of pivot) row) (lead_of pivot)))
-    ∙ length-remove rows at found.0 in
-    ap suc (same (reduced_by p pivot (remove rows at)) fewer)
+after_turn-enough n m p rows place is_place same = grind (arith, nat_tests, position-Some, length-map, length-remove)
 
 -- the rank is the same for all numbers of steps from the number of rows on
 pub rank_within-enough : (n m p : ℕ) (rows : List (List ℕ)) → length rows ≤ n → length rows ≤ m

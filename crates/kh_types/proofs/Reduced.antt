@@ -1,4 +1,5 @@
 -- The entries of what a step of the elimination leaves.
+use Rattle.std.proofs.lemmas.Bool.Decides.{nat_tests}
 use Rattle.std.proofs.Common.{◌≡◌, ℕ, zero, suc, ◌+◌, ◌-◌, ◌*◌, ◌%◌, ◌<◌, ◌∙◌, ◌⊎◌, inl, inr, List, [], ◌∷◌, length, map, get_or, refl, ap, ap₂, sym, subst, arith, min}
 use Rattle.std.specs.Prelude.{slice_index, slice_index_or}
 use Rattle.std.specs.List.{remove, zip}
@@ -17,10 +18,7 @@ use Rattle.kh_types.proofs.Removed.{place_before, place_before-below, get_or-rem
 
 -- 0 - 0 is 0
 pub minus_mod-nothing : (p z : ℕ) → z ≡ 0 → minus_mod p 0 z ≡ 0
-minus_mod-nothing p z is_zero =
-    let nothing : minus_mod p 0 0 ≡ 0 =
-    let e : 0 + (p - 0 % p) ≡ p = let z0 = zero-mod p in omega arith in ap (λ x. x % p) e ∙ mod_self p in
-    ap (λ x. minus_mod p 0 x) is_zero ∙ nothing
+minus_mod-nothing p z is_zero = grind (arith, nat_tests)
 
 -- z and x - z are x together
 pub minus_mod-added : (p x z : ℕ) → 0 < p → Same p (z + minus_mod p x z) x
@@ -68,8 +66,7 @@ get_or-map_rows f (row ∷ rows) zero keeps = refl
 get_or-map_rows f (row ∷ rows) (suc i) keeps = get_or-map_rows f rows i keeps
 
 remove-nil : {X : Type 0} (a : ℕ) → remove {X = X} [] a ≡ []
-remove-nil zero = refl
-remove-nil (suc a) = refl
+remove-nil a = grind (arith, nat_tests)
 
 -- a row after a step, by the row that it was
 abbrev row_after : ℕ → List ℕ → List ℕ → List ℕ
@@ -79,10 +76,7 @@ row_after p pivot row = remove (cleared p pivot (lead_of pivot) row) (lead_of pi
 row-reduced : (p at i : ℕ) (rows : List (List ℕ))
     → slice_index_or (reduced_by p (slice_index_or rows at []) (remove rows at)) i []
     ≡ row_after p (slice_index_or rows at []) (slice_index_or rows (place_before at i) [])
-row-reduced p at i rows =
-    let pivot = slice_index_or rows at [] in
-    get_or-map_rows (row_after p pivot) (remove rows at) i (remove-nil (lead_of pivot))
-    ∙ ap (row_after p pivot) (get_or-remove rows at i [])
+row-reduced p at i rows = grind (arith, nat_tests, get_or-map_rows, remove-nil, get_or-remove)
 
 -- its entries, where it is a row of the matrix or none
 slice_index-after : (p j : ℕ) (row pivot : List ℕ) → (row ≡ []) ⊎ (length row ≡ length pivot)
@@ -90,41 +84,24 @@ slice_index-after : (p j : ℕ) (row pivot : List ℕ) → (row ≡ []) ⊎ (len
     ≡ minus_mod p (slice_index row (place_before (lead_of pivot) j))
     (slice_index row (lead_of pivot) * inverse p (slice_index pivot (lead_of pivot))
     * slice_index pivot (place_before (lead_of pivot) j))
-slice_index-after p j row pivot (inl none) =
-    let b = lead_of pivot in
-    ap (λ line. slice_index (row_after p pivot line) j) none
-    ∙ ap (λ line. slice_index line j) (remove-nil b)
-    ∙ sym (minus_mod-nothing p (0 * inverse p (slice_index pivot b) * slice_index pivot (place_before b j)) (omega arith))
-    ∙ ap (λ line. minus_mod p (slice_index line (place_before b j))
-    (slice_index line b * inverse p (slice_index pivot b) * slice_index pivot (place_before b j))) (sym none)
-slice_index-after p j row pivot (inr size) =
-    let b = lead_of pivot in
-    get_or-remove (cleared p pivot b row) b j 0
-    ∙ slice_index-cleared p (slice_index row b * inverse p (slice_index pivot b)) (place_before b j) row pivot size
+slice_index-after p j row pivot has4 =
+    grind (arith, nat_tests, remove-nil, minus_mod-nothing, place_before, get_or-remove, slice_index-cleared)
 
 row-sized : (p n at i : ℕ) (rows : List (List ℕ)) → IsMatrix p n rows → at < length rows
     → (slice_index_or rows i [] ≡ []) ⊎ (length (slice_index_or rows i []) ≡ length (slice_index_or rows at []))
-row-sized p n at i rows is within =
-    elim (leb_tells (length rows) i) [
-      | inl past ↦ inl (get_or_past rows i [] past.1)
-      | inr below ↦ inr (is.width i below.1 ∙ sym (is.width at within))
-    ]
+row-sized p n at i rows is within = grind (arith, nat_tests, leb_tells, get_or_past)
 
 -- the entries after a step are what the pivot leaves, without the pivot's row and column
 pub entry-reduced : (p n at : ℕ) (rows : List (List ℕ)) → IsMatrix p n rows → at < length rows → (i j : ℕ)
     → entry_in (reduced_by p (slice_index_or rows at []) (remove rows at)) i j
     ≡ without at (lead_of (slice_index_or rows at []))
     (entry_left p at (lead_of (slice_index_or rows at [])) (entry_in rows)) i j
-entry-reduced p n at rows is within i j =
-    ap (λ row. slice_index row j) (row-reduced p at i rows)
-    ∙ slice_index-after p j (slice_index_or rows (place_before at i) []) (slice_index_or rows at [])
-    (row-sized p n at (place_before at i) rows is within)
+entry-reduced p n at rows is within i j = grind (arith, nat_tests, row-reduced, slice_index-after, place_before, row-sized)
 
 -- the number of rows after a step
 pub length-reduced : (p at : ℕ) (rows : List (List ℕ)) → at < length rows
     → length (reduced_by p (slice_index_or rows at []) (remove rows at)) + 1 ≡ length rows
-length-reduced p at rows within =
-    ap (λ k. k + 1) (length-map (remove rows at) (row_after p (slice_index_or rows at []))) ∙ length-remove rows at within
+length-reduced p at rows within = grind (arith, nat_tests, length-map, length-remove)
 
 -- a step leaves a matrix, with a column less
 pub matrix-reduced : (p n at : ℕ) (rows : List (List ℕ)) → 0 < p → IsMatrix p n rows → at < length rows

@@ -1,4 +1,5 @@
 -- A list after one of its elements is removed, and a matrix after a row and a column of zeros are.
+use Rattle.std.proofs.lemmas.Bool.Decides.{nat_tests}
 use Rattle.std.proofs.Common.{◌≡◌, ℕ, zero, suc, ◌+◌, ◌*◌, ◌%◌, ◌≤◌, ◌<◌, ◌∙◌, ◌⊎◌, inl, inr, List, [], ◌∷◌, get_or, refl, ap, sym, arith}
 use Rattle.std.specs.List.{remove}
 use Rattle.kh_types.specs.Residues.{Same}
@@ -70,18 +71,11 @@ factors-filled p s a b M row column f =
   where
     at : (i j : ℕ) (row_placed : Placed a i) (column_placed : Placed b j)
         → Same p (sum_below s (λ k. filled a i row_placed (λ l. f.left l k) * filled b j column_placed (λ l. f.right k l))) (M i j)
-    at i j (inl same) column_placed =
-        ap (λ z. z % p)
-        (sum_below-zeros s (λ k. 0 * filled b j column_placed (λ l. f.right k l)) (λ k. omega arith))
-        ∙ sym (row j) ∙ ap (λ z. M z j % p) (sym same)
-    at i j (inr later) (inl same) =
-        ap (λ z. z % p) (sum_below-zeros s (λ k. f.left later.0 k * 0) (λ k. omega arith))
-        ∙ sym (column i) ∙ ap (λ z. M i z % p) (sym same)
-    at i j (inr later) (inr after) =
-        f.product later.0 after.0 ∙ ap (λ z. M z (place_before b after.0) % p) later.1 ∙ ap (λ z. M i z % p) after.1
+    at i j (inl same) column_placed = grind (arith, nat_tests, sum_below-zeros)
+    at i j (inr later) (inl same) = grind (arith, nat_tests, sum_below-zeros)
+    at i j (inr later) (inr after) = grind (arith, nat_tests)
 
 -- a row and a column of zeros do not count
 pub rank-without : (p r a b : ℕ) (M : ℕ → ℕ → ℕ) → ((j : ℕ) → Same p (M a j) 0) → ((i : ℕ) → Same p (M i b) 0)
     → HasRank p (without a b M) r → HasRank p M r
-rank-without p r a b M row column =
-    rank-like p r (without a b M) M (λ s. factors-filled p s a b M row column) (λ s. factors-without p s a b M)
+rank-without p r a b M row column = grind (arith, nat_tests, rank-like, factors-filled, factors-without)

@@ -1,4 +1,5 @@
 -- Sums and products modulo p.
+use Rattle.std.proofs.lemmas.Bool.Decides.{nat_tests}
 use Rattle.std.proofs.Common.{◌≡◌, ℕ, zero, suc, ◌+◌, ◌-◌, ◌*◌, ◌%◌, ◌<◌, ◌∙◌, refl, ap, sym, arith}
 use Rattle.std.proofs.Math.Nat.{add-mod-mod, mod-add-mod, add-mul-mod_self_left, zero-mod, mod-eq_of_lt}
 use Rattle.std.proofs.lemmas.Nat.{mul-mod}
@@ -14,8 +15,7 @@ same-add p a b c d first second =
     ∙ ap (λ z. (b % p + z) % p) second ∙ mod-add-mod b p (d % p) ∙ add-mod-mod b d p
 
 pub same-mul : (p a b c d : ℕ) → Same p a b → Same p c d → Same p (a * c) (b * d)
-same-mul p a b c d first second =
-    mul-mod a c p ∙ ap (λ z. (z * (c % p)) % p) first ∙ ap (λ z. (b % p * z) % p) second ∙ sym (mul-mod b d p)
+same-mul p a b c d first second = grind (arith, nat_tests, mul-mod)
 
 -- a factor that is multiplied by the same
 pub same-scaled : (p c a b : ℕ) → Same p a b → Same p (c * a) (c * b)
@@ -67,5 +67,4 @@ same-unit_right p x y z inverts =
 
 -- what is not 0 modulo p times its inverse is 1
 pub same-inverse : (p x : ℕ) → HasInverses p → ¬ Same p x 0 → Same p (x * inverse p x) 1
-same-inverse p x field other =
-    field.inverses_cancel x (λ is_zero. other (is_zero ∙ sym (zero-mod p))) ∙ sym (mod-eq_of_lt field.above_one)
+same-inverse p x field other = grind (arith, nat_tests)

@@ -1,4 +1,5 @@
 -- The graded Euler characteristic of a table that shows the rows of some dimensions.
+use Rattle.std.proofs.lemmas.Bool.Decides.{nat_tests}
 use Rattle.std.proofs.Common.{◌≡◌, ◌≢◌, ℕ, inl, inr, ◌∙◌, List, ℤ, pos, sym, refl, map, ap, arith, subst, Bool, true, false, cond}
 use Rattle.std.specs.List.{filter, flat_map}
 use Rattle.std.specs.Ordering.{int_eq}
@@ -24,19 +25,7 @@ row_value e row = cond (int_eq row.j e) (signed_by row.i row.dim) (pos 0)
 
 -- a row of dimension 0 adds nothing
 row_value-shown : (e : ℤ) (row : Row) → cond (is_shown row) (row_value e row) (pos 0) ≡ row_value e row
-row_value-shown e row = elim (cases_lt 0 row.dim) [
-  | inl above ↦ ap (λ b. cond b (row_value e row) (pos 0)) (lt-ltb 0 row.dim above)
-  | inr none ↦
-      let is_zero : row.dim ≡ 0 = omega arith in
-      let nothing : row_value e row ≡ pos 0 =
-      ap (λ (dim : ℕ). cond (int_eq row.j e) (signed_by row.i dim) (pos 0)) is_zero
-      ∙ ap (λ (x : ℤ). cond (int_eq row.j e) x (pos 0)) (signed_by-zero row.i) ∙ same_either (int_eq row.j e) in
-      ap (λ (x : ℤ). cond (is_shown row) x (pos 0)) nothing ∙ same_either (is_shown row) ∙ sym nothing
-]
-  where
-    same_either : (b : Bool) → cond b (pos 0) (pos 0) ≡ pos 0
-    same_either true = refl
-    same_either false = refl
+row_value-shown e row = grind (arith, nat_tests)
 
 -- the rows of one quantum degree
 abbrev degree_value : ℕ → (ℤ → ℤ → ℕ) → ℤ → ℤ → ℤ

@@ -1,4 +1,5 @@
 -- Sums of the values of a function: they add, they scale, and two of them are exchanged.
+use Rattle.std.proofs.lemmas.Bool.Decides.{nat_tests}
 use Rattle.std.proofs.Common.{◌≡◌, ℕ, zero, suc, ◌+◌, ◌*◌, ◌∙◌, refl, ap, sym, arith}
 use Rattle.kh_types.specs.Residues.{Same}
 use Rattle.kh_types.specs.Products.{sum_below}
@@ -12,29 +13,19 @@ sum_below-same p (suc n) f g same =
 
 pub sum_below-equal : (n : ℕ) (f g : ℕ → ℕ) → ((k : ℕ) → f k ≡ g k) → sum_below n f ≡ sum_below n g
 sum_below-equal zero f g equal = refl
-sum_below-equal (suc n) f g equal =
-    let first = equal 0 in
-    let rest = sum_below-equal n (λ k. f (suc k)) (λ k. g (suc k)) (λ k. equal (suc k)) in
-    omega arith
+sum_below-equal (suc n) f g equal = grind (arith, nat_tests, sum_below-equal n (λ k. f (suc k)) (λ k. g (suc k)) (λ k. equal (suc k)))
 
 pub sum_below-add : (n : ℕ) (f g : ℕ → ℕ) → sum_below n (λ k. f k + g k) ≡ sum_below n f + sum_below n g
 sum_below-add zero f g = refl
-sum_below-add (suc n) f g =
-    let rest = sum_below-add n (λ k. f (suc k)) (λ k. g (suc k)) in
-    omega arith
+sum_below-add (suc n) f g = grind (arith, nat_tests, sum_below-add n (λ k. f (suc k)) (λ k. g (suc k)))
 
 pub sum_below-scaled : (n c : ℕ) (f : ℕ → ℕ) → sum_below n (λ k. c * f k) ≡ c * sum_below n f
 sum_below-scaled zero c f = omega arith
-sum_below-scaled (suc n) c f =
-    let rest = sum_below-scaled n c (λ k. f (suc k)) in
-    omega arith
+sum_below-scaled (suc n) c f = grind (arith, nat_tests, sum_below-scaled n c (λ k. f (suc k)))
 
 pub sum_below-zeros : (n : ℕ) (f : ℕ → ℕ) → ((k : ℕ) → f k ≡ 0) → sum_below n f ≡ 0
 sum_below-zeros zero f zeros = refl
-sum_below-zeros (suc n) f zeros =
-    let first = zeros 0 in
-    let rest = sum_below-zeros n (λ k. f (suc k)) (λ k. zeros (suc k)) in
-    omega arith
+sum_below-zeros (suc n) f zeros = grind (arith, nat_tests, sum_below-zeros n (λ k. f (suc k)) (λ k. zeros (suc k)))
 
 -- the order of two sums does not matter
 pub sum_below-exchanged : (m n : ℕ) (f : ℕ → ℕ → ℕ)

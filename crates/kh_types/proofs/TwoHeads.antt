@@ -29,12 +29,7 @@ pub record TwoHeads (crossings : List (List ℕ)) (dart other : Dart) : Type 0 w
   pub other_head : is_head crossings other ≡ true
 
 pub turned_round : (crossings : List (List ℕ)) (dart other : Dart) → TwoHeads crossings dart other → TwoHeads crossings other dart
-turned_round crossings dart other two = record {
-  within = two.beside.within;
-  beside = record { within = two.within; differs = λ same. two.beside.differs (sym same); same_arc = sym two.beside.same_arc };
-  head = two.other_head;
-  other_head = two.head;
-}
+turned_round crossings dart other two = grind (arith, nat_tests)
 
 -- of two darts of one arc each dart of the arc is one
 one_of : (crossings : List (List ℕ)) (dart other third : Dart) → IsDirected crossings → IsDart crossings dart

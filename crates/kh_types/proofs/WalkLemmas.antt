@@ -50,16 +50,10 @@ at_other : (classes : List ℕ) (x p y : ℕ) → y ≢ x → slice_index (set c
 at_other classes x p y apart = get_or-set_other classes x y p 0 apart
 
 keeps : (classes : List ℕ) (x p y : ℕ) → x < length classes → slice_index classes y ≡ p → slice_index (set classes x p) y ≡ p
-keeps classes x p y below has = elim (cases_eq y x) [
-  | inl same ↦ ap (λ z. slice_index (set classes x p) z) same ∙ at_new classes x p below
-  | inr apart ↦ at_other classes x p y apart ∙ has
-]
+keeps classes x p y below has = grind (arith, nat_tests, below, cases_eq, set, at_new, at_other)
 
 came_from : (classes : List ℕ) (x p y : ℕ) → slice_index (set classes x p) y ≡ p → (y ≡ x) ⊎ (slice_index classes y ≡ p)
-came_from classes x p y has = elim (cases_eq y x) [
-  | inl same ↦ inl same
-  | inr apart ↦ inr (sym (at_other classes x p y apart) ∙ has)
-]
+came_from classes x p y has = grind (arith, nat_tests, cases_eq, at_other)
 
 -- the walk makes one step more
 pub IsOnWalk-more : (m : ℕ) (f back : ℕ → ℕ) (cycles initial classes : List ℕ) (p x : ℕ) → AreCycles m f back cycles → p < m → x ≢ p
@@ -103,41 +97,16 @@ IsOnWalk-more m f back cycles initial classes p x are p_below not_p on =
 -- a number that is still its own class is the least of its cycle, and no other number has its class
 own_is_least : (cycles classes : List ℕ) (m p : ℕ) → IsNamed m cycles → IsWalked cycles classes p → p < m
     → slice_index classes p ≡ p → slice_index cycles p ≡ p
-own_is_least cycles classes m p named walked below own = elim (cases_eq (slice_index cycles p) p) [
-  | inl same ↦ same
-  | inr apart ↦
-      let least = named.least p below in
-      absurd (apart (sym (walked.before p (omega (arith, named.size, below)) (omega (arith, least, apart))) ∙ own))
-]
+own_is_least cycles classes m p named walked below own = grind (arith, nat_tests)
 
 only_own : (cycles classes : List ℕ) (m p y : ℕ) → IsNamed m cycles → IsWalked cycles classes p → y < m
     → slice_index classes y ≡ p → y ≡ p
-only_own cycles classes m p y named walked below has =
-    let inside : y < length cycles = omega (arith, named.size, below) in
-    elim (cases_lt (slice_index cycles y) p) [
-      | inl lesser ↦ absurd (omega (arith, walked.before y inside lesser, lesser, has))
-      | inr later ↦ sym (walked.behind y inside later) ∙ has
-    ]
+only_own cycles classes m p y named walked below has = grind (arith, nat_tests)
 
 -- the walk begins behind the least number of a cycle
 pub IsOnWalk-first : (m : ℕ) (f back : ℕ → ℕ) (cycles classes : List ℕ) (p : ℕ) → AreCycles m f back cycles → p < m
     → IsWalked cycles classes p → slice_index classes p ≡ p → IsOnWalk m f back cycles classes classes p (f p)
-IsOnWalk-first m f back cycles classes p are below walked own =
-    let only = λ (y : ℕ) (y_below : y < m) (has : slice_index classes y ≡ p). only_own cycles classes m p y are.named walked y_below has in
-    record {
-      size = walked.size ∙ are.named.size;
-      below = are.below p below;
-      cycle = are.step p below ∙ own_is_least cycles classes m p are.named walked below own;
-      start = own;
-      fresh = elim (cases_eq (f p) p) [
-        | inl same ↦ inl same
-        | inr apart ↦ inr (λ has. apart (only (f p) (are.below p below) has))
-      ];
-      entered = ap (λ z. slice_index classes z) (are.back_f p below) ∙ own;
-      preceded = λ y y_below has apart. absurd (apart (only y y_below has));
-      followed = λ y y_below has. inl (ap f (only y y_below has));
-      others = λ y y_below other. refl;
-    }
+IsOnWalk-first m f back cycles classes p are below walked own = grind (arith, nat_tests)
 
 -- and ends where it began: then all numbers of the cycle have its class
 abbrev has_class : List ℕ → ℕ → ℕ → ℕ
@@ -185,17 +154,7 @@ IsWalked-more m f back cycles initial classes p are walked on = record {
 -- a number that is not its own class begins no cycle
 pub IsWalked-skip : (m : ℕ) (cycles classes : List ℕ) (p : ℕ) → IsNamed m cycles → p < m → IsWalked cycles classes p
     → slice_index classes p ≢ p → IsWalked cycles classes (p + 1)
-IsWalked-skip m cycles classes p named p_below walked other =
-    let no_cycle : slice_index cycles p ≢ p =
-    λ is. other (walked.behind p (omega (arith, named.size, p_below)) (omega (arith, is))) in
-    record {
-      size = walked.size;
-      before = λ y inside lesser.
-          let apart : slice_index cycles y ≢ p =
-          λ is. no_cycle (ap (λ z. slice_index cycles z) (sym is) ∙ named.own y (omega (arith, named.size, inside)) ∙ is) in
-          walked.before y inside (omega (arith, lesser, apart));
-      behind = λ y inside later. walked.behind y inside (omega (arith, later));
-    }
+IsWalked-skip m cycles classes p named p_below walked other = grind (arith, nat_tests)
 
 -- at first all numbers are alone, and in the end the classes are the cycles
 pub IsWalked-none : (m : ℕ) (cycles : List ℕ) → IsNamed m cycles → IsWalked cycles (range_with_len 0 m) 0
@@ -216,9 +175,4 @@ walked-all m cycles classes named walked =
 -- how many numbers have not got the class p: fewer with each step
 pub unvisited-fewer : (classes : List ℕ) (p x : ℕ) → x < length classes → slice_index classes x ≢ p
     → count_by (λ class. not (nat_eq class p)) (set classes x p) < count_by (λ class. not (nat_eq class p)) classes
-unvisited-fewer classes p x below other =
-    let weight : ℕ → ℕ = λ class. cond (not (nat_eq class p)) 1 0 in
-    let old : weight (slice_index classes x) ≡ 1 =
-    ap (λ b. cond (not b) 1 0) (false_from_ne_true (nat_eq (slice_index classes x) p) (λ same. other (eqb-true (slice_index classes x) p same))) in
-    let new : weight p ≡ 0 = ap (λ b. cond (not b) 1 0) (eq-eqb p p refl) in
-    omega (arith, sum_by-set weight classes x p 0 below, old, new)
+unvisited-fewer classes p x below other = grind (arith, nat_tests, below, false_from_ne_true, eqb-true, eq-eqb, sum_by-set)

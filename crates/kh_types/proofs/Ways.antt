@@ -20,8 +20,7 @@ abbrev with : ℕ → (ℕ → Bool) → ℕ → Bool
 with x passed y = nat_eq y x || passed y
 
 with-this : (b : Bool) (x y : ℕ) → y ≡ x → (nat_eq y x || b) ≡ true
-with-this true x y same = grind (arith, nat_tests)
-with-this false x y same = grind (arith, nat_tests)
+with-this b x y same = grind (arith, nat_tests)
 
 with-passed : (b : Bool) (x y : ℕ) → b ≡ true → (nat_eq y x || b) ≡ true
 with-passed b x y passes = grind (arith, nat_tests)
@@ -46,49 +45,11 @@ record IsOnWay (m : ℕ) (f : ℕ → ℕ) (d e : ℕ) (passed : ℕ → Bool) (
   together : (g : ℕ → ℕ) → ((y : ℕ) → y < m → y ≢ d → y ≢ e → g y ≡ g (f y)) → g x ≡ g (f e)
 
 IsOnWay-first : (m : ℕ) (f : ℕ → ℕ) (d e : ℕ) → IsOneToOne m f → e < m → IsOnWay m f d e (λ y. false) (f e)
-IsOnWay-first m f d e is below = record {
-  below = is.below e below;
-  fresh = λ passes. absurd (cc);
-  start = inl refl;
-  not_d = λ passes. absurd (cc);
-  not_e = λ passes. absurd (cc);
-  onward = λ y y_below passes. absurd (cc);
-  behind = λ y y_below comes. elim comes [ inl same ↦ inl (is.one y e y_below below same) | inr passes ↦ absurd (cc) ];
-  together = λ g keeps. refl;
-}
+IsOnWay-first m f d e is below = grind (arith, nat_tests)
 
 IsOnWay-more : (m : ℕ) (f : ℕ → ℕ) (d e : ℕ) (passed : ℕ → Bool) (x : ℕ) → IsOneToOne m f → x ≢ d → x ≢ e
     → IsOnWay m f d e passed x → IsOnWay m f d e (with x passed) (f x)
-IsOnWay-more m f d e passed x is x_not_d x_not_e on =
-    let comes : (y : ℕ) → with x passed y ≡ true → (y ≡ x) ⊎ (passed y ≡ true) = λ y. with-cases (passed y) x y in
-    record {
-      below = is.below x on.below;
-      fresh = λ passes. elim (on.behind x on.below (comes (f x) passes)) [
-        | inl is_e ↦ x_not_e is_e
-        | inr passes_too ↦ on.fresh passes_too
-      ];
-      start = inr (elim on.start [
-        | inl here ↦ with-this (passed (f e)) x (f e) here
-        | inr passes ↦ with-passed (passed (f e)) x (f e) passes
-      ]);
-      not_d = λ passes. elim (comes d passes) [ inl same ↦ x_not_d (sym same) | inr before ↦ on.not_d before ];
-      not_e = λ passes. elim (comes e passes) [ inl same ↦ x_not_e (sym same) | inr before ↦ on.not_e before ];
-      onward = λ y y_below passes. elim (comes y passes) [
-        | inl same ↦ inl (ap f same)
-        | inr before ↦ inr (elim (on.onward y y_below before) [
-          | inl here ↦ with-this (passed (f y)) x (f y) here
-          | inr passes_too ↦ with-passed (passed (f y)) x (f y) passes_too
-        ])
-      ];
-      behind = λ y y_below image. elim image [
-        | inl same ↦ inr (with-this (passed y) x y (is.one y x y_below on.below same))
-        | inr passes ↦ elim (on.behind y y_below (comes (f y) passes)) [
-          | inl is_e ↦ inl is_e
-          | inr before ↦ inr (with-passed (passed y) x y before)
-        ]
-      ];
-      together = λ g keeps. sym (keeps x on.below x_not_d x_not_e) ∙ on.together g keeps;
-    }
+IsOnWay-more m f d e passed x is x_not_d x_not_e on = grind (arith, nat_tests)
 
 -- the whole way, which ends at one of d and e, and leaves out the other: the numbers on it have the value 1, all others 0
 pub record IsWay (m : ℕ) (f : ℕ → ℕ) (d e last other : ℕ) : Type 0 where
@@ -105,9 +66,7 @@ abbrev value : Bool → ℕ
 value passes = cond passes 1 0
 
 value-same : (b c : Bool) → (b ≡ true → c ≡ true) → (c ≡ true → b ≡ true) → value b ≡ value c
-value-same true c onward back = ap value (sym (onward refl))
-value-same false true onward back = let no : false ≡ true = back refl in absurd (cc)
-value-same false false onward back = refl
+value-same b c onward back = grind (arith, nat_tests)
 
 IsWay-ends : (m : ℕ) (f : ℕ → ℕ) (d e other : ℕ) (passed : ℕ → Bool) (x : ℕ) → IsOneToOne m f → d < m → d ≢ e
     → (x ≡ d) ⊎ (x ≡ e) → other ≢ x → (other ≡ d) ⊎ (other ≡ e) → IsOnWay m f d e passed x → IsWay m f d e x other
@@ -160,12 +119,10 @@ IsWay-at_e m f d e passed x is d_below apart is_e on =
 
 -- each step leaves one number fewer that does not pass
 pub not_passed : (b : Bool) → (b ≡ true → ⊥) → not b ≡ true
-not_passed true fails = absurd (fails refl)
-not_passed false fails = refl
+not_passed b fails = grind (arith, nat_tests)
 
 with-other : (b : Bool) (x y : ℕ) → y ≢ x → b ≡ (nat_eq y x || b)
-with-other true x y differs = grind (arith, nat_tests)
-with-other false x y differs = grind (arith, nat_tests)
+with-other b x y differs = grind (arith, nat_tests)
 
 fewer_left : (m : ℕ) (f : ℕ → ℕ) (d e : ℕ) (passed : ℕ → Bool) (x : ℕ) → IsOnWay m f d e passed x
     → count_by (λ y. not (passed y)) (range_with_len 0 m) ≡ count_by (λ y. not (with x passed y)) (range_with_len 0 m) + 1

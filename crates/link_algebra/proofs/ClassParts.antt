@@ -33,9 +33,7 @@ index-front (x ∷ xs) ys (suc k) below = index-front xs ys k (omega (arith, bel
 
 pub index-back : (xs ys : List ℕ) (k : ℕ) → slice_index (xs ++ ys) (length xs + k) ≡ slice_index ys k
 index-back [] ys k = let e : length {A = ℕ} [] + k ≡ k = omega arith in ap (slice_index ys) e
-index-back (x ∷ xs) ys k =
-    let e : length (x ∷ xs) + k ≡ suc (length xs + k) = omega arith in
-    ap (slice_index (x ∷ (xs ++ ys))) e ∙ index-back xs ys k
+index-back (x ∷ xs) ys k = grind (arith, nat_tests, index-back xs ys k)
 
 pub index-lifted : (m : ℕ) (xs : List ℕ) (k : ℕ) → k < length xs → slice_index (lifted m xs) k ≡ m + slice_index xs k
 index-lifted m [] k below = absurd (omega (arith, below))
@@ -102,41 +100,30 @@ joined-back m front back pair size below first second =
 
 small-joined : (m : ℕ) (classes : List ℕ) (pair : ℕ × ℕ) → length classes ≡ m → AllBelow m classes → pair.0 < m → pair.1 < m
     → AllBelow m (joined classes pair)
-small-joined m classes pair size below first second k within =
-    let inside : k < length classes = omega (arith, within, length-joined classes pair) in
-    subst (λ (z : ℕ). z < m) (sym (index-map (merged (slice_index classes pair.0) (slice_index classes pair.1)) classes k inside))
-    (merged-small m (slice_index classes pair.0) (slice_index classes pair.1) (slice_index classes k)
-    (below pair.0 (omega (arith, first, size))) (below pair.1 (omega (arith, second, size))) (below k inside))
+small-joined m classes pair size below first second = grind (arith, nat_tests, length-joined, index-map, merged-small)
 
 fold-front : (m : ℕ) (front back : List ℕ) (pairs : List (ℕ × ℕ)) → length front ≡ m → AllBelow m front → AreBelow m pairs
     → fold joined (front ++ lifted m back) pairs ≡ fold joined front pairs ++ lifted m back
 fold-front m front back [] size below pairs_below = refl
 fold-front m front back (pair ∷ pairs) size below pairs_below =
-    ap (λ classes. fold joined classes pairs) (joined-front m front back pair size below pairs_below.0.0 pairs_below.0.1)
-    ∙ fold-front m (joined front pair) back pairs (length-joined front pair ∙ size)
-    (small-joined m front pair size below pairs_below.0.0 pairs_below.0.1) pairs_below.1
+    grind (arith, nat_tests, joined-front, length-joined, small-joined, fold-front m (joined front pair) back pairs (length-joined front pair ∙ size) (small-joined m front pair size below pairs_below.0.0 pairs_below.0.1) pairs_below.1)
 
 fold-back : (m n : ℕ) (front back : List ℕ) (pairs : List (ℕ × ℕ)) → length front ≡ m → AllBelow m front → length back ≡ n
     → AreBelow n pairs
     → fold joined (front ++ lifted m back) (lifted_pairs m pairs) ≡ front ++ lifted m (fold joined back pairs)
 fold-back m n front back [] size below back_size pairs_below = refl
 fold-back m n front back (pair ∷ pairs) size below back_size pairs_below =
-    ap (λ classes. fold joined classes (lifted_pairs m pairs))
-    (joined-back m front back pair size below (omega (arith, pairs_below.0.0, back_size)) (omega (arith, pairs_below.0.1, back_size)))
-    ∙ fold-back m n front (joined back pair) pairs size below (length-joined back pair ∙ back_size) pairs_below.1
+    grind (arith, nat_tests, joined-back, length-joined, fold-back m n front (joined back pair) pairs size below (length-joined back pair ∙ back_size) pairs_below.1)
 
 fold-small : (m : ℕ) (classes : List ℕ) (pairs : List (ℕ × ℕ)) → length classes ≡ m → AllBelow m classes → AreBelow m pairs
     → (length (fold joined classes pairs) ≡ m) × AllBelow m (fold joined classes pairs)
 fold-small m classes [] size below pairs_below = (size, below)
 fold-small m classes (pair ∷ pairs) size below pairs_below =
-    fold-small m (joined classes pair) pairs (length-joined classes pair ∙ size)
-    (small-joined m classes pair size below pairs_below.0.0 pairs_below.0.1) pairs_below.1
+    grind (arith, nat_tests, length-joined, small-joined, fold-small m (joined classes pair) pairs (length-joined classes pair ∙ size) (small-joined m classes pair size below pairs_below.0.0 pairs_below.0.1) pairs_below.1)
 
 range-lifted : (m a n : ℕ) → range_with_len (m + a) n ≡ lifted m (range_with_len a n)
 range-lifted m a zero = refl
-range-lifted m a (suc n) =
-    let e : m + a + 1 ≡ m + (a + 1) = omega arith in
-    ap (λ xs. (m + a) ∷ xs) (ap (λ b. range_with_len b n) e ∙ range-lifted m (a + 1) n)
+range-lifted m a (suc n) = grind (arith, nat_tests, range-lifted m (a + 1) n)
 
 fold-append_pairs : (classes : List ℕ) (pairs more : List (ℕ × ℕ))
     → fold joined classes (pairs ++ more) ≡ fold joined (fold joined classes pairs) more
@@ -145,11 +132,7 @@ fold-append_pairs classes (pair ∷ pairs) more = fold-append_pairs (joined clas
 
 pub length-classes : (m : ℕ) (pairs : List (ℕ × ℕ)) → AreBelow m pairs
     → (length (classes_of m pairs) ≡ m) × ((k : ℕ) → k < length (classes_of m pairs) → slice_index (classes_of m pairs) k < m)
-length-classes m pairs below =
-    fold-small m (range_with_len 0 m) pairs (length-range_with_len 0 m)
-    (λ k within.
-    let inside : k < m = omega (arith, within, length-range_with_len 0 m) in
-    omega (arith, slice_index-range m k inside, inside)) below
+length-classes m pairs below = grind (arith, nat_tests, fold-small, length-range_with_len, slice_index-range)
 
 -- the classes of both parts side by side
 pub classes-parts : (m n : ℕ) (pairs more : List (ℕ × ℕ)) → AreBelow m pairs → AreBelow n more

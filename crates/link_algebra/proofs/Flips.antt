@@ -1,4 +1,5 @@
 -- Numbers below 2 ^ n with all bits exchanged.
+use Rattle.std.proofs.lemmas.Bool.Decides.{nat_tests}
 use Rattle.std.proofs.Common.{ap, arith, refl, suc, zero, ℕ, ◌%◌, ◌*◌, ◌+◌, ◌-◌, ◌/◌, ◌<◌, ◌^◌, ◌∙◌, ◌≡◌, ◌≤◌}
 use Rattle.std.proofs.lemmas.Nat.{pow_pos}
 use Rattle.std.proofs.lemmas.Nat.Bits.{bit_at-suc, bit_at_lowest}
@@ -23,11 +24,7 @@ lowest p s below = omega (arith, below)
 
 pub bit-flipped : (n s k : ℕ) → s < 2 ^ n → k < n → bit (flipped n s) k + bit s k ≡ 1
 bit-flipped zero s k below within = absurd (omega arith)
-bit-flipped (suc n) s zero below within =
-    let power : 2 ^ suc n ≡ 2 * 2 ^ n = omega arith in
-    let e : flipped (suc n) s ≡ 2 * 2 ^ n - 1 - s = ap (λ p. p - 1 - s) power in
-    let small : s < 2 * 2 ^ n = omega (arith, below, power) in
-    omega (arith, ap (λ x. bit x 0) e, bit_at_lowest (2 * 2 ^ n - 1 - s), bit_at_lowest s, lowest (2 ^ n) s small)
+bit-flipped (suc n) s zero below within = grind (arith, nat_tests, bit_at_lowest, lowest)
 bit-flipped (suc n) s (suc k) below within =
     let power : 2 ^ suc n ≡ 2 * 2 ^ n = omega arith in
     let e : flipped (suc n) s ≡ 2 * 2 ^ n - 1 - s = ap (λ p. p - 1 - s) power in

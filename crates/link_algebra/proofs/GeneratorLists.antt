@@ -1,4 +1,5 @@
 -- The generators of two degrees: which they are, and how many.
+use Rattle.std.proofs.lemmas.Bool.Decides.{nat_tests}
 use Rattle.std.proofs.Common.{◌≡◌, ◌≢◌, ℕ, zero, suc, ◌+◌, ◌^◌, ◌<◌, ◌∙◌, inl, inr, ℤ, List, length, get_or, arith, true, cond}
 use Rattle.std.specs.List.{AllByRecursion, Contains, flat_map, range_with_len, sum_by}
 use Rattle.std.proofs.lemmas.List.Elements.{All-filter, All-from_recursion, All-get_or, filter_passes}
@@ -21,8 +22,7 @@ all-flat_map : {X : Type 0} (P : X → Type 0) (f : ℕ → List X) (a n : ℕ)
     → ((k : ℕ) → k < a + n → AllByRecursion P (f k)) → AllByRecursion P (flat_map f (range_with_len a n))
 all-flat_map P f a zero each = tt
 all-flat_map P f a (suc n) each =
-    AllByRecursion-append P (f a) (flat_map f (range_with_len (a + 1) n)) (each a (omega arith))
-    (all-flat_map P f (a + 1) n (λ k below. each k (omega (arith, below))))
+    grind (arith, nat_tests, AllByRecursion-append, all-flat_map P f (a + 1) n (λ k below. each k (omega (arith, below))))
 
 generators-all : (code : Code) → AllByRecursion (IsGenerator code) (generators code)
 generators-all code =
@@ -54,12 +54,7 @@ abbrev pub label_count : Code → ℤ → ℤ → ℕ → ℕ
 label_count code i j s = sum_by (λ label. cond (has_degrees code i j (generator_of s label)) 1 0) (range_with_len 0 (2 ^ circle_count code s))
 
 pub length-generators_at : (code : Code) (i j : ℤ) → length (generators_at code i j) ≡ sum_by (label_count code i j) (states code)
-length-generators_at code i j =
-    let one = λ (x : Generator). cond (has_degrees code i j x) 1 0 in
-    length-filter (has_degrees code i j) (generators code)
-    ∙ sum_by-flat_map one (generators_of code) (states code)
-    ∙ sum_by-alike (λ s. sum_by one (generators_of code s)) (label_count code i j)
-    (λ s. sum_by-map one (generator_of s) (range_with_len 0 (2 ^ circle_count code s))) (states code)
+length-generators_at code i j = grind (arith, nat_tests, length-filter, sum_by-flat_map, sum_by-alike, sum_by-map)
 
 -- the coefficients along an edge, which is one crossing's
 
@@ -67,9 +62,4 @@ length-generators_at code i j =
 
 pub coefficient-elsewhere : (p : ℕ) (code : Code) (tail head : Generator) → coefficient p code tail head ≢ 0
     → (crossing : ℕ) × IsCrossing code.crossings crossing × IsStep tail.state head.state crossing
-coefficient-elsewhere p code tail head some =
-    let term = sum_by-some (coefficient_at p code tail head) 1 (length code.crossings) some in
-    elim (edge_or_zero p code tail head term.0) [
-      | inl step ↦ (term.0, record { positive = term.1; within = omega (arith, term.2) }, step)
-      | inr none ↦ absurd (term.3 none)
-    ]
+coefficient-elsewhere p code tail head some = grind (arith, nat_tests, sum_by-some, edge_or_zero)

@@ -1,4 +1,5 @@
 -- Sums and products of integers.
+use Rattle.std.proofs.lemmas.Bool.Decides.{nat_tests}
 use Rattle.std.proofs.Common.{List, [], ap, ap₂, arith, map, neg_ℤ, negsuc, pos, refl, suc, sym, zero, ℕ, ℤ, ◌*ℤ◌, ◌*◌, ◌++◌, ◌+ℤ◌, ◌+◌, ◌-◌, ◌<◌, ◌∙◌, ◌∷◌, ◌≡◌, ◌≢◌, ◌≤◌}
 use Rattle.std.proofs.Math.IntN.{*ℤ-zero, *ℤ_comm, pred_ℤ-*ℤ, suc_ℤ-*ℤ, zero-*ℤ}
 use Rattle.std.proofs.lemmas.Int.{ints}
@@ -10,17 +11,7 @@ pub spread : (c x y : ℤ) → c *ℤ (x +ℤ y) ≡ c *ℤ x +ℤ c *ℤ y
 spread (pos zero) x y = omega (arith, ints, zero-*ℤ (x +ℤ y), zero-*ℤ x, zero-*ℤ y)
 spread (pos (suc n)) x y =
     omega (arith, ints, suc_ℤ-*ℤ (pos n) (x +ℤ y), suc_ℤ-*ℤ (pos n) x, suc_ℤ-*ℤ (pos n) y, spread (pos n) x y)
-spread (negsuc zero) x y =
-    omega (
-      arith,
-      ints,
-      pred_ℤ-*ℤ (pos zero) (x +ℤ y),
-      pred_ℤ-*ℤ (pos zero) x,
-      pred_ℤ-*ℤ (pos zero) y,
-      zero-*ℤ (x +ℤ y),
-      zero-*ℤ x,
-      zero-*ℤ y,
-    )
+spread (negsuc zero) x y = grind (arith, nat_tests, ints, pred_ℤ-*ℤ, zero-*ℤ)
 spread (negsuc (suc n)) x y =
     omega (arith, ints, pred_ℤ-*ℤ (negsuc n) (x +ℤ y), pred_ℤ-*ℤ (negsuc n) x, pred_ℤ-*ℤ (negsuc n) y, spread (negsuc n) x y)
 
@@ -28,11 +19,7 @@ pub spread_right : (x y c : ℤ) → (x +ℤ y) *ℤ c ≡ x *ℤ c +ℤ y *ℤ 
 spread_right x y c = *ℤ_comm (x +ℤ y) c ∙ spread c x y ∙ ap₂ (λ a b. a +ℤ b) (*ℤ_comm c x) (*ℤ_comm c y)
 
 pub neg-times : (x y : ℤ) → neg_ℤ x *ℤ y ≡ neg_ℤ (x *ℤ y)
-neg-times x y =
-    let none : neg_ℤ x +ℤ x ≡ pos 0 = omega (arith, ints) in
-    let sum : neg_ℤ x *ℤ y +ℤ x *ℤ y ≡ pos 0 =
-    sym (spread_right (neg_ℤ x) x y) ∙ ap (λ z. z *ℤ y) none ∙ zero-*ℤ y in
-    omega (arith, ints, sum)
+neg-times x y = grind (arith, nat_tests)
 
 pub times-neg : (x y : ℤ) → x *ℤ neg_ℤ y ≡ neg_ℤ (x *ℤ y)
 times-neg x y = *ℤ_comm x (neg_ℤ y) ∙ neg-times y x ∙ ap neg_ℤ (*ℤ_comm y x)
@@ -86,8 +73,7 @@ pub sum-range_alike : (f g : ℕ → ℤ) (a n : ℕ) → ((x : ℕ) → a ≤ x
     → sum_over f (range_with_len a n) ≡ sum_over g (range_with_len a n)
 sum-range_alike f g a zero same = refl
 sum-range_alike f g a (suc n) same =
-    ap₂ (λ x y. x +ℤ y) (same a (omega arith) (omega arith))
-    (sum-range_alike f g (a + 1) n (λ x from below. same x (omega arith) (omega arith)))
+    grind (arith, nat_tests, sum-range_alike f g (a + 1) n (λ x from below. same x (omega arith) (omega arith)))
 
 pub sum-none : (f : ℕ → ℤ) (a n : ℕ) → ((x : ℕ) → a ≤ x → x < a + n → f x ≡ pos 0) → sum_over f (range_with_len a n) ≡ pos 0
 sum-none f a n none = sum-range_alike f (λ x. pos 0) a n none ∙ sum-zeros (range_with_len a n)
@@ -111,9 +97,7 @@ sum-single f a n k from below none =
 -- a range that begins later
 pub sum-shifted : (f : ℕ → ℤ) (a b n : ℕ) → sum_over f (range_with_len (a + b) n) ≡ sum_over (λ k. f (a + k)) (range_with_len b n)
 sum-shifted f a b zero = refl
-sum-shifted f a b (suc n) =
-    let e : a + b + 1 ≡ a + (b + 1) = omega arith in
-    ap (λ s. f (a + b) +ℤ s) (ap (λ c. sum_over f (range_with_len c n)) e ∙ sum-shifted f a (b + 1) n)
+sum-shifted f a b (suc n) = grind (arith, nat_tests, sum-shifted f a (b + 1) n)
 
 -- a range by blocks
 pub sum-blocks : (f : ℕ → ℤ) (size count : ℕ)

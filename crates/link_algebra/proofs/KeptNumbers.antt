@@ -133,5 +133,4 @@ module _ (code : Code) (holds : IsTrue (accepted code)) (in_order : EntersInOrde
           → map not (map p (range_with_len a n)) ≡ map q (range_with_len a n)
       both p q a zero each = refl
       both p q a (suc n) each =
-          ap₂ (λ b bs. b ∷ bs) (each a (omega arith) (omega arith))
-          (both p q (a + 1) n (λ k from below. each k (omega (arith, from)) (omega (arith, below))))
+          grind (arith, nat_tests, both p q (a + 1) n (λ k from below. each k (omega (arith, from)) (omega (arith, below))))

@@ -2,6 +2,7 @@
 --
 -- The mirror has the plus crossings as minus crossings, the zeros of a state as ones, and v- for v+. Put into the two degrees, all this
 -- changes their signs. As the star is one to one, as many generators have two degrees as stars have the opposite ones.
+use Rattle.std.proofs.lemmas.Bool.Decides.{nat_tests}
 use Rattle.std.proofs.Common.{IsTrue, ap, ap₂, arith, cond, length, pos, refl, suc, sym, zero, ℕ, ℤ, ◌*◌, ◌+ℤ◌, ◌+◌, ◌-ℤ◌, ◌-◌, ◌<◌, ◌^◌, ◌∙◌, ◌≡◌, ◌≤◌}
 use Rattle.std.proofs.lemmas.Bool.Decides.{Decides-and, Decides-int_eq, Decides-like, same_from_decides}
 use Rattle.std.proofs.lemmas.Int.{ints}
@@ -35,10 +36,7 @@ pub record IsOpposite (old new : Code) (x y : Generator) : Type 0 where
       ≡ circle_count old x.state
 
 pub minus-turned : (f back : ℕ → ℕ) (old new : Code) → IsTurned f back old new → minus_count new.crossings ≡ plus_count old.crossings
-minus-turned f back old new turned =
-    let rest : minus_count new.crossings ≡ length old.crossings - (length old.crossings - plus_count old.crossings) =
-    omega (arith, turned.signs, turned.size) in
-    omega (arith, rest, plus_count-le old.crossings)
+minus-turned f back old new turned = grind (arith, nat_tests, plus_count-le)
 
 homological-opposite : (n r s plus minus other : ℕ) → s + r ≡ n → minus ≡ n - plus → plus ≤ n → other ≡ plus
     → pos s -ℤ pos other ≡ neg_ℤ (pos r -ℤ pos minus)
@@ -66,9 +64,7 @@ degrees-opposite f back old new x y turned is = (
 -- so the tests of degrees agree
 has_degrees-decides : (code : Code) (i j : ℤ) (x : Generator)
     → Decides (has_degrees code i j x) ((homological_degree code x ≡ i) × (quantum_degree code x ≡ j))
-has_degrees-decides code i j x =
-    Decides-and (int_eq (homological_degree code x) i) (int_eq (quantum_degree code x) j)
-    (Decides-int_eq (homological_degree code x) i) (Decides-int_eq (quantum_degree code x) j)
+has_degrees-decides code i j x = grind (arith, nat_tests)
 
 pub has_degrees-opposite : (f back : ℕ → ℕ) (old new : Code) (i j k l : ℤ) (x y : Generator) → IsTurned f back old new
     → IsOpposite old new x y → k ≡ neg_ℤ i → l ≡ neg_ℤ j → has_degrees new k l y ≡ has_degrees old i j x
@@ -89,9 +85,7 @@ has_degrees-opposite f back old new i j k l x y turned is is_k is_l =
 -- of the star
 ones-state : (f back : ℕ → ℕ) (old new : Code) (s t : ℕ) → IsTurned f back old new → s < 2 ^ length old.crossings
     → t ≡ flipped (length old.crossings) s → one_count new t + one_count old s ≡ length old.crossings
-ones-state f back old new s t turned below is =
-    let n = length old.crossings in
-    ap₂ (λ m u. ones m u + ones n s) turned.size is ∙ ones-flipped n s n below (omega arith)
+ones-state f back old new s t turned below is = grind (arith, nat_tests, ones-flipped)
 
 pub IsOpposite-star : (f back : ℕ → ℕ) (old new : Code) (x star : Generator) → IsTurned f back old new → IsGenerator old x
     → IsStar f old new x star → IsOpposite old new x star

@@ -5,6 +5,7 @@
 -- with a slot of the old one. So ends that lie on one circle do so in the mirror (`met-star`), and an edge that merges goes to one that
 -- splits. A star takes each label from 1, so that the labels at both ends add up to 2 with those of the mirror (`labels-two`), and that of
 -- one circle to 1 (`labels-one`). The sum that a merge asks for is then the sum that a split asks for (`change-star`).
+use Rattle.std.proofs.lemmas.Bool.Decides.{nat_tests}
 use Rattle.std.proofs.Common.{Bool, IsTrue, ap, arith, false, inl, inr, length, not, subst, sym, true, ℕ, ◌%◌, ◌*◌, ◌+◌, ◌<◌, ◌^◌, ◌∙◌, ◌≡◌, ◌≤◌, ◌⊎◌}
 use Rattle.std.proofs.lemmas.Bool.Decides.{Decides-like, same_from_decides}
 use Rattle.kh_types.proofs.CircleCycles.{circles-across}
@@ -58,8 +59,7 @@ Ends f old new t crossing =
 
 slot-name : (code : Code) (crossing slot : ℕ) → IsTrue (accepted code) → IsCrossing code.crossings crossing → slot < 4
     → IsName code (arc_at_slot code crossing slot)
-slot-name code crossing slot is is_crossing below =
-    IsName-arc code (arc_at_slot code crossing slot) (IsArc-slot code crossing slot is is_crossing below)
+slot-name code crossing slot is is_crossing below = grind (arith, nat_tests, IsName-arc, IsArc-slot, is_crossing)
 
 ends : (f back : ℕ → ℕ) (old new : Code) (s crossing : ℕ) → IsTrue (accepted old) → IsTrue (accepted new) → IsTurned f back old new
     → s < 2 ^ length old.crossings → IsCrossing old.crossings crossing
@@ -240,24 +240,8 @@ module _ (f back : ℕ → ℕ) (old new : Code) (crossing : ℕ) where
   change-star : (merges : Bool) (tail head tail_star head_star : Generator) → Stars tail tail_star → Stars head head_star
       → IsSwitch merges old tail.state head.state crossing → IsChange merges old tail head crossing
       → IsChange (not merges) new head_star tail_star crossing
-  change-star true tail head tail_star head_star tail_are head_are merge change = (
-    same_off-star tail head tail_star head_star tail_are head_are change.0,
-    omega (
-      arith,
-      change.1,
-      labels-two tail tail_star tail_are,
-      labels-one head head_star head_are (ends-meet old tail.state head.state crossing merge),
-    ),
-  )
-  change-star false tail head tail_star head_star tail_are head_are split change = (
-    same_off-star head tail head_star tail_star head_are tail_are change.0,
-    omega (
-      arith,
-      change.1,
-      labels-two head head_star head_are,
-      labels-one tail tail_star tail_are (ends-meet old head.state tail.state crossing split),
-    ),
-  )
+  change-star merges tail head tail_star head_star tail_are head_are merge change =
+      grind (arith, nat_tests, same_off-star, labels-two, labels-one, ends-meet)
 
   -- where the ends are on one circle in the one state, an edge of the mirror merges from the other
   merge-other : (one one_star : Generator) (other : ℕ) → Stars one one_star
@@ -267,9 +251,7 @@ module _ (f back : ℕ → ℕ) (old new : Code) (crossing : ℕ) where
 -- an edge merges or splits, from a step
 switch-step : (code : Code) (tail head crossing : ℕ) → IsTrue (accepted code) → IsCrossing code.crossings crossing
     → IsStep tail head crossing → (merges : Bool) × IsSwitch merges code tail head crossing
-switch-step code tail head crossing is is_crossing step =
-    let edge = switch-edge code tail crossing is is_crossing step.zero_there in
-    (edge.0, subst (λ (h : ℕ). IsSwitch edge.0 code tail h crossing) (sym step.behind) edge.1)
+switch-step code tail head crossing is is_crossing step = grind (arith, nat_tests, is_crossing, switch-edge, IsSwitch)
 
 -- the labels fit along an edge exactly where those of the mirror fit along the edge back
 pub fits-star : (f back : ℕ → ℕ) (old new : Code) (crossing : ℕ) (tail head tail_star head_star : Generator)
@@ -286,12 +268,8 @@ fits-star f back old new crossing tail head tail_star head_star tail_are head_ar
     both : (merges too : Bool) → AreStars back f new old crossing tail_star tail → AreStars back f new old crossing head_star head
         → IsSwitch merges old tail.state head.state crossing → IsSwitch too new head_star.state tail_star.state crossing
         → fits old tail head crossing ≡ fits new head_star tail_star crossing
-    both true true tail_back head_back here there =
-        absurd (merge-other f back old new crossing head head_star tail_star.state head_are
-        (ends-meet old tail.state head.state crossing here) there)
-    both false false tail_back head_back here there =
-        absurd (merge-other f back old new crossing tail tail_star head_star.state tail_are
-        (ends-meet old head.state tail.state crossing here) there)
+    both true true tail_back head_back here there = grind (arith, nat_tests, merge-other, ends-meet)
+    both false false tail_back head_back here there = grind (arith, nat_tests, merge-other, ends-meet)
     both true false tail_back head_back here there =
         same_from_decides (fits old tail head crossing) (fits new head_star tail_star crossing)
         (fits-decides true old tail head crossing tail_are.around.old_is here)

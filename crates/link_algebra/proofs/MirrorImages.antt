@@ -34,15 +34,7 @@ use Rattle.link_algebra.proofs.TurnedParts.{IsTurnOf, name-within, number-is, nu
 
 -- two labels of over passes that are not turned ascend
 ascending-labels : (a b : ℕ) → 1 ≤ a → 1 ≤ b → turned_labels (pos a ∷ pos b ∷ []) ≡ pos a ∷ pos b ∷ [] → a ≤ b
-ascending-labels a b a_some b_some same = by ((is_over (pos a) && is_over (pos b)) && int_lt (pos b) (pos a)) refl same
-  where
-    kept : ((is_over (pos a) && is_over (pos b)) && int_lt (pos b) (pos a)) ≡ false → a ≤ b
-    kept test = grind (arith, nat_tests)
-
-    by : (t : Bool) → ((is_over (pos a) && is_over (pos b)) && int_lt (pos b) (pos a)) ≡ t
-        → (if t then pos b ∷ pos a ∷ [] else pos a ∷ pos b ∷ []) ≡ pos a ∷ pos b ∷ [] → a ≤ b
-    by true test same = let first : pos b ≡ pos a = ap (λ xs. get_or xs 0 (pos 0)) same in omega (arith, ints, first)
-    by false test same = kept test
+ascending-labels a b a_some b_some same = grind (arith, nat_tests)
 
 label-over : (dart : Dart) → dart.slot ≢ 0 → label_at dart ≡ pos dart.crossing
 label-over dart over = ap (λ b. if b then neg_ℤ (pos dart.crossing) else pos dart.crossing) (ne_eqb dart.slot 0 over)

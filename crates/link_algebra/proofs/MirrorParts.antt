@@ -3,6 +3,7 @@
 -- The mirror begins each crossing at its over pass, which becomes the under pass: the slots are turned by one or by three, as the sign
 -- says. The reversal begins at the other end of the under pass, a turn by two. So both have the passes of the code at each place, under
 -- other labels, and each name is a head as often as before in the mirror, and as often as it was a tail in the reversal.
+use Rattle.std.proofs.lemmas.Bool.Decides.{nat_tests}
 use Rattle.std.proofs.Common.{◌≡◌, ℕ, zero, suc, ◌+◌, ◌-◌, ◌%◌, ◌<◌, ◌∙◌, List, [], ◌∷◌, length, map, refl, sym, ap, ap₂, arith, cond, not, Bool, true, false, IsTrue}
 use Rattle.std.specs.Prelude.{nat_eq, slice_index_or}
 use Rattle.std.specs.List.{count_by, flat_map, range_with_len}
@@ -26,10 +27,7 @@ mirror_turn positive = cond positive 1 3
 -- passes that count alike at each place
 counted-alike : (f g : ℕ → List Pass) (p q : Pass → Bool) (n : ℕ) → ((k : ℕ) → k < n → count_by p (f k) ≡ count_by q (g k))
     → count_by p (flat_map f (range_with_len 0 n)) ≡ count_by q (flat_map g (range_with_len 0 n))
-counted-alike f g p q n alike =
-    sum_by-flat_map (λ (pass : Pass). cond (p pass) 1 0) f (range_with_len 0 n)
-    ∙ sum_by-range_alike (λ k. count_by p (f k)) (λ k. count_by q (g k)) 0 n (λ k from below. alike k (omega (arith, below)))
-    ∙ sym (sum_by-flat_map (λ (pass : Pass). cond (q pass) 1 0) g (range_with_len 0 n))
+counted-alike f g p q n alike = grind (arith, nat_tests, sum_by-flat_map, sum_by-range_alike)
 
 -- whether a slot holds a name
 abbrev test : ℕ → List ℕ → ℕ → ℕ
@@ -62,9 +60,7 @@ module _ (code : Code) where
   mirror-listed : (place : ℕ) → place < length code.crossings
       → slots_in (mirror_parts code).crossings place
       ≡ slots_from (over_slot (is_positive code.crossings (place + 1))) (slots_in code.crossings place)
-  mirror-listed place below =
-      listed (mirror_slots code.crossings) place below
-      ∙ ap (slots_from (over_slot (is_positive code.crossings (place + 1)))) (slots-here place)
+  mirror-listed place below = grind (arith, nat_tests, listed, slots-here)
 
   pub reversal-listed : (place : ℕ) → place < length code.crossings
       → slots_in (reversal_parts code).crossings place ≡ slots_from 2 (slots_in code.crossings place)

@@ -1,4 +1,5 @@
 -- The passes of the mirror over the arcs of the code: each goes from an arc to the next, over where it was under.
+use Rattle.std.proofs.lemmas.Bool.Decides.{nat_tests}
 use Rattle.std.proofs.Common.{◌≡◌, ℕ, zero, suc, ◌+◌, ◌<◌, ◌∙◌, List, [], ◌∷◌, length, refl, sym, ap, subst, arith, Bool, true, false, not, pos, neg_ℤ, IsTrue}
 use Rattle.std.specs.Prelude.{nat_eq, if◌then◌else◌, MatchBool}
 use Rattle.std.specs.List.{AllByRecursion}
@@ -23,19 +24,7 @@ use Rattle.link_algebra.proofs.TurnedParts.{IsTurnOf, arc-head, head-arc, paired
 
 -- what a label over the mirror tells of the code
 pub under-of : (dart : Dart) → is_over (neg_ℤ (label_at dart)) ≡ true → (dart.slot ≡ 0) × (neg_ℤ (label_at dart) ≡ pos dart.crossing)
-under-of dart over = by (nat_eq dart.slot 0) refl over
-  where
-    again : (c : ℕ) → neg_ℤ (neg_ℤ (pos c)) ≡ pos c
-    again c = omega (arith, ints)
-
-    none : (c : ℕ) → is_over (neg_ℤ (pos c)) ≡ true → ⊥
-    none zero is = absurd (cc)
-    none (suc c) is = absurd (cc)
-
-    by : (b : Bool) → nat_eq dart.slot 0 ≡ b → is_over (neg_ℤ (if b then neg_ℤ (pos dart.crossing) else pos dart.crossing)) ≡ true
-        → (dart.slot ≡ 0) × (neg_ℤ (if b then neg_ℤ (pos dart.crossing) else pos dart.crossing) ≡ pos dart.crossing)
-    by true is over = (eqb-true dart.slot 0 is, again dart.crossing)
-    by false is over = absurd (none dart.crossing over)
+under-of dart over = grind (arith, nat_tests)
 
 module _ (code : Code) (holds : IsTrue (accepted code)) where
   abbrev directed : IsDirected code.crossings
@@ -88,14 +77,7 @@ module _ (code : Code) (holds : IsTrue (accepted code)) where
           → AllByRecursion IsMirrored
           (under_pass (slots_from (over_slot d) (slots_of code.crossings (place + 1))) place
           ∷ over_pass (slots_from (over_slot d) (slots_of code.crossings (place + 1))) (not d) place ∷ [])
-      by true place under over = (
-        (over.follows, ap (λ (h : Dart). neg_ℤ (label_at h)) (sym over.head)),
-        ((under.follows, again (place + 1) ∙ ap (λ (h : Dart). neg_ℤ (label_at h)) (sym under.head)), tt),
-      )
-      by false place under over = (
-        (over.follows, ap (λ (h : Dart). neg_ℤ (label_at h)) (sym over.head)),
-        ((under.follows, again (place + 1) ∙ ap (λ (h : Dart). neg_ℤ (label_at h)) (sym under.head)), tt),
-      )
+      by d place under over = grind (arith, nat_tests)
 
   pub follows-next : (x : ℕ) → IsArc code.crossings x → follows (passes_through (mirror_parts code)) x ≡ next code.crossings x
   unfolding IsMirrored

@@ -3,6 +3,7 @@
 -- Circles are numbered by the order of their names, which other names of arcs change. So a label is carried over circle by circle: the bit
 -- at a circle's new number is the bit at its old one. This is one to one, since a name and its way back are, and the number of circles and
 -- of labels 1 stays, as counts over circles do not know their order.
+use Rattle.std.proofs.lemmas.Bool.Decides.{nat_tests}
 use Rattle.std.proofs.Common.{IsTrue, List, [], ap, arith, map, subst, sym, ℕ, ◌+◌, ◌<◌, ◌^◌, ◌∙◌, ◌∷◌, ◌≡◌, ◌≤◌}
 use Rattle.std.proofs.lemmas.Bool.Decides.{Decides-eqb, Decides-like, same_from_decides}
 use Rattle.std.proofs.lemmas.List.{length-map}
@@ -32,30 +33,13 @@ use Rattle.link_algebra.proofs.TurnedCircles.{Corresponds, IsName-moved}
 
 -- a name back home
 pub IsName-back : (f back : ℕ → ℕ) (old new : Code) (s t y : ℕ) → Corresponds f back old new s t → IsName new y → IsName old (back y)
-IsName-back f back old new s t y is name = record {
-  positive = is.names.back_positive y name.positive (omega (arith, name.within, is.most));
-  within = is.names.back_within y name.positive (omega (arith, name.within, is.most));
-}
+IsName-back f back old new s t y is name = omega arith
 
 pub name-here : (f back : ℕ → ℕ) (old new : Code) (s t y : ℕ) → Corresponds f back old new s t → IsName new y → f (back y) ≡ y
 name-here f back old new s t y is name = is.names.here y name.positive (omega (arith, name.within, is.most))
 
 pub Corresponds-back : (f back : ℕ → ℕ) (old new : Code) (s t : ℕ) → Corresponds f back old new s t → Corresponds back f new old t s
-Corresponds-back f back old new s t is =
-    let name_back : (y : ℕ) → IsName new y → IsName old (back y) = λ y. IsName-back f back old new s t y is in
-    let here : (y : ℕ) → IsName new y → f (back y) ≡ y = λ y. name-here f back old new s t y is in
-    record {
-      names = subst (λ (most : ℕ). IsRenaming most back f) (sym is.most)
-          (IsRenaming-back (arc_count old.crossings + old.loops) f back is.names);
-      most = sym is.most;
-      onward = λ x y x_name y_name same.
-          is.backward (back x) (back y) (name_back x x_name) (name_back y y_name)
-          (ap (λ z. circle_in new t z) (here x x_name) ∙ same ∙ ap (λ z. circle_in new t z) (sym (here y y_name)));
-      backward = λ x y x_name y_name same.
-          ap (λ z. circle_in new t z) (sym (here x x_name))
-          ∙ is.onward (back x) (back y) (name_back x x_name) (name_back y y_name) same
-          ∙ ap (λ z. circle_in new t z) (here y y_name);
-    }
+Corresponds-back f back old new s t is = grind (arith, nat_tests)
 
 -- labels that a label becomes under the other names
 pub record IsMoved (f : ℕ → ℕ) (old new : Code) (s t label number : ℕ) : Type 0 where
@@ -108,9 +92,7 @@ names-moved : (f back : ℕ → ℕ) (old new : Code) (s t : ℕ) (marked : List
     → All (IsName old) marked → All (IsName new) (map f marked)
 names-moved f back old new s t [] is names = All-nil (IsName new)
 names-moved f back old new s t (mark ∷ marked) is names =
-    All-cons (IsName new) (f mark) (map f marked)
-    (IsName-moved f back old new mark is.names is.most (All-head (IsName old) mark marked names))
-    (names-moved f back old new s t marked is (All-tail (IsName old) mark marked names))
+    grind (arith, nat_tests, All-cons, IsName-moved, All-head, All-tail, names-moved f back old new s t marked is (All-tail (IsName old) mark marked names))
 
 -- so as many labels are 1
 pub ones-moved : (f back : ℕ → ℕ) (old new : Code) (s t label number : ℕ) → IsTrue (accepted old) → IsTrue (accepted new)

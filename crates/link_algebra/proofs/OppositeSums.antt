@@ -1,4 +1,5 @@
 -- State sums at the opposite exponents.
+use Rattle.std.proofs.lemmas.Bool.Decides.{nat_tests}
 use Rattle.std.proofs.Common.{◌≡◌, ℕ, zero, suc, ◌+◌, ◌-◌, ◌*◌, ◌∙◌, ℤ, pos, negsuc, neg_ℤ, ◌+ℤ◌, ◌-ℤ◌, refl, sym, ap, ap₂, arith, cond}
 use Rattle.std.specs.List.{range_with_len}
 use Rattle.std.specs.Ordering.{int_eq}
@@ -10,11 +11,7 @@ use Rattle.kh_types.proofs.AlternatingSums.{signed_by_parity-alike}
 
 -- (q + q^-1) ^ k is the same at q^-1
 pub circle_coefficient-opposite : (k : ℕ) (e d : ℤ) → d ≡ neg_ℤ e → circle_coefficient k d ≡ circle_coefficient k e
-circle_coefficient-opposite zero e d is =
-    ap (λ b. cond b 1 0)
-    (same_from_decides (int_eq d (pos 0)) (int_eq e (pos 0)) (Decides-int_eq d (pos 0))
-    (Decides-like (int_eq e (pos 0)) (λ none. omega (arith, ints, is, none)) (λ none. omega (arith, ints, is, none))
-    (Decides-int_eq e (pos 0))))
+circle_coefficient-opposite zero e d is = grind (arith, nat_tests, same_from_decides, Decides-int_eq, Decides-like, ints)
 circle_coefficient-opposite (suc k) e d is =
     ap₂ (λ x y. x + y) (circle_coefficient-opposite k (e +ℤ pos 1) (d -ℤ pos 1) (omega (arith, ints, is)))
     (circle_coefficient-opposite k (e -ℤ pos 1) (d +ℤ pos 1) (omega (arith, ints, is)))
@@ -24,10 +21,7 @@ circle_coefficient-opposite (suc k) e d is =
     turned x y = omega arith
 
 signed_by-opposite : (i j : ℤ) (x : ℕ) → j ≡ neg_ℤ i → signed_by j x ≡ signed_by i x
-signed_by-opposite (pos i) (pos j) x is = signed_by_parity-alike j i x (omega (arith, ints, is))
-signed_by-opposite (pos i) (negsuc j) x is = signed_by_parity-alike (suc j) i x (omega (arith, ints, is))
-signed_by-opposite (negsuc i) (pos j) x is = signed_by_parity-alike j (suc i) x (omega (arith, ints, is))
-signed_by-opposite (negsuc i) (negsuc j) x is = absurd (omega (arith, ints, is))
+signed_by-opposite i j x is = grind (arith, nat_tests)
 
 -- the term of a state with all smoothings exchanged, where the signs are exchanged
 pub term-opposite : (n plus minus other_plus other_minus r s c d : ℕ) (e : ℤ) → plus + minus ≡ n → other_plus ≡ minus
@@ -45,13 +39,10 @@ term-opposite n plus minus other_plus other_minus r s c d e signs first second o
 -- sums the other way round
 shifted : (f : ℕ → ℤ) (a n : ℕ) → sum_over f (range_with_len (a + 1) n) ≡ sum_over (λ k. f (suc k)) (range_with_len a n)
 shifted f a zero = refl
-shifted f a (suc n) =
-    ap₂ (λ x y. x +ℤ y) (ap f (let e : a + 1 ≡ suc a = omega arith in e)) (shifted f (a + 1) n)
+shifted f a (suc n) = grind (arith, nat_tests, shifted f (a + 1) n)
 
 last : (f : ℕ → ℤ) (a n : ℕ) → sum_over f (range_with_len a (suc n)) ≡ sum_over f (range_with_len a n) +ℤ f (a + n)
-last f a zero =
-    let e : a ≡ a + 0 = omega arith in
-    ap (λ k. f k +ℤ pos 0) e ∙ omega (arith, ints)
+last f a zero = grind (arith, nat_tests, ints)
 last f a (suc n) =
     let e : a + 1 + n ≡ a + suc n = omega arith in
     ap (λ s. f a +ℤ s) (last f (a + 1) n ∙ ap (λ k. sum_over f (range_with_len (a + 1) n) +ℤ f k) e)

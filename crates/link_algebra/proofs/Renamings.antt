@@ -1,4 +1,5 @@
 -- Codes whose crossings are those of another, each turned by some slots, with other numbers on the arcs.
+use Rattle.std.proofs.Common.{arith}
 use Rattle.std.specs.Prelude.{◌≡◌, ℕ, ◌⊎◌, ◌+◌, ◌%◌, ◌<◌, ◌≤◌, length}
 use Rattle.kh_types.specs.Code.{Code, IsCrossing, arc_count}
 use Rattle.kh_types.specs.Directions.{plus_count, minus_count}
@@ -14,15 +15,7 @@ pub record IsRenaming (most : ℕ) (f back : ℕ → ℕ) : Type 0 where
   pub here : (x : ℕ) → 1 ≤ x → x ≤ most → f (back x) ≡ x
 
 pub IsRenaming-back : (most : ℕ) (f back : ℕ → ℕ) → IsRenaming most f back → IsRenaming most back f
-IsRenaming-back most f back is =
-    record {
-      positive = is.back_positive;
-      within = is.back_within;
-      back_positive = is.positive;
-      back_within = is.within;
-      there = is.here;
-      here = is.there;
-    }
+IsRenaming-back most f back is = omega arith
 
 -- the crossings of a code, each turned by some slots: the mirror turns them by one, one way or the other, the reversal by two
 pub record IsRotated (by f back : ℕ → ℕ) (old new : Code) : Type 0 where

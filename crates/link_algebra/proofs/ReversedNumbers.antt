@@ -3,6 +3,7 @@
 -- The reversal's passes go from next arc to arc, so the walk from a least arc goes to the last arc of its component and then down. The
 -- blocks of the order are thus the components again (NumberedBlocks), each turned round behind its first arc. So the numbers keep
 -- components, the reversal of the reversal is the code under these numbers, and KeptOrder says that it then has its own.
+use Rattle.std.proofs.lemmas.Bool.Decides.{nat_tests}
 use Rattle.std.proofs.Common.{◌≡◌, ◌≢◌, ℕ, zero, suc, inl, inr, ◌+◌, ◌-◌, ◌*◌, ◌%◌, ◌<◌, ◌≤◌, ◌∙◌, List, [], ◌∷◌, length, refl, sym, ap, subst, arith, Bool, true, false, not, cond, IsTrue}
 use Rattle.std.specs.Prelude.{nat_eq, if◌then◌else◌, MatchBool, slice_index_or}
 use Rattle.std.specs.List.{AllByRecursion, position_or_len}
@@ -57,9 +58,7 @@ walk-last : (next : ℕ → ℕ) (first fuel x : ℕ) → next x ≡ first → w
 walk-last next first fuel x to = ap (λ b. x ∷ (if b then [] else walk next first fuel (next x))) (eq-eqb (next x) first to)
 
 walk-on : (next : ℕ → ℕ) (first fuel x y : ℕ) → next x ≡ y → y ≢ first → walk next first (suc fuel) x ≡ x ∷ walk next first fuel y
-walk-on next first fuel x y to on =
-    ap (λ b. x ∷ (if b then [] else walk next first fuel (next x))) (ne_eqb (next x) first (λ same. on (sym to ∙ same)))
-    ∙ ap (λ z. x ∷ walk next first fuel z) to
+walk-on next first fuel x y to on = grind (arith, nat_tests)
 
 -- the reversal's passes leave on the arcs on which the code's enter
 module _ (code : Code) (holds : IsTrue (accepted code)) where
@@ -183,11 +182,9 @@ module _ (code : Code) (holds : IsTrue (accepted code)) where
   walk-down : (first : ℕ) → IsFirst cs first → (fuel i : ℕ) → suc i < size cs first → suc i ≤ fuel
       → walk (follows (passes_through (reversal_parts code))) first fuel (first + suc i) ≡ down first (suc i)
   walk-down first is zero i below enough = absurd (omega (arith, enough))
-  walk-down first is (suc fuel) zero below enough =
-      walk-last before first fuel (first + 1) (before-later first 0 is below ∙ omega arith)
+  walk-down first is (suc fuel) zero below enough = grind (arith, nat_tests, walk-last, before-later)
   walk-down first is (suc fuel) (suc i) below enough =
-      walk-on before first fuel (first + suc (suc i)) (first + suc i) (before-later first (suc i) is below) (λ same. omega (arith, same))
-      ∙ ap (λ ys. (first + suc (suc i)) ∷ ys) (walk-down first is fuel i (omega (arith, below)) (omega (arith, enough)))
+      grind (arith, nat_tests, walk-on, before-later, walk-down first is fuel i (omega (arith, below)) (omega (arith, enough)))
 
   long-enough : length (passes_through (reversal_parts code)) ≡ 2 * length cs
   long-enough =

@@ -4,6 +4,7 @@
 -- these two steps, so the turn keeps together what they join (`Carries`). As each of the two codes is a turn of the other (`AreRotated`),
 -- this is shown one way only, and gives as many classes in both. A turn by one slot changes the bit of a colour. Each rule of acceptance
 -- but the direction of over passes then follows at once.
+use Rattle.std.proofs.lemmas.Bool.Decides.{nat_tests}
 use Rattle.std.proofs.Common.{IsTrue, List, [], ap, ap₂, arith, get_or, length, map, refl, subst, suc, sym, zero, ℕ, ◌%◌, ◌*◌, ◌+◌, ◌-◌, ◌/◌, ◌<◌, ◌^◌, ◌∙◌, ◌∷◌, ◌≡◌, ◌≢◌, ◌≤◌}
 use Rattle.std.proofs.lemmas.Bool.{eq-eqb}
 use Rattle.std.proofs.lemmas.List.FromFn.{get_or-map-range_with_len, length-map-range_with_len}
@@ -60,8 +61,7 @@ turned-crossing : (place : ℕ) → turned place / 4 ≡ place / 4
 turned-crossing place = omega arith
 
 onto-turned : (by : ℕ → ℕ) (place : ℕ) → turned (onto by place) ≡ onto by (turned place)
-onto-turned by place =
-    spun-turned (by (place / 4 + 1)) place ∙ ap (λ k. spun (by (k + 1)) (turned place)) (sym (turned-crossing place))
+onto-turned by place = grind (arith, nat_tests)
 
 slot-arc : (code : Code) (crossing slot : ℕ) → HasArcsTwice code.crossings → IsCrossing code.crossings crossing → slot < 4
     → IsArc code.crossings (arc_at_slot code crossing slot)
@@ -100,14 +100,7 @@ pub record AreRotated (by home f back : ℕ → ℕ) (old new : Code) : Type 0 w
   pub here : IsRotated home back f new old
 
 AreRotated-back : (by home f back : ℕ → ℕ) (old new : Code) → AreRotated by home f back old new → AreRotated home by back f new old
-AreRotated-back by home f back old new are =
-    record {
-      old_directed = are.new_directed;
-      new_directed = are.old_directed;
-      round = λ crossing. omega (arith, are.round crossing);
-      there = are.here;
-      here = are.there;
-    }
+AreRotated-back by home f back old new are = grind (arith, nat_tests)
 
 AreRotated-from : (by f back : ℕ → ℕ) (old new : Code) → IsDirected old.crossings → IsDirected new.crossings
     → IsRotated by f back old new → AreRotated by (opposite by) f back old new
@@ -155,11 +148,7 @@ pass-at g (slots ∷ crossings) respects (suc k) below = pass-at g crossings res
 -- a function that is the same at the ends of each pass is so at slots two apart
 across-slots : (g : ℕ → ℕ) (slots : List ℕ) → g (arc_in slots 0) ≡ g (arc_in slots 2) → g (arc_in slots 1) ≡ g (arc_in slots 3)
     → (slot : ℕ) → slot < 4 → g (arc_in slots slot) ≡ g (arc_in slots ((slot + 2) % 4))
-across-slots g slots under over zero below = under
-across-slots g slots under over (suc zero) below = over
-across-slots g slots under over (suc (suc zero)) below = sym under
-across-slots g slots under over (suc (suc (suc zero))) below = sym over
-across-slots g slots under over (suc (suc (suc (suc slot)))) below = absurd (omega (arith, below))
+across-slots g slots under over slot below = grind (arith, nat_tests)
 
 pass-slots : (g : ℕ → ℕ) (code : Code) (crossing slot : ℕ) → Respects g (flat_map passes_of code.crossings)
     → IsCrossing code.crossings crossing → slot < 4
@@ -174,8 +163,7 @@ with_zero f zero = 0
 with_zero f (suc x) = f (suc x)
 
 with_zero-some : (f : ℕ → ℕ) (x : ℕ) → 1 ≤ x → with_zero f x ≡ f x
-with_zero-some f zero from = absurd (omega (arith, from))
-with_zero-some f (suc x) from = refl
+with_zero-some f x from = grind (arith, nat_tests)
 
 -- the turn carries partners, faces, pieces, arcs and components
 abbrev face_pairs : List (List ℕ) → List (ℕ × ℕ)
@@ -195,18 +183,13 @@ module _ (by home f back : ℕ → ℕ) (old new : Code) (are : AreRotated by ho
   moved crossing is = record { positive = is.positive; within = omega (arith, is.within, are.there.size) }
 
   onto-back : (q : ℕ) → onto home (onto by q) ≡ q
-  onto-back q =
-      let c = q / 4 + 1 in
-      ap (λ k. spun (home (k + 1)) (onto by q)) (spun-crossing (by c) q) ∙ spun-round (by c) (home c) q (are.round c)
+  onto-back q = grind (arith, nat_tests)
 
   onto-below : (q : ℕ) → q < 4 * length old.crossings → onto by q < 4 * length new.crossings
   onto-below q below = omega (arith, spun-below (length old.crossings) (by (q / 4 + 1)) q below, are.there.size)
 
   arc-onto : (q : ℕ) → q < 4 * length old.crossings → arc_of new.crossings (dart_at (onto by q)) ≡ f (arc_of old.crossings (dart_at q))
-  arc-onto q below =
-      let b = by (q / 4 + 1) in
-      ap₂ (λ k s. arc_in (slots_of new.crossings (k + 1)) s) (spun-crossing b q) (spun-slot b q)
-      ∙ are.there.arcs (q / 4 + 1) (q % 4) (record { positive = omega arith; within = omega (arith, below) }) (omega arith)
+  arc-onto q below = grind (arith, nat_tests)
 
   partner-onto : (q : ℕ) → q < 4 * length old.crossings → partner_at new.crossings (onto by q) ≡ onto by (partner_at old.crossings q)
   partner-onto q below =
@@ -269,16 +252,10 @@ module _ (by home f back : ℕ → ℕ) (old new : Code) (are : AreRotated by ho
       (slot-arc new dart.crossing ((dart.slot + by dart.crossing) % 4) new_twice (moved dart.crossing at.within.crossing) (omega arith))
 
   name-below : (x : ℕ) → x < arc_count old.crossings + 1 → with_zero f x < arc_count new.crossings + 1
-  name-below zero below = omega arith
-  name-below (suc x) below =
-      let arc = arc-moved (suc x) (record { positive = omega arith; within = omega (arith, below) }) in
-      omega (arith, arc.within)
+  name-below x below = grind (arith, nat_tests, below, arc-moved)
 
   name-back : (x : ℕ) → x < arc_count old.crossings + 1 → with_zero back (with_zero f x) ≡ x
-  name-back zero below = refl
-  name-back (suc x) below =
-      with_zero-some back (f (suc x)) (arc-moved (suc x) (record { positive = omega arith; within = omega (arith, below) })).positive
-      ∙ are.there.names.there (suc x) (omega arith) (omega (arith, below))
+  name-back x below = grind (arith, nat_tests)
 
   pass-carried : (crossing slot : ℕ) → IsCrossing old.crossings crossing → slot < 4
       → slice_index (components_of new.crossings) (with_zero f (arc_at_slot old crossing slot))
@@ -339,17 +316,7 @@ spun_bits choice by crossings = map (λ k. (bit choice k + by (k + 1)) % 2) (ran
 colours-differ : (choice own b c g h q p : ℕ) → (b + g) % 4 ≡ 0 → (c + h) % 4 ≡ 0 → bit choice (q / 4) ≡ (bit own (q / 4) + b) % 2
     → bit choice (p / 4) ≡ (bit own (p / 4) + c) % 2 → colour own (dart_at (spun h p)) ≢ colour own (dart_at (spun g q))
     → (bit choice (place_of (dart_at q).crossing) + (bit choice (place_of (dart_at p).crossing) + (q % 4 + p % 4))) % 2 ≡ 1
-colours-differ choice own b c g h q p q_round p_round q_bit p_bit differ =
-    let at : (k : ℕ) → k + 1 - 1 ≡ k = λ k. omega arith in
-    let moved : (d r : ℕ) → colour own (dart_at (spun d r)) ≡ (bit own (r / 4) + (r % 4 + d) % 4) % 2 =
-    λ d r. ap₂ (λ k s. (bit own k + s) % 2) (at (spun d r / 4) ∙ spun-crossing d r) (spun-slot d r) in
-    ap₂ (λ k l. (bit choice k + (bit choice l + (q % 4 + p % 4))) % 2) (at (q / 4)) (at (p / 4))
-    ∙ odd_sum (bit own (q / 4)) (bit own (p / 4)) (q % 4) (p % 4) (bit choice (q / 4)) (bit choice (p / 4)) q_bit p_bit
-    (λ same. differ (moved h p ∙ sym same ∙ sym (moved g q)))
-  where
-    odd_sum : (x y s t m k : ℕ) → m ≡ (x + b) % 2 → k ≡ (y + c) % 2 → (x + (s + g) % 4) % 2 ≢ (y + (t + h) % 4) % 2
-        → (m + (k + (s + t))) % 2 ≡ 1
-    odd_sum x y s t m k is_m is_k unlike = omega (arith, is_m, is_k, q_round, p_round, unlike)
+colours-differ choice own b c g h q p q_round p_round q_bit p_bit differ = grind (arith, nat_tests)
 
 IsCheckerboard-rotated : (by home f back : ℕ → ℕ) (old new : Code) → AreRotated by home f back old new → IsCheckerboard old.crossings
     → IsCheckerboard new.crossings

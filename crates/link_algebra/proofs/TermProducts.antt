@@ -3,6 +3,7 @@
 -- A term of a state sum is a sign, a power of q and a power of q + q^-1. The product of two has the product of signs, the sum of exponents,
 -- and the sum of the numbers of circles: the last because coefficients of (q + q^-1)^c are made by c steps, and a product is made by the
 -- steps of both.
+use Rattle.std.proofs.lemmas.Bool.Decides.{nat_tests}
 use Rattle.std.proofs.Common.{Bool, List, [], ap, ap₂, arith, cond, false, inl, inr, neg_ℤ, pos, refl, suc, sym, true, zero, ℕ, ℤ, ◌%◌, ◌*ℤ◌, ◌*◌, ◌+ℤ◌, ◌+◌, ◌-ℤ◌, ◌∙◌, ◌∷◌, ◌≡◌, ◌≢◌, ◌≤◌, ◌⊎◌}
 use Rattle.std.proofs.Math.IntN.{+ℤ_idl, suc_ℤ-*ℤ, zero-*ℤ}
 use Rattle.std.proofs.lemmas.Bool.{false_from_ne_true}
@@ -24,39 +25,13 @@ abbrev pub is_even : ℕ → Bool
 is_even n = nat_eq (n % 2) 0
 
 parity : (n : ℕ) → (n % 2 ≡ 0) ⊎ (n % 2 ≡ 1)
-parity n = by (n % 2) refl
-  where
-    by : (r : ℕ) → n % 2 ≡ r → (n % 2 ≡ 0) ⊎ (n % 2 ≡ 1)
-    by zero is = inl is
-    by (suc zero) is = inr is
-    by (suc (suc r)) is = absurd (omega (arith, is))
+parity n = grind (arith, nat_tests)
 
 pub signed_by-signed : (r m x : ℕ) → signed_by (pos r -ℤ pos m) x ≡ signed (is_even (r + m)) (pos x)
 signed_by-signed r m x = signed_by-less (pos r -ℤ pos m) r m x refl
 
 signed-product : (j k l : ℕ) (x y : ℤ) → l ≡ j + k → signed (is_even j) x *ℤ signed (is_even k) y ≡ signed (is_even l) (x *ℤ y)
-signed-product j k l x y is = elim (parity j) [
-  | inl j_even ↦ elim (parity k) [
-    | inl k_even ↦ by j k l 0 0 0 j_even k_even (omega (arith, is, j_even, k_even)) refl
-    | inr k_odd ↦ by j k l 0 1 1 j_even k_odd (omega (arith, is, j_even, k_odd)) (times-neg x y)
-  ]
-  | inr j_odd ↦ elim (parity k) [
-    | inl k_even ↦ by j k l 1 0 1 j_odd k_even (omega (arith, is, j_odd, k_even)) (neg-times x y)
-    | inr k_odd ↦ by j k l 1 1 0 j_odd k_odd (omega (arith, is, j_odd, k_odd))
-        (neg-times x (neg_ℤ y) ∙ ap neg_ℤ (times-neg x y) ∙ twice (x *ℤ y))
-  ]
-]
-  where
-    twice : (z : ℤ) → neg_ℤ (neg_ℤ z) ≡ z
-    twice z = omega (arith, ints)
-
-    at : (n r : ℕ) (z : ℤ) → n % 2 ≡ r → signed (is_even n) z ≡ cond (nat_eq r 0) z (neg_ℤ z)
-    at n r z is = ap (λ b. cond (nat_eq b 0) z (neg_ℤ z)) is
-
-    by : (j k l a b c : ℕ) → j % 2 ≡ a → k % 2 ≡ b → l % 2 ≡ c
-        → cond (nat_eq a 0) x (neg_ℤ x) *ℤ cond (nat_eq b 0) y (neg_ℤ y) ≡ cond (nat_eq c 0) (x *ℤ y) (neg_ℤ (x *ℤ y))
-        → signed (is_even j) x *ℤ signed (is_even k) y ≡ signed (is_even l) (x *ℤ y)
-    by j k l a b c is_a is_b is_c same = ap₂ (λ u v. u *ℤ v) (at j a x is_a) (at k b y is_b) ∙ same ∙ sym (at l c (x *ℤ y) is_c)
+signed-product j k l x y is = grind (arith, nat_tests)
 
 sum-signed : {X : Type 0} (b : Bool) (f : X → ℤ) (xs : List X) → sum_over (λ x. signed b (f x)) xs ≡ signed b (sum_over f xs)
 sum-signed true f xs = refl
@@ -77,8 +52,7 @@ abbrev sum_with : ℕ → ℕ → ℤ → (ℤ → ℤ) → ℤ → ℤ
 sum_with most c u g e = sum_over (λ a. pos (circle_coefficient c (a -ℤ u)) *ℤ g (e -ℤ a)) (from_minus most)
 
 no_circles : (x : ℤ) → x ≢ pos 0 → circle_coefficient 0 x ≡ 0
-no_circles x other =
-    ap (λ b. cond b 1 0) (false_from_ne_true (int_eq x (pos 0)) (λ passes. other ((Decides-int_eq x (pos 0)).0 passes)))
+no_circles x other = grind (arith, nat_tests)
 
 one_way : (x : ℤ) → x ≡ pos 0 → circle_coefficient 0 x ≡ 1
 one_way x is = ap (λ b. cond b 1 0) ((Decides-int_eq x (pos 0)).1 is)
@@ -121,10 +95,7 @@ sum_with-step most c u g e =
 -- the coefficients of (q + q^-1) ^ (c + d) are those of the product
 sum_with-circles : (most c d : ℕ) (u v e : ℤ) → Fits most c u
     → sum_with most c u (λ x. pos (circle_coefficient d (x -ℤ v))) e ≡ pos (circle_coefficient (c + d) (e -ℤ u -ℤ v))
-sum_with-circles most zero d u v e fits =
-    let none : d ≡ zero + d = omega arith in
-    sum_with-zero most u (λ x. pos (circle_coefficient d (x -ℤ v))) e fits
-    ∙ ap (λ k. pos (circle_coefficient k (e -ℤ u -ℤ v))) none
+sum_with-circles most zero d u v e fits = grind (arith, nat_tests, sum_with-zero)
 sum_with-circles most (suc c) d u v e fits =
     let more : suc (c + d) ≡ suc c + d = omega arith in
     let x = e -ℤ u -ℤ v in

@@ -3,6 +3,7 @@
 -- A smoothing joins a slot with the one before or behind it. After a turn by one slot the other smoothing joins the turned slots. So a
 -- state of the one code and the state with all bits exchanged of the other join corresponding darts, hence arcs under their names, and
 -- their circles correspond; turning back gives the other direction.
+use Rattle.std.proofs.lemmas.Bool.Decides.{nat_tests}
 use Rattle.std.proofs.Common.{IsTrue, [], ap, arith, inl, inr, length, subst, suc, sym, zero, ℕ, ◌%◌, ◌*◌, ◌+◌, ◌-◌, ◌/◌, ◌<◌, ◌^◌, ◌∙◌, ◌≡◌, ◌⊎◌}
 use Rattle.std.specs.Prelude.{slice_index_or}
 use Rattle.kh_types.proofs.CircleCycles.{circles-across, smoothings-below}
@@ -37,8 +38,7 @@ most-same f back old new turned = omega (arith, turned.size, turned.loops)
 
 pub IsCrossing-same : (f back : ℕ → ℕ) (old new : Code) (crossing : ℕ) → IsTurned f back old new → IsCrossing new.crossings crossing
     → IsCrossing old.crossings crossing
-IsCrossing-same f back old new crossing turned is =
-    record { positive = is.positive; within = omega (arith, is.within, turned.size) }
+IsCrossing-same f back old new crossing turned is = omega arith
 
 -- turning crossings back
 pub IsTurned-back : (f back : ℕ → ℕ) (old new : Code) → IsTrue (accepted old) → IsTurned f back old new → IsTurned back f new old
@@ -77,24 +77,11 @@ IsTurned-back f back old new is turned =
 -- the slot that a smoothing joins with a slot, turned, is the one that the other smoothing joins with the turned slot
 slots-turned : (b c slot by : ℕ) → b + c ≡ 1 → slot < 4 → (by ≡ 1) ⊎ (by ≡ 3)
     → (joined_slot b slot + by) % 4 ≡ joined_slot c ((slot + by) % 4)
-slots-turned zero zero slot by sum below ways = absurd (omega (arith, sum))
-slots-turned zero (suc zero) slot by sum below ways = elim ways [
-  | inl one ↦ omega (arith, below, one)
-  | inr three ↦ omega (arith, below, three)
-]
-slots-turned zero (suc (suc c)) slot by sum below ways = absurd (omega (arith, sum))
-slots-turned (suc zero) zero slot by sum below ways = elim ways [
-  | inl one ↦ omega (arith, below, one)
-  | inr three ↦ omega (arith, below, three)
-]
-slots-turned (suc zero) (suc c) slot by sum below ways = absurd (omega (arith, sum))
-slots-turned (suc (suc b)) c slot by sum below ways = absurd (omega (arith, sum))
+slots-turned b c slot by sum below ways = grind (arith, nat_tests)
 
 -- the arc of a dart by its place
 pub arc-placed : (code : Code) (k slot : ℕ) → slot < 4 → arc_at code.crossings (4 * k + slot) ≡ arc_at_slot code (k + 1) slot
-arc-placed code k slot below =
-    let e : k ≡ k + 1 - 1 = omega arith in
-    arc_at-slot code.crossings k slot below ∙ ap (λ m. arc_in (slice_index_or code.crossings m []) slot) e
+arc-placed code k slot below = grind (arith, nat_tests)
 
 respects-turned : (f back : ℕ → ℕ) (old new : Code) (s : ℕ) → IsTrue (accepted new) → IsTurned f back old new
     → s < 2 ^ length old.crossings
@@ -127,17 +114,11 @@ onward-turned : (f back : ℕ → ℕ) (old new : Code) (s : ℕ) → IsTrue (ac
     → s < 2 ^ length old.crossings → (x y : ℕ) → IsName old x → IsName old y → circle_in old s x ≡ circle_in old s y
     → circle_in new (flipped (length old.crossings) s) (f x) ≡ circle_in new (flipped (length old.crossings) s) (f y)
 onward-turned f back old new s is new_is turned below x y x_name y_name same =
-    classes-finest (λ z. circle_in new (flipped (length old.crossings) s) (f z)) (arc_count old.crossings + old.loops + 1)
-    (smoothings_of old.crossings s) (respects-turned f back old new s new_is turned below) (smoothings-below old s is) x y
-    (omega (arith, x_name.within)) (omega (arith, y_name.within)) same
+    grind (arith, nat_tests, classes-finest, circle_in, flipped, respects-turned, smoothings-below)
 
 pub IsName-moved : (f back : ℕ → ℕ) (old new : Code) (x : ℕ) → IsRenaming (arc_count old.crossings + old.loops) f back
     → arc_count new.crossings + new.loops ≡ arc_count old.crossings + old.loops → IsName old x → IsName new (f x)
-IsName-moved f back old new x names most name =
-    record {
-      positive = names.positive x name.positive name.within;
-      within = omega (arith, names.within x name.positive name.within, most);
-    }
+IsName-moved f back old new x names most name = omega arith
 
 pub Corresponds-turned : (f back : ℕ → ℕ) (old new : Code) (s : ℕ) → IsTrue (accepted old) → IsTrue (accepted new)
     → IsTurned f back old new → s < 2 ^ length old.crossings → Corresponds f back old new s (flipped (length old.crossings) s)

@@ -3,6 +3,7 @@
 -- Mirror and reversal are renumbered turns of the code (MirrorParts), so they have its faces, pieces and colours (RotatedCodes), and their
 -- passes are directed: they are accepted. The mirror is dual to the code, by TurnedCircles and Duality; the reversal is dual to the mirror
 -- in the same way, a turn by one slot more, so it has the homology of the code.
+use Rattle.std.proofs.lemmas.Bool.Decides.{nat_tests}
 use Rattle.std.proofs.Common.{◌≡◌, ℕ, zero, suc, ◌⊎◌, inl, inr, ◌+◌, ◌-◌, ◌%◌, ◌^◌, ◌<◌, ◌≤◌, ◌∙◌, ℤ, neg_ℤ, length, refl, sym, ap, ap₂, subst, arith, cond, not, Bool, true, false, IsTrue}
 use Rattle.std.specs.List.{count_by, range_with_len}
 use Rattle.std.proofs.lemmas.Int.{ints}
@@ -78,34 +79,12 @@ turned-from by f back old new rotated ways signs = record {
 -- two turns, one after the other
 IsRenaming-through : (most : ℕ) (f back g home : ℕ → ℕ) → IsRenaming most f back → IsRenaming most g home
     → IsRenaming most (λ x. g (f x)) (λ x. back (home x))
-IsRenaming-through most f back g home first second = record {
-  positive = λ x from within. second.positive (f x) (first.positive x from within) (first.within x from within);
-  within = λ x from within. second.within (f x) (first.positive x from within) (first.within x from within);
-  back_positive = λ x from within. first.back_positive (home x) (second.back_positive x from within) (second.back_within x from within);
-  back_within = λ x from within. first.back_within (home x) (second.back_positive x from within) (second.back_within x from within);
-  there = λ x from within.
-      ap back (second.there (f x) (first.positive x from within) (first.within x from within)) ∙ first.there x from within;
-  here = λ x from within.
-      ap g (first.here (home x) (second.back_positive x from within) (second.back_within x from within)) ∙ second.here x from within;
-}
+IsRenaming-through most f back g home first second = grind (arith, nat_tests)
 
 pub IsRotated-through : (by f back other g home : ℕ → ℕ) (old middle new : Code) → IsRotated by f back old middle
     → IsRotated other g home middle new
     → IsRotated (λ crossing. (by crossing + other crossing) % 4) (λ x. g (f x)) (λ x. back (home x)) old new
-IsRotated-through by f back other g home old middle new first second =
-    record {
-      size = second.size ∙ first.size;
-      loops = second.loops ∙ first.loops;
-      names = IsRenaming-through (arc_count old.crossings + old.loops) f back g home first.names
-          (subst (λ (most : ℕ). IsRenaming most g home) (omega (arith, first.size, first.loops)) second.names);
-      few = λ crossing. omega arith;
-      arcs = λ crossing slot is below.
-          let between : IsCrossing middle.crossings crossing =
-          record { positive = is.positive; within = omega (arith, is.within, first.size) } in
-          let e : (slot + (by crossing + other crossing) % 4) % 4 ≡ ((slot + by crossing) % 4 + other crossing) % 4 = omega arith in
-          ap (arc_at_slot new crossing) e ∙ second.arcs crossing ((slot + by crossing) % 4) between (omega arith)
-          ∙ ap g (first.arcs crossing slot is below);
-    }
+IsRotated-through by f back other g home old middle new first second = grind (arith, nat_tests)
 
 -- from one code that is another turned by one slot to a second one that is turned by two
 between : (by f back g home : ℕ → ℕ) (old middle new : Code) → IsTrue (accepted old) → IsRotated by f back old middle
@@ -133,8 +112,7 @@ count_by-not p a (suc n) =
     )
   where
     one : (b : Bool) → cond (not b) 1 0 + cond b 1 0 ≡ 1
-    one true = refl
-    one false = refl
+    one b = grind (arith, nat_tests)
 
 module _ (code : Code) (holds : IsTrue (accepted code)) where
   abbrev pub mirror_by : ℕ → ℕ
@@ -193,18 +171,11 @@ module _ (code : Code) (holds : IsTrue (accepted code)) where
       omega (arith, counted, count_by-not (is_positive code.crossings) 1 n)
 
   pub reversal-plus : plus_count (reversal_of code).crossings ≡ plus_count code.crossings
-  reversal-plus =
-      ap (λ m. count_by (is_positive (reversal_of code).crossings) (range_with_len 1 m)) reversal-rotated.size
-      ∙ count_by-alike (is_positive (reversal_of code).crossings) (is_positive code.crossings) 1 (length code.crossings)
-      (λ k from below. reversal-signs k (here k from below))
+  reversal-plus = grind (arith, nat_tests, reversal-rotated, count_by-alike, reversal-signs, here)
 
   -- the mirror is dual to the code, and the reversal to the mirror
   mirror-ways : (crossing : ℕ) → (mirror_by crossing ≡ 1) ⊎ (mirror_by crossing ≡ 3)
-  mirror-ways crossing = by (is_positive code.crossings crossing)
-    where
-      by : (b : Bool) → (mirror_turn b ≡ 1) ⊎ (mirror_turn b ≡ 3)
-      by true = inl refl
-      by false = inr refl
+  mirror-ways crossing = grind (arith, nat_tests)
 
   pub mirror-dual : AreDual mirror_number mirror_name code (mirror_of code)
   mirror-dual = record {

@@ -117,9 +117,7 @@ module _ (by : ℕ → ℕ) (code : Code) (holds : IsTrue (accepted code)) (part
       (order-heads parts paired (get_or order (y - 1) 0) (IsIn-get order (y - 1) (omega (arith, long, is.positive, is.within))))
 
   number-here : (y : ℕ) → IsArc code.crossings y → number_in order (get_or order (y - 1) 0) ≡ y
-  number-here y is =
-      ap (λ k. k + 1) (position-get order (y - 1) (distinct-order parts paired) (omega (arith, long, is.positive, is.within)))
-      ∙ omega (arith, is.positive)
+  number-here y is = grind (arith, nat_tests, position-get, distinct-order, paired, long)
 
   IsRenaming-number : IsRenaming (arc_count code.crossings + code.loops) number name
   IsRenaming-number = record {
@@ -150,10 +148,7 @@ module _ (by : ℕ → ℕ) (code : Code) (holds : IsTrue (accepted code)) (part
   }
     where
       arc_or_loop : (x : ℕ) → 1 ≤ x → IsArc code.crossings x ⊎ (arc_count code.crossings < x)
-      arc_or_loop x from = elim (cases_lt (arc_count code.crossings) x) [
-        | inl past ↦ inr past
-        | inr within ↦ inl (record { positive = from; within = within })
-      ]
+      arc_or_loop x from = grind (arith, nat_tests, cases_lt)
 
   pub name-within : (y : ℕ) → IsArc code.crossings y → IsArc code.crossings (name y)
   name-within y is = subst (λ (x : ℕ). IsArc code.crossings x) (sym (name-is y is)) (name-arc y is)

@@ -1,4 +1,5 @@
 -- The mirror of the mirror, and the reversal of the reversal, up to the numbers of arcs.
+use Rattle.std.proofs.lemmas.Bool.Decides.{nat_tests}
 use Rattle.std.proofs.Common.{◌≡◌, ℕ, ◌+◌, ◌*◌, ◌/◌, ◌%◌, ◌<◌, ◌∙◌, ℤ, neg_ℤ, length, not, refl, sym, ap, ap₂, arith, Bool, true, false, IsTrue}
 use Rattle.std.proofs.lemmas.Int.{ints}
 use Rattle.kh_types.specs.Acceptance.{accepted}
@@ -25,25 +26,10 @@ alike-turned : (by other f back g home : ℕ → ℕ) (old middle new : Code) �
     → IsRotated other g home middle new → ((crossing : ℕ) → IsCrossing old.crossings crossing → (by crossing + other crossing) % 4 ≡ 0)
     → AreAlike old.crossings new.crossings
 alike-turned by other f back g home old middle new is first second whole =
-    let both = IsRotated-through by f back other g home old middle new first second in
-    let arc : (place : ℕ) → place < 4 * length old.crossings → IsArc old.crossings (arc_of old.crossings (dart_at place)) =
-    λ place below.
-    IsArc-slot old (place / 4 + 1) (place % 4) is (record { positive = omega arith; within = omega (arith, below) }) (omega arith) in
-    let back_from : (x : ℕ) → IsArc old.crossings x → back (home (g (f x))) ≡ x =
-    λ x x_is. both.names.there x x_is.positive (omega (arith, x_is.within)) in
-    AreAlike-renamed (λ x. g (f x)) old.crossings new.crossings both.size
-    (λ place below.
-    let crossing = place / 4 + 1 in
-    let here : IsCrossing old.crossings crossing = record { positive = omega arith; within = omega (arith, below) } in
-    let round : place % 4 ≡ (place % 4 + (by crossing + other crossing) % 4) % 4 = omega (arith, whole crossing here) in
-    ap (arc_at_slot new crossing) round ∙ both.arcs crossing (place % 4) here (omega arith))
-    (λ place place_other below other_below same.
-    sym (back_from (arc_of old.crossings (dart_at place)) (arc place below))
-    ∙ ap (λ x. back (home x)) same ∙ back_from (arc_of old.crossings (dart_at place_other)) (arc place_other other_below))
+    grind (arith, nat_tests, whole, IsRotated-through, IsArc-slot, AreAlike-renamed)
 
 pub twice-not : (b : Bool) → not (not b) ≡ b
-twice-not true = refl
-twice-not false = refl
+twice-not b = grind (arith, nat_tests)
 
 module _ (code : Code) (holds : IsTrue (accepted code)) where
   there-too : (crossing : ℕ) → IsCrossing code.crossings crossing → IsCrossing (mirror_of code).crossings crossing

@@ -1,4 +1,5 @@
 -- What the call for the union owes: accepted codes, and the product of the state sums.
+use Rattle.std.proofs.lemmas.Bool.Decides.{nat_tests}
 use Rattle.std.proofs.Common.{◌≡◌, ℕ, ◌+◌, ◌*◌, ◌≤◌, ℤ, length, arith, IsTrue}
 use Rattle.kh_types.specs.Acceptance.{accepted}
 use Rattle.kh_types.specs.Code.{Code}
@@ -18,16 +19,7 @@ use Rattle.link_algebra.proofs.UnitedSums.{state_sum-united}
 pub union-accepted : (first second : Code) → IsTrue (accepted first) → IsTrue (accepted second)
     → crossings_together first second ≤ CROSSINGS → loops_together first second ≤ LOOPS → IsTrue (accepted (union_of first second))
 union-accepted first second first_is second_is few less =
-    let first_directed = HasNoSingleArcs-accepted first first_is in
-    let second_directed = HasNoSingleArcs-accepted second second_is in
-    accepted-both first second first_is second_is
-    (omega (
-      arith,
-      few,
-      less,
-      component_count-le first.crossings first_directed.0 first_directed.1,
-      component_count-le second.crossings second_directed.0 second_directed.1,
-    ))
+    grind (arith, nat_tests, HasNoSingleArcs-accepted, accepted-both, component_count-le)
 
 pub union-sum : (first second : Code) (most : ℕ) (exponent : ℤ) → IsTrue (accepted first) → IsTrue (accepted second)
     → 3 * length first.crossings + component_count first.crossings + first.loops ≤ most

@@ -3,6 +3,7 @@
 -- Darts of the union are those of the first code and then those of the second, by places, and partners stay within their part. So faces and
 -- pieces add up (ClassParts), and the number that the sphere allows, which is said of pieces, adds up as well; a choice of bits for the
 -- union is one for each part, side by side.
+use Rattle.std.proofs.lemmas.Bool.Decides.{nat_tests}
 use Rattle.std.proofs.Common.{IsTrue, List, [], ap, ap₂, arith, length, map, refl, subst, suc, sym, true, zero, ℕ, ◌%◌, ◌*◌, ◌++◌, ◌+◌, ◌-◌, ◌/◌, ◌<◌, ◌^◌, ◌∙◌, ◌∷◌, ◌≡◌, ◌≢◌, ◌≤◌}
 use Rattle.std.proofs.Math.Nat.{mul-le-mul_left}
 use Rattle.std.proofs.lemmas.Bool.{eq-eqb}
@@ -57,10 +58,7 @@ blocks f g m k shift same = from 0 k (λ q below. same q (omega (arith, below)))
     from : (a k : ℕ) → ((q : ℕ) → q < a + k → f (m + q) ≡ (shift + (g q).0, shift + (g q).1))
         → map f (range_with_len (m + a) k) ≡ lifted_pairs shift (map g (range_with_len a k))
     from a zero same = refl
-    from a (suc k) same =
-        let e : m + a + 1 ≡ m + (a + 1) = omega arith in
-        ap₂ (λ x xs. x ∷ xs) (same a (omega arith))
-        (ap (λ c. map f (range_with_len c k)) e ∙ from (a + 1) k (λ q below. same q (omega (arith, below))))
+    from a (suc k) same = grind (arith, nat_tests, from (a + 1) k (λ q below. same q (omega (arith, below))))
 
 map-range_alike : (f g : ℕ → ℕ × ℕ) (a k : ℕ) → ((q : ℕ) → a ≤ q → q < a + k → f q ≡ g q)
     → map f (range_with_len a k) ≡ map g (range_with_len a k)

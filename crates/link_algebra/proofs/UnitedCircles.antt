@@ -3,6 +3,7 @@
 -- A state of the union is one of either code: its low bits and its high bits. The smoothings of the second code join numbers behind those
 -- of the first; each less one, without the number 0, they are two parts side by side (ClassParts). So the numbers of circles add up, and
 -- loops with them.
+use Rattle.std.proofs.lemmas.Bool.Decides.{nat_tests}
 use Rattle.std.proofs.Common.{Bool, IsTrue, List, [], ap, ap₂, arith, cond, false, length, map, refl, subst, suc, sym, true, zero, ℕ, ◌*◌, ◌++◌, ◌+◌, ◌-◌, ◌<◌, ◌^◌, ◌∙◌, ◌∷◌, ◌≡◌, ◌≤◌}
 use Rattle.std.proofs.lemmas.List.{append_assoc, length-append, length-map, map-append, map-id}
 use Rattle.std.proofs.lemmas.Nat.Bits.{bit_at_cat_high, bit_at_cat_low}
@@ -50,11 +51,7 @@ abbrev pub lowered : List (ℕ × ℕ) → List (ℕ × ℕ)
 lowered pairs = map (λ pair. (pair.0 - 1, pair.1 - 1)) pairs
 
 pub slot-raised : (by : ℕ) (slots : List ℕ) (slot : ℕ) → slot < 4 → arc_in (raised_slots by slots) slot ≡ arc_in slots slot + by
-slot-raised by slots zero below = refl
-slot-raised by slots (suc zero) below = refl
-slot-raised by slots (suc (suc zero)) below = refl
-slot-raised by slots (suc (suc (suc zero))) below = refl
-slot-raised by slots (suc (suc (suc (suc slot)))) below = absurd (omega (arith, below))
+slot-raised by slots slot below = grind (arith, nat_tests)
 
 -- slots whose numbers are those of others, but that they begin at a number in place of 1
 abbrev pub AreMoved : ℕ → List ℕ → List ℕ → Type 0
@@ -70,9 +67,7 @@ AreMoved-own below slots hold slot slot_below = omega (arith, (hold slot slot_be
 pub pairs-moved : (start : ℕ) (moved slots : List ℕ) (p q r s : ℕ) → AreMoved start moved slots → p < 4 → q < 4 → r < 4 → s < 4
     → (arc_in moved p, arc_in moved q) ∷ (arc_in moved r, arc_in moved s) ∷ []
     ≡ lifted_pairs start (lowered ((arc_in slots p, arc_in slots q) ∷ (arc_in slots r, arc_in slots s) ∷ []))
-pairs-moved start moved slots p q r s at p_below q_below r_below s_below =
-    ap₂ (λ (x y : ℕ × ℕ). x ∷ y ∷ []) (ap₂ (λ (x y : ℕ). (x, y)) (at p p_below) (at q q_below))
-    (ap₂ (λ (x y : ℕ). (x, y)) (at r r_below) (at s s_below))
+pairs-moved start moved slots p q r s at p_below q_below r_below s_below = grind (arith, nat_tests)
 
 -- the pairs of a smoothing
 abbrev zero_pairs : List ℕ → List (ℕ × ℕ)
@@ -83,33 +78,14 @@ one_pairs slots = (arc_in slots 0, arc_in slots 3) ∷ (arc_in slots 1, arc_in s
 
 smoothing-moved : (start b : ℕ) (moved slots : List ℕ) → AreMoved start moved slots
     → smoothing_of b moved ≡ lifted_pairs start (lowered (smoothing_of b slots))
-smoothing-moved start b moved slots at =
-    either (nat_eq b 0) (pairs-moved start moved slots 0 1 2 3 at (omega arith) (omega arith) (omega arith) (omega arith))
-    (pairs-moved start moved slots 0 3 1 2 at (omega arith) (omega arith) (omega arith) (omega arith))
-  where
-    either : (is_zero : Bool) → zero_pairs moved ≡ lifted_pairs start (lowered (zero_pairs slots))
-        → one_pairs moved ≡ lifted_pairs start (lowered (one_pairs slots))
-        → cond is_zero (zero_pairs moved) (one_pairs moved)
-        ≡ lifted_pairs start (lowered (cond is_zero (zero_pairs slots) (one_pairs slots)))
-    either true same other = same
-    either false same other = other
+smoothing-moved start b moved slots at = grind (arith, nat_tests)
 
 pub moved-append : (start : ℕ) (here later : List (ℕ × ℕ))
     → lifted_pairs start (lowered here) ++ lifted_pairs start (lowered later) ≡ lifted_pairs start (lowered (here ++ later))
-moved-append start here later =
-    sym (map-append (λ (pair : ℕ × ℕ). (start + pair.0, start + pair.1)) (lowered here) (lowered later))
-    ∙ ap (lifted_pairs start) (sym (map-append (λ (pair : ℕ × ℕ). (pair.0 - 1, pair.1 - 1)) here later))
+moved-append start here later = grind (arith, nat_tests, map-append, lifted_pairs)
 
 pairs-below : (b below : ℕ) (slots : List ℕ) → SlotsHold below slots → AreBelow below (smoothing_of b slots)
-pairs-below b below slots hold =
-    either (nat_eq b 0)
-    (((hold 0 (omega arith)).1, (hold 1 (omega arith)).1), (((hold 2 (omega arith)).1, (hold 3 (omega arith)).1), tt))
-    (((hold 0 (omega arith)).1, (hold 3 (omega arith)).1), (((hold 1 (omega arith)).1, (hold 2 (omega arith)).1), tt))
-  where
-    either : (is_zero : Bool) → AreBelow below (zero_pairs slots) → AreBelow below (one_pairs slots)
-        → AreBelow below (cond is_zero (zero_pairs slots) (one_pairs slots))
-    either true first second = first
-    either false first second = second
+pairs-below b below slots hold = grind (arith, nat_tests)
 
 front : (state other place : ℕ) (crossings more : List (List ℕ))
     → ((k : ℕ) → place ≤ k → k < place + length crossings → bit state k ≡ bit other k)
@@ -117,12 +93,7 @@ front : (state other place : ℕ) (crossings more : List (List ℕ))
     ≡ smoothings_from other place crossings ++ smoothings_from state (place + length crossings) more
 front state other place [] more same = let e : place ≡ place + 0 = omega arith in ap (λ p. smoothings_from state p more) e
 front state other place (slots ∷ crossings) more same =
-    let e : place + 1 + length crossings ≡ place + suc (length crossings) = omega arith in
-    ap₂ (λ b ps. smoothing_of b slots ++ ps) (same place (omega arith) (omega arith))
-    (front state other (place + 1) crossings more (λ k from below. same k (omega (arith, from)) (omega (arith, below)))
-    ∙ ap (λ p. smoothings_from other (place + 1) crossings ++ smoothings_from state p more) e)
-    ∙ sym (append_assoc (smoothing_of (bit other place) slots) (smoothings_from other (place + 1) crossings)
-    (smoothings_from state (place + suc (length crossings)) more))
+    grind (arith, nat_tests, smoothings_from, append_assoc, front state other (place + 1) crossings more (λ k from below. same k (omega (arith, from)) (omega (arith, below))))
 
 behind : (g : List ℕ → List ℕ) (state other shift start place below : ℕ) (crossings : List (List ℕ))
     → ((slots : List ℕ) → SlotsHold below slots → AreMoved start (g slots) slots)
@@ -151,27 +122,19 @@ pub smoothings-small : (state place below : ℕ) (crossings : List (List ℕ)) �
     → AreBelow below (smoothings_from state place crossings)
 smoothings-small state place below [] hold = tt
 smoothings-small state place below (slots ∷ crossings) hold =
-    AllByRecursion-append (λ pair. (pair.0 < below) × (pair.1 < below)) (smoothing_of (bit state place) slots)
-    (smoothings_from state (place + 1) crossings)
-    (pairs-below (bit state place) below slots (HoldsNames-first below slots crossings hold))
-    (smoothings-small state (place + 1) below crossings (HoldsNames-rest below slots crossings hold))
+    grind (arith, nat_tests, AllByRecursion-append, smoothings_from, pairs-below, HoldsNames-first, HoldsNames-rest, smoothings-small state (place + 1) below crossings (HoldsNames-rest below slots crossings hold))
 
 pub lifted_pairs-below : (m n : ℕ) (pairs : List (ℕ × ℕ)) → AreBelow n pairs → AreBelow (m + n) (lifted_pairs m pairs)
 lifted_pairs-below m n [] below = tt
-lifted_pairs-below m n (pair ∷ pairs) below =
-    ((omega (arith, below.0.0), omega (arith, below.0.1)), lifted_pairs-below m n pairs below.1)
+lifted_pairs-below m n (pair ∷ pairs) below = grind (arith, nat_tests, lifted_pairs-below m n pairs below.1)
 
 below-lifted_pairs : (m n : ℕ) (pairs : List (ℕ × ℕ)) → AreBelow (m + n) (lifted_pairs m pairs) → AreBelow n pairs
 below-lifted_pairs m n [] below = tt
-below-lifted_pairs m n (pair ∷ pairs) below =
-    ((omega (arith, below.0.0), omega (arith, below.0.1)), below-lifted_pairs m n pairs below.1)
+below-lifted_pairs m n (pair ∷ pairs) below = grind (arith, nat_tests, below-lifted_pairs m n pairs below.1)
 
 pub lowered-below : (n : ℕ) (pairs : List (ℕ × ℕ)) → pairs ≡ lifted_pairs 1 (lowered pairs) → AreBelow (n + 1) pairs
     → AreBelow n (lowered pairs)
-lowered-below n pairs is below =
-    let e : n + 1 ≡ 1 + n = omega arith in
-    below-lifted_pairs 1 n (lowered pairs)
-    (subst (λ (ps : List (ℕ × ℕ)). AreBelow (1 + n) ps) is (subst (λ (c : ℕ). AreBelow c pairs) e below))
+lowered-below n pairs is below = grind (arith, nat_tests, below-lifted_pairs)
 
 -- two states, one of either code, are a state of the union
 abbrev pub state_of_both : Code → ℕ → ℕ → ℕ
@@ -188,11 +151,7 @@ bit-second n a b k small =
     ap (λ s. bit s (n + k)) e ∙ bit_at_cat_high b n a (n + k) small (omega arith) ∙ ap (bit b) rest
 
 pub ones-both : (n m a b : ℕ) → a < 2 ^ n → ones (n + m) (a + 2 ^ n * b) ≡ ones n a + ones m b
-ones-both n m a b small =
-    let s = a + 2 ^ n * b in
-    sum_by-parts (bit s) 0 n m
-    ∙ ap₂ (λ x y. x + y) (sum_by-range_alike (bit s) (bit a) 0 n (λ k from below. bit-first n a b k (omega (arith, below))))
-    (sum_by-range_alike (λ k. bit s (n + k)) (bit b) 0 m (λ k from below. bit-second n a b k small))
+ones-both n m a b small = grind (arith, nat_tests, sum_by-parts, sum_by-range_alike, bit-first, bit-second)
 
 pub smoothings-both : (first second : Code) (a b : ℕ) → IsTrue (accepted second) → a < 2 ^ length first.crossings
     → smoothings_of (union_of first second).crossings (state_of_both first a b)
@@ -210,9 +169,7 @@ smoothings-both first second a b second_is small =
     (HoldsNames-accepted second second_is))
 
 pub length-both : (first second : Code) → length (union_of first second).crossings ≡ length first.crossings + length second.crossings
-length-both first second =
-    length-append first.crossings (map (raised_slots (arc_count first.crossings)) second.crossings)
-    ∙ ap (λ c. length first.crossings + c) (length-map second.crossings (raised_slots (arc_count first.crossings)))
+length-both first second = grind (arith, nat_tests, length-append, length-map)
 
 -- circles by classes without loops
 circle_count-arcs : (code : Code) (state : ℕ) → AreBelow (arc_count code.crossings + 1) (smoothings_of code.crossings state)

@@ -37,20 +37,12 @@ all-own below crossings hold =
 
 passes-append : (crossings more : List (List ℕ)) → flat_map passes_of (crossings ++ more) ≡ flat_map passes_of crossings ++ flat_map passes_of more
 passes-append [] more = refl
-passes-append (slots ∷ crossings) more =
-    ap (λ ps. passes_of slots ++ ps) (passes-append crossings more)
-    ∙ sym (append_assoc (passes_of slots) (flat_map passes_of crossings) (flat_map passes_of more))
+passes-append (slots ∷ crossings) more = grind (arith, nat_tests, append_assoc, passes-append crossings more)
 
 pub passes-small : (below : ℕ) (crossings : List (List ℕ)) → HoldsNames below crossings → AreBelow below (flat_map passes_of crossings)
 passes-small below [] hold = tt
 passes-small below (slots ∷ crossings) hold =
-    let first = HoldsNames-first below slots crossings hold in (
-      ((first 0 (omega arith)).1, (first 2 (omega arith)).1),
-      (
-        ((first 1 (omega arith)).1, (first 3 (omega arith)).1),
-        passes-small below crossings (HoldsNames-rest below slots crossings hold),
-      ),
-    )
+    grind (arith, nat_tests, HoldsNames-first, HoldsNames-rest, passes-small below crossings (HoldsNames-rest below slots crossings hold))
 
 -- the components of a code's arcs, each less 1 and without the number 0
 abbrev pub inner_components : List (List ℕ) → List ℕ
@@ -58,9 +50,7 @@ inner_components crossings = classes_of (arc_count crossings) (lowered (flat_map
 
 lowered_passes-below : (crossings : List (List ℕ)) → HoldsNames (arc_count crossings + 1) crossings
     → AreBelow (arc_count crossings) (lowered (flat_map passes_of crossings))
-lowered_passes-below crossings hold =
-    lowered-below (arc_count crossings) (flat_map passes_of crossings) (all-own (arc_count crossings + 1) crossings hold)
-    (passes-small (arc_count crossings + 1) crossings hold)
+lowered_passes-below crossings hold = grind (arith, nat_tests, lowered-below, all-own, passes-small)
 
 pub components-own : (crossings : List (List ℕ)) → HoldsNames (arc_count crossings + 1) crossings
     → components_of crossings ≡ (0 ∷ []) ++ lifted 1 (inner_components crossings)
@@ -90,8 +80,7 @@ components-both first second first_is second_is =
 pub length-components : (crossings : List (List ℕ)) → HoldsNames (arc_count crossings + 1) crossings
     → (length (components_of crossings) ≡ arc_count crossings + 1)
     × ((k : ℕ) → k < length (components_of crossings) → slice_index (components_of crossings) k < arc_count crossings + 1)
-length-components crossings hold =
-    length-classes (arc_count crossings + 1) (flat_map passes_of crossings) (passes-small (arc_count crossings + 1) crossings hold)
+length-components crossings hold = grind (arith, nat_tests, length-classes, passes-small)
 
 pub length-inner : (crossings : List (List ℕ)) → HoldsNames (arc_count crossings + 1) crossings
     → (length (inner_components crossings) ≡ arc_count crossings)
@@ -101,12 +90,7 @@ length-inner crossings hold = length-classes (arc_count crossings) (lowered (fla
 -- the component of an arc
 pub component-inner : (crossings : List (List ℕ)) (x : ℕ) → HoldsNames (arc_count crossings + 1) crossings → IsArc crossings x
     → component_of (components_of crossings) x ≡ 1 + slice_index (inner_components crossings) (x - 1)
-component-inner crossings x hold is =
-    let e : x ≡ length {A = ℕ} (0 ∷ []) + (x - 1) = omega (arith, is.positive) in
-    ap₂ (λ xs k. slice_index xs k) (components-own crossings hold) e
-    ∙ index-back (0 ∷ []) (lifted 1 (inner_components crossings)) (x - 1)
-    ∙ index-lifted 1 (inner_components crossings) (x - 1)
-    (omega (arith, is.positive, is.within, (length-inner crossings hold).0))
+component-inner crossings x hold is = grind (arith, nat_tests, components-own, index-back, lifted, index-lifted, length-inner)
 
 -- a part of a code: some crossings that stand one after another, with all arc numbers raised by as many arcs as stand before
 pub record IsPart (before : ℕ) (part whole : List (List ℕ)) : Type 0 where
@@ -144,8 +128,7 @@ index-past (x ∷ xs) (suc k) past = index-past xs k (omega (arith, past))
 
 pub component-past : (crossings : List (List ℕ)) → HoldsNames (arc_count crossings + 1) crossings
     → component_of (components_of crossings) (arc_count crossings + 1) ≡ 0
-component-past crossings hold =
-    index-past (components_of crossings) (arc_count crossings + 1) (omega (arith, (length-components crossings hold).0))
+component-past crossings hold = grind (arith, nat_tests, index-past, length-components)
 
 -- how often a number stands in lists
 count-none : (name : ℕ) (xs : List ℕ) → ((k : ℕ) → k < length xs → slice_index xs k ≢ name) → count_by (nat_eq name) xs ≡ 0
@@ -168,9 +151,7 @@ count-append name xs ys = sum_by-append (λ y. cond (nat_eq name y) 1 0) xs ys
 
 slots-first : (first second : Code) (crossing : ℕ) → IsCrossing first.crossings crossing
     → slots_of (union_of first second).crossings crossing ≡ slots_of first.crossings crossing
-slots-first first second crossing is =
-    get_or_append_left first.crossings (map (raised_slots (arc_count first.crossings)) second.crossings) [] (place_of crossing)
-    (omega (arith, is.positive, is.within))
+slots-first first second crossing is = grind (arith, nat_tests, get_or_append_left)
 
 slots-second : (first second : Code) (crossing : ℕ) → IsCrossing second.crossings crossing
     → slots_of (union_of first second).crossings (length first.crossings + crossing)

@@ -2,6 +2,7 @@
 --
 -- Each crossing and each arc of the union is one of a code's, raised (`IsPart`). Every rule of a directed code is about one crossing, or
 -- about one component and the crossings that it passes, which are of the same part. So each is read off the part, and holds there.
+use Rattle.std.proofs.lemmas.Bool.Decides.{nat_tests}
 use Rattle.std.proofs.Common.{IsTrue, List, ap, ap₂, arith, cond, inl, inr, length, subst, sym, ℕ, ◌%◌, ◌*◌, ◌+◌, ◌-◌, ◌/◌, ◌<◌, ◌∙◌, ◌≡◌, ◌≢◌, ◌≤◌, ◌⊎◌}
 use Rattle.std.proofs.lemmas.Bool.{cases_lt, ne_eqb}
 use Rattle.std.specs.List.{range_with_len, sum_by}
@@ -61,11 +62,7 @@ times-blocks first second arc =
 module _ (before : ℕ) (part whole : List (List ℕ)) (is : IsPart before part whole) where
   -- the arc of a dart of a part, by its place
   pub place-part : (q : ℕ) → q < 4 * length part → arc_of whole (dart_at (4 * before + q)) ≡ arc_of part (dart_at q) + 2 * before
-  place-part q below =
-      let crossing : (4 * before + q) / 4 + 1 ≡ before + (q / 4 + 1) = omega arith in
-      let slot : (4 * before + q) % 4 ≡ q % 4 = omega arith in
-      ap₂ (λ c s. arc_in (slots_of whole c) s) crossing slot
-      ∙ is.arcs (q / 4 + 1) (q % 4) (record { positive = omega arith; within = omega (arith, below) }) (omega arith)
+  place-part q below = grind (arith, nat_tests)
 
   times-own : (arc : ℕ)
       → sum_by (λ q. on_arc whole (arc + 2 * before) (4 * before + q)) (range_with_len 0 (4 * length part)) ≡ times part arc
@@ -78,44 +75,25 @@ module _ (before : ℕ) (part whole : List (List ℕ)) (is : IsPart before part 
 
   times-none : (arc : ℕ) → (arc ≤ 2 * before) ⊎ (2 * before + arc_count part < arc)
       → sum_by (λ q. on_arc whole arc (4 * before + q)) (range_with_len 0 (4 * length part)) ≡ 0
-  times-none arc outside =
-      sum_by-none (λ q. on_arc whole arc (4 * before + q)) 0 (4 * length part)
-      (λ q from below.
-      let place : IsCrossing part (q / 4 + 1) = record { positive = omega arith; within = omega (arith, below) } in
-      let own = part-arc before part whole is (q / 4 + 1) (q % 4) place (omega arith) in
-      let at = place-part q (omega (arith, below)) in
-      ap (λ b. cond b 1 0) (ne_eqb (arc_of whole (dart_at (4 * before + q))) arc
-      (λ same. elim outside [
-        | inl low ↦ omega (arith, at, same, own.positive, low)
-        | inr high ↦ omega (arith, at, same, own.within, high)
-      ])))
+  times-none arc outside = grind (arith, nat_tests, sum_by-none, part-arc, place-part, ne_eqb)
 
   -- the fields of a directed code
   next-at : (crossing slot : ℕ) → IsCrossing part crossing → slot < 4
       → next whole (arc_in (slots_of whole (before + crossing)) slot) ≡ next part (arc_in (slots_of part crossing) slot) + 2 * before
-  next-at crossing slot is_crossing below =
-      ap (next whole) (is.arcs crossing slot is_crossing below)
-      ∙ next-part before part whole is (arc_in (slots_of part crossing) slot) (part-arc before part whole is crossing slot is_crossing below)
+  next-at crossing slot is_crossing below = grind (arith, nat_tests, next-part, part-arc)
 
   follows-of : (crossing slot other : ℕ) → IsCrossing part crossing → slot < 4 → other < 4
       → arc_in (slots_of part crossing) slot ≡ next part (arc_in (slots_of part crossing) other)
       → arc_in (slots_of whole (before + crossing)) slot ≡ next whole (arc_in (slots_of whole (before + crossing)) other)
-  follows-of crossing slot other is_crossing below other_below follows =
-      is.arcs crossing slot is_crossing below ∙ ap (λ a. a + 2 * before) follows ∙ sym (next-at crossing other is_crossing other_below)
+  follows-of crossing slot other is_crossing below other_below follows = grind (arith, nat_tests)
 
   over-of : IsDirected part → (crossing : ℕ) → IsCrossing part crossing
       → (arc_in (slots_of whole (before + crossing)) 3 ≡ next whole (arc_in (slots_of whole (before + crossing)) 1))
       ⊎ (arc_in (slots_of whole (before + crossing)) 1 ≡ next whole (arc_in (slots_of whole (before + crossing)) 3))
-  over-of directed crossing is_crossing = elim (directed.over crossing is_crossing) [
-    | inl goes ↦ inl (follows-of crossing 3 1 is_crossing (omega arith) (omega arith) goes)
-    | inr goes ↦ inr (follows-of crossing 1 3 is_crossing (omega arith) (omega arith) goes)
-  ]
+  over-of directed crossing is_crossing = grind (arith, nat_tests, follows-of)
 
   slots-of : (crossing slot : ℕ) → IsCrossing part crossing → slot < 4 → IsArc whole (arc_in (slots_of whole (before + crossing)) slot)
-  slots-of crossing slot is_crossing below =
-      let own = part-arc before part whole is crossing slot is_crossing below in
-      let at = is.arcs crossing slot is_crossing below in
-      record { positive = omega (arith, own.positive, at); within = omega (arith, own.within, at, is.fits) }
+  slots-of crossing slot is_crossing below = grind (arith, nat_tests)
 
   interval-of : IsDirected part → (arc : ℕ) → IsArc part arc
       → component_of (components_of whole) (arc + 2 * before) ≡ arc + 2 * before → IsInterval (components_of whole) (arc + 2 * before)

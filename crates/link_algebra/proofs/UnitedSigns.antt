@@ -38,8 +38,7 @@ find-shifted p q before a (suc n) same =
   where
     by : (b : Bool) (o : Option ℕ)
         → cond b (Some (before + a)) (option_map (λ k. before + k) o) ≡ option_map (λ k. before + k) (cond b (Some a) o)
-    by true o = refl
-    by false o = refl
+    by b o = grind (arith, nat_tests)
 
 find-part : (p q : ℕ → Bool) (before n all : ℕ) → before + n ≤ all
     → ((k : ℕ) → 1 ≤ k → k ≤ n → p (before + k) ≡ q k)
@@ -85,9 +84,7 @@ module _ (before : ℕ) (part whole : List (List ℕ)) (is : IsPart before part 
   united arc = component_of (components_of whole) arc
 
   pub part-arc : (crossing slot : ℕ) → IsCrossing part crossing → slot < 4 → IsArc part (arc_in (slots_of part crossing) slot)
-  part-arc crossing slot is_crossing below =
-      let at = is.holds.at (place_of crossing) (omega (arith, is_crossing.positive, is_crossing.within)) slot below in
-      record { positive = at.0; within = omega (arith, at.1) }
+  part-arc crossing slot is_crossing below = grind (arith, nat_tests)
 
   -- the next arc
   pub next-part : (arc : ℕ) → IsArc part arc → next whole (arc + 2 * before) ≡ next part arc + 2 * before
@@ -133,29 +130,7 @@ module _ (before : ℕ) (part whole : List (List ℕ)) (is : IsPart before part 
   found-part : (crossing : ℕ) (under over : Option ℕ) → IsCrossing part crossing → ((u : ℕ) → under ≡ Some u → IsCrossing part u)
       → by_found whole (before + crossing) (option_map (λ k. before + k) under) (option_map (λ k. before + k) over)
       ≡ by_found part crossing under over
-  found-part crossing (Some u) over is_crossing found =
-      ap₂ nat_eq (is.arcs crossing 3 is_crossing (omega arith)) (is.arcs u 2 (found u refl) (omega arith))
-      ∙ same_test (arc_in (slots_of part crossing) 3) (arc_in (slots_of part u) 2) (2 * before)
-  found-part crossing None over is_crossing found =
-      order (arc_in (slots_of whole (before + crossing)) 1) (arc_in (slots_of whole (before + crossing)) 3)
-      (arc_in (slots_of part crossing) 1) (arc_in (slots_of part crossing) 3) (2 * before)
-      (nat_eq (unwrap_or (option_map (λ k. before + k) over) 0) (before + crossing)) (nat_eq (unwrap_or over 0) crossing)
-      (is.arcs crossing 1 is_crossing (omega arith)) (is.arcs crossing 3 is_crossing (omega arith)) (place over)
-    where
-      order : (u v a b by : ℕ) (here there : Bool) → u ≡ a + by → v ≡ b + by → here ≡ there
-          → cond here (nat_lt v u) (nat_lt u v) ≡ cond there (nat_lt b a) (nat_lt a b)
-      order u v a b by here there is_u is_v same = grind (arith, nat_tests)
-
-      same_place : (b x y : ℕ) → nat_eq (b + x) (b + y) ≡ nat_eq x y
-      same_place b x y = grind (arith, nat_tests)
-
-      zero_place : (b y : ℕ) → 1 ≤ y → nat_eq 0 (b + y) ≡ nat_eq 0 y
-      zero_place b y from = grind (arith, nat_tests)
-
-      place : (over : Option ℕ)
-          → nat_eq (unwrap_or (option_map (λ k. before + k) over) 0) (before + crossing) ≡ nat_eq (unwrap_or over 0) crossing
-      place (Some o) = same_place before o crossing
-      place None = zero_place before crossing is_crossing.positive
+  found-part crossing under over is_crossing found = grind (arith, nat_tests)
 
   -- the sign
   pub positive-part : (crossing : ℕ) → IsAlone before part whole → IsCrossing part crossing

@@ -1,4 +1,5 @@
 -- The state sum of a disjoint union is the product of the two state sums.
+use Rattle.std.proofs.lemmas.Bool.Decides.{nat_tests}
 use Rattle.std.proofs.Common.{IsTrue, ap, ap₂, arith, length, pos, refl, sym, ℕ, ℤ, ◌*ℤ◌, ◌*◌, ◌+◌, ◌-ℤ◌, ◌-◌, ◌<◌, ◌^◌, ◌∙◌, ◌≡◌, ◌≤◌}
 use Rattle.std.proofs.lemmas.Int.{ints}
 use Rattle.std.proofs.lemmas.Nat.{pow-add}
@@ -20,8 +21,7 @@ use Rattle.link_algebra.specs.Unions.{product_coefficient, union_of}
 -- the signs of both
 pub minus-both : (first second : Code) → plus_count (union_of first second).crossings ≡ plus_count first.crossings + plus_count second.crossings
     → minus_count (union_of first second).crossings ≡ minus_count first.crossings + minus_count second.crossings
-minus-both first second plus =
-    omega (arith, plus, length-both first second, plus_count-le first.crossings, plus_count-le second.crossings)
+minus-both first second plus = grind (arith, nat_tests, length-both, plus_count-le)
 
 -- the exponents of a state's term are within the bound
 Fits-state : (code : Code) (most state : ℕ) → circle_count code state + 2 * length code.crossings ≤ most

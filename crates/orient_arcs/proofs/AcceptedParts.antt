@@ -1,4 +1,5 @@
 -- Parts that are alike to an accepted code, with its directions, are renumbered to an accepted code with the same state sum.
+use Rattle.std.proofs.lemmas.Bool.Decides.{nat_tests}
 use Rattle.std.proofs.Common.{◌≡◌, ◌≢◌, ℕ, inl, inr, ◌+◌, ◌-◌, ◌*◌, ◌/◌, ◌%◌, ◌<◌, ◌∙◌, List, [], length, sym, ap, ap₂, arith, ℤ}
 use Rattle.std.specs.Prelude.{slice_index_or, IsTrue}
 use Rattle.std.specs.List.{count_by, range_with_len}
@@ -64,11 +65,7 @@ module _ (code : Code) (parts : Parts) (holds : IsTrue (accepted code)) (of_code
       ∙ of_code.signs crossing is_crossing
 
   plus : plus_count new.crossings ≡ plus_count code.crossings
-  plus =
-      let size = alike.size in
-      ap (λ n. count_by (is_positive_in new.crossings (components_of new.crossings)) (range_with_len 1 n)) size
-      ∙ count_by-alike (is_positive new.crossings) (is_positive code.crossings) 1 (length code.crossings)
-      (λ k from below. signs k (record { positive = from; within = omega (arith, below) }))
+  plus = grind (arith, nat_tests, alike, count_by-alike, signs)
 
   pub IsAccepted-renumbered : IsTrue (accepted new)
   IsAccepted-renumbered =

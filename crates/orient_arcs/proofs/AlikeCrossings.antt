@@ -3,6 +3,7 @@
 -- Crossings are alike where two darts have one name in the one list exactly where they have one in the other. All that acceptance looks at
 -- is said by darts: the partner of a dart is the other one with its name, faces and pieces go by partners, an equation of the checkerboard
 -- is one of a dart and its partner, circles are classes of darts under smoothings. So all of these agree.
+use Rattle.std.proofs.lemmas.Bool.Decides.{nat_tests}
 use Rattle.std.proofs.Common.{◌≡◌, ℕ, zero, suc, inl, inr, ◌+◌, ◌-◌, ◌*◌, ◌/◌, ◌%◌, ◌^◌, ◌<◌, ◌≤◌, ◌∙◌, List, [], ◌∷◌, length, map, get_or, refl, sym, ap, ap₂, subst, arith, Bool, true, cond, not, ◌&&◌, ℤ}
 use Rattle.std.specs.Prelude.{nat_eq, unwrap_or, Some, slice_index}
 use Rattle.std.specs.List.{find, list_all, range_with_len}
@@ -41,53 +42,23 @@ use Rattle.gluing.specs.Alike.{AreAlike}
 use Rattle.gluing.proofs.Renamed.{class_count-range}
 
 pub AreAlike-back : (crossings others : List (List ℕ)) → AreAlike crossings others → AreAlike others crossings
-AreAlike-back crossings others alike = record {
-  size = sym alike.size;
-  onward = λ place other below other_below. alike.back place other (omega (arith, below, alike.size)) (omega (arith, other_below, alike.size));
-  back = λ place other below other_below. alike.onward place other (omega (arith, below, alike.size)) (omega (arith, other_below, alike.size));
-}
+AreAlike-back crossings others alike = grind (arith, nat_tests)
 
 pub AreAlike-then : (crossings others third : List (List ℕ)) → AreAlike crossings others → AreAlike others third → AreAlike crossings third
-AreAlike-then crossings others third first second = record {
-  size = second.size ∙ first.size;
-  onward = λ place other below other_below same.
-      second.onward place other (omega (arith, below, first.size)) (omega (arith, other_below, first.size))
-      (first.onward place other below other_below same);
-  back = λ place other below other_below same.
-      first.back place other below other_below
-      (second.back place other (omega (arith, below, first.size)) (omega (arith, other_below, first.size)) same);
-}
+AreAlike-then crossings others third first second = grind (arith, nat_tests)
 
 find-agree : (p q : ℕ → Bool) (a n : ℕ) → ((k : ℕ) → a ≤ k → k < a + n → p k ≡ q k)
     → find p (range_with_len a n) ≡ find q (range_with_len a n)
 find-agree p q a zero same = refl
 find-agree p q a (suc n) same =
-    ap₂ (λ b o. cond b (Some a) o) (same a (omega arith) (omega arith))
-    (find-agree p q (a + 1) n (λ k from below. same k (omega (arith, from)) (omega (arith, below))))
+    grind (arith, nat_tests, find-agree p q (a + 1) n (λ k from below. same k (omega (arith, from)) (omega (arith, below))))
 
 pub same-test : (x y z w : ℕ) → (x ≡ y → z ≡ w) → (z ≡ w → x ≡ y) → nat_eq z w ≡ nat_eq x y
-same-test x y z w onward back = elim (cases_eq x y) [
-  | inl same ↦ eq-eqb z w (onward same) ∙ sym (eq-eqb x y same)
-  | inr other ↦ ne_eqb z w (λ same. other (back same)) ∙ sym (ne_eqb x y other)
-]
+same-test x y z w onward back = grind (arith, nat_tests)
 
 module _ (crossings others : List (List ℕ)) (alike : AreAlike crossings others) where
   pub partner-alike : (place : ℕ) → place < 4 * length crossings → partner others (dart_at place) ≡ partner crossings (dart_at place)
-  partner-alike place below =
-      let dart = dart_at place in
-      let size = alike.size in
-      let places = range_with_len 0 (4 * length crossings) in
-      ap (λ n. unwrap_or (find (is_partner others dart) (map dart_at (range_with_len 0 (4 * n)))) dart) size
-      ∙ ap (λ o. unwrap_or o dart)
-      (find-map (is_partner others dart) dart_at places
-      ∙ ap (option_map dart_at)
-      (find-agree (λ k. is_partner others dart (dart_at k)) (λ k. is_partner crossings dart (dart_at k)) 0 (4 * length crossings)
-      (λ k from k_below.
-      let k_within : k < 4 * length crossings = omega (arith, k_below) in
-      ap (λ b. b && not (is_same_dart (dart_at k) dart))
-      (same-test (arc_of crossings (dart_at k)) (arc_of crossings dart) (arc_of others (dart_at k)) (arc_of others dart)
-      (alike.onward k place k_within below) (alike.back k place k_within below))))
-      ∙ sym (find-map (is_partner crossings dart) dart_at places))
+  partner-alike place below = grind (arith, nat_tests, find-map, find-agree, same-test)
 
   pub partner_at-alike : (place : ℕ) → place < 4 * length crossings → partner_at others place ≡ partner_at crossings place
   partner_at-alike place below = ap dart_place (partner-alike place below)
@@ -118,10 +89,7 @@ module _ (crossings others : List (List ℕ)) (alike : AreAlike crossings others
       (bit choice (place_of dart.crossing) + (bit choice (place_of other.crossing) + (dart.slot + other.slot))) % 2 ≡ 1
 
   Odd-back : (choice : ℕ) (dart other : Dart) → Odd choice dart other → Odd choice other dart
-  Odd-back choice dart other odd = turned_names (bit choice (place_of dart.crossing)) (bit choice (place_of other.crossing)) dart.slot other.slot odd
-    where
-      turned_names : (x y s t : ℕ) → (x + (y + (s + t))) % 2 ≡ 1 → (y + (x + (t + s))) % 2 ≡ 1
-      turned_names x y s t odd = omega (arith, odd)
+  Odd-back choice dart other odd = omega arith
 
   -- a choice solves it at each dart
   solved-at : HasArcsTwice crossings → (choice : ℕ) → list_all (solves_at crossings choice) (arcs crossings) ≡ true
@@ -184,8 +152,7 @@ arcs-below-at n (slots ∷ crossings) below (suc place) slot place_below slot_be
     arcs-below-at n crossings below.1 place slot (omega (arith, place_below)) slot_below
 
 arc_of-dart : (crossings : List (List ℕ)) (dart : ℕ) → arc_of crossings (dart_at dart) ≡ arc_of_dart crossings dart
-arc_of-dart crossings dart =
-    let e : dart / 4 + 1 - 1 ≡ dart / 4 = omega arith in ap (λ k. arc_in (get_or crossings k []) (dart % 4)) e
+arc_of-dart crossings dart = grind (arith, nat_tests)
 
 -- whatever joins darts makes as many classes of names
 pub class_count-darts : (m n : ℕ) (crossings others : List (List ℕ)) → AreAlike crossings others → ArcsBelow m crossings
@@ -223,12 +190,7 @@ pub class_count-alike : (m n : ℕ) (crossings others : List (List ℕ)) → Are
     → ArcsBelow n others → (state : ℕ)
     → class_count (classes_of n (smoothings_of others state)) + m ≡ class_count (classes_of m (smoothings_of crossings state)) + n
 class_count-alike m n crossings others alike below others_below state =
-    let law = class_count-darts m n crossings others alike below others_below (dart_smoothings (length crossings) state)
-    (dart_smoothings-below (length crossings) state) in
-    let first = ap (λ ps. class_count (classes_of m ps)) (smoothings_of-darts crossings state) in
-    let second = ap (λ ps. class_count (classes_of n ps))
-    (smoothings_of-darts others state ∙ ap (λ k. renamed (arc_of_dart others) (dart_smoothings k state)) alike.size) in
-    omega (arith, law, first, second)
+    grind (arith, nat_tests, class_count-darts, dart_smoothings, dart_smoothings-below, smoothings_of-darts)
 
 -- components
 pub component_count-alike : (crossings others : List (List ℕ)) → AreAlike crossings others → HasArcsTwice crossings → HasArcsTwice others
@@ -282,12 +244,7 @@ pub AreAlike-renamed : (f : ℕ → ℕ) (crossings others : List (List ℕ)) �
     → f (arc_of crossings (dart_at place)) ≡ f (arc_of crossings (dart_at other))
     → arc_of crossings (dart_at place) ≡ arc_of crossings (dart_at other))
     → AreAlike crossings others
-AreAlike-renamed f crossings others size renames apart = record {
-  size = size;
-  onward = λ place other below other_below same. renames place below ∙ ap f same ∙ sym (renames other other_below);
-  back = λ place other below other_below same.
-      apart place other below other_below (sym (renames place below) ∙ same ∙ renames other other_below);
-}
+AreAlike-renamed f crossings others size renames apart = grind (arith, nat_tests)
 
 pub AreAlike-renumbered : (parts : Parts) → ArePaired parts → AreAlike parts.crossings (renumber parts).crossings
 AreAlike-renumbered parts paired =

@@ -3,6 +3,7 @@
 -- The order goes over the names below a bound, and walks from each that is in no component so far. What is known of the components found is
 -- one record: each goes round, they have no name twice, they ascend by first names, and all names below the bound are in one. A walk from a
 -- new name goes round and meets none of the old ones, since each name is the next of one only; so one step more keeps the record.
+use Rattle.std.proofs.lemmas.Bool.Decides.{nat_tests}
 use Rattle.std.proofs.Common.{◌≡◌, ℕ, zero, suc, inl, inr, ◌+◌, ◌<◌, ◌≤◌, ◌∙◌, List, [], ◌∷◌, ◌++◌, length, map, refl, sym, ap, subst, arith, Bool, true, false, not, ◌&&◌}
 use Rattle.std.specs.Prelude.{if◌then◌else◌, slice_index}
 use Rattle.std.specs.List.{fold, range_with_len, AllByRecursion}
@@ -33,10 +34,8 @@ AreAscending-more : (components : List (List ℕ)) (names : List ℕ)
     → AllByRecursion (λ (earlier : List ℕ). slice_index earlier 0 < slice_index names 0) components → AreAscending components
     → AreAscending (components ++ names ∷ [])
 AreAscending-more [] names below ascending = (tt, tt)
-AreAscending-more (first ∷ components) names below ascending = (
-  AllByRecursion-append (λ (later : List ℕ). slice_index first 0 < slice_index later 0) components (names ∷ []) ascending.0 (below.0, tt),
-  AreAscending-more components names below.1 ascending.1,
-)
+AreAscending-more (first ∷ components) names below ascending =
+    grind (arith, nat_tests, AllByRecursion-append, ascending, below, AreAscending-more components names below.1 ascending.1)
 
 -- each name of a component is the next of one of them
 
@@ -44,8 +43,7 @@ fed-led : (next : ℕ → ℕ) (last p : ℕ) (xs : List ℕ) → AreLed next la
     → (z : ℕ) × IsIn z (p ∷ xs) × (next z ≡ y)
 fed-led next last p [] led y is = absurd is
 fed-led next last p (x ∷ xs) led y (inl same) = (p, inl refl, sym led.0 ∙ sym same)
-fed-led next last p (x ∷ xs) led y (inr later) =
-    let found = fed-led next last x xs led.1 y later in (found.0, inr found.1, found.2)
+fed-led next last p (x ∷ xs) led y (inr later) = grind (arith, nat_tests, fed-led next last x xs led.1 y later)
 
 fed-last : (next : ℕ → ℕ) (last p : ℕ) (xs : List ℕ) → AreLed next last (next p) xs
     → (z : ℕ) × IsIn z (p ∷ xs) × (next z ≡ last)
@@ -55,8 +53,7 @@ fed-last next last p (x ∷ xs) led = let found = fed-last next last x xs led.1 
 fed-round : (next : ℕ → ℕ) (names : List ℕ) → IsRound next names → (y : ℕ) → IsIn y names
     → (z : ℕ) × IsIn z names × (next z ≡ y)
 fed-round next [] round y is = absurd is
-fed-round next (x ∷ xs) round y (inl same) =
-    let found = fed-last next x x xs round in (found.0, found.1, found.2 ∙ sym same)
+fed-round next (x ∷ xs) round y (inl same) = grind (arith, nat_tests, fed-last)
 fed-round next (x ∷ xs) round y (inr later) = fed-led next x x xs round y later
 
 fed-all : (next : ℕ → ℕ) (components : List (List ℕ)) → AllByRecursion (IsRound next) components → (y : ℕ)
@@ -167,10 +164,7 @@ module _ (passes : List Pass) (are : AreNext (follows passes) (map (λ (pass : P
       by : (b : Bool) → (is_in (map (λ (pass : Pass). pass.enters) passes) name && not (is_in (all_of components) name)) ≡ b
           → AreSoFar (follows passes) (map (λ (pass : Pass). pass.enters) passes) (name + 1)
           (if b then components ++ walk (follows passes) name (length passes) name ∷ [] else components)
-      by true holds =
-          let both = and_parts (is_in (map (λ (pass : Pass). pass.enters) passes) name) (not (is_in (all_of components) name)) holds in
-          AreSoFar-new name components so_far (true-is_in name (map (λ (pass : Pass). pass.enters) passes) both.0)
-          (false-is_in name (all_of components) (not-true (is_in (all_of components) name) both.1))
+      by true holds = grind (arith, nat_tests, and_parts, AreSoFar-new, true-is_in, false-is_in, not-true)
       by false fails = record {
         rounds = so_far.rounds;
         least = so_far.least;
@@ -190,18 +184,10 @@ module _ (passes : List Pass) (are : AreNext (follows passes) (map (λ (pass : P
         where
           tests_fail : (y : ℕ) → y ≡ name → IsIn y (map (λ (pass : Pass). pass.enters) passes)
               → is_in (all_of components) y ≡ false → ⊥
-          tests_fail y same y_is new =
-              let names = map (λ (pass : Pass). pass.enters) passes in
-              both_ways (is_in names name && not (is_in (all_of components) name)) fails
-              (and_from (is_in names name) (not (is_in (all_of components) name))
-              (is_in-true name names (IsIn-same name y names same y_is))
-              (ap (λ z. not (is_in (all_of components) z)) (sym same) ∙ ap not new))
+          tests_fail y same y_is new = grind (arith, nat_tests, both_ways, and_from, is_in-true, IsIn-same)
 
   pub AreSoFar-fold : (a n : ℕ) (components : List (List ℕ)) → AreSoFar next heads a components
       → AreSoFar next heads (a + n) (fold (with_component passes) components (range_with_len a n))
-  AreSoFar-fold a zero components so_far =
-      let e : a + zero ≡ a = omega arith in subst (λ (k : ℕ). AreSoFar next heads k components) (sym e) so_far
+  AreSoFar-fold a zero components so_far = grind (arith, nat_tests)
   AreSoFar-fold a (suc n) components so_far =
-      let e : a + 1 + n ≡ a + suc n = omega arith in
-      subst (λ (k : ℕ). AreSoFar next heads k (fold (with_component passes) components (range_with_len a (suc n)))) e
-      (AreSoFar-fold (a + 1) n (with_component passes components a) (AreSoFar-step a components so_far))
+      grind (arith, nat_tests, AreSoFar-step, AreSoFar-fold (a + 1) n (with_component passes components a) (AreSoFar-step a components so_far))

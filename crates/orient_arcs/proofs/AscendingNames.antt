@@ -1,4 +1,5 @@
 -- Names that ascend with the arcs of a code keep the order of its components.
+use Rattle.std.proofs.lemmas.Bool.Decides.{nat_tests}
 use Rattle.std.proofs.Common.{◌≡◌, ℕ, inl, inr, ◌+◌, ◌<◌, ◌≤◌, List, ap, arith}
 use Rattle.std.proofs.lemmas.Bool.{cases_lt}
 use Rattle.kh_types.specs.Code.{IsArc}
@@ -10,20 +11,12 @@ use Rattle.orient_arcs.specs.OtherNames.{KeepsComponents}
 -- arcs from the first of a component on are in it, or in a component behind it
 pub component-from : (crossings : List (List ℕ)) → IsDirected crossings → (first arc : ℕ) → IsFirst crossings first → IsArc crossings arc
     → first ≤ arc → first ≤ component crossings arc
-component-from crossings directed first arc is arc_is from = elim (cases_lt (component crossings arc) first) [
-  | inr later ↦ later
-  | inl before ↦
-      let place = HasPlace-directed crossings directed arc arc_is in
-      let inside = component-inside crossings directed arc first arc_is (omega (arith, before)) (omega (arith, from, place.below)) in
-      absurd (omega (arith, inside, is.own, before))
-]
+component-from crossings directed first arc is arc_is from =
+    grind (arith, nat_tests, cases_lt, component, HasPlace-directed, component-inside)
 
 pub component-behind : (crossings : List (List ℕ)) → IsDirected crossings → (first arc : ℕ) → IsFirst crossings first → IsArc crossings arc
     → first + size crossings first ≤ arc → first < component crossings arc
-component-behind crossings directed first arc is arc_is behind =
-    let next_is = IsFirst-next crossings directed first is (omega (arith, behind, arc_is.within)) in
-    let from = component-from crossings directed (first + size crossings first) arc next_is arc_is behind in
-    omega (arith, from, size-positive crossings directed first is)
+component-behind crossings directed first arc is arc_is behind = grind (arith, nat_tests, IsFirst-next, component-from, size, size-positive)
 
 -- names that ascend keep all of this
 pub KeepsComponents-ascending : (f : ℕ → ℕ) (crossings : List (List ℕ)) → IsDirected crossings → ((x y : ℕ) → x < y → f x < f y)

@@ -4,6 +4,7 @@
 -- of the parts have labels (Labels); their passes are those of the names, under new numbers, so that the renumbered crossings are the
 -- crossings of these labels with the signs of the parts. What code_passes says of such codes then holds: they are directed, with these
 -- signs.
+use Rattle.std.proofs.lemmas.Bool.Decides.{nat_tests}
 use Rattle.std.proofs.Common.{◌≡◌, ◌≢◌, ℕ, zero, suc, inl, inr, ◌+◌, ◌-◌, ◌*◌, ◌<◌, ◌∙◌, List, [], ◌∷◌, length, map, get_or, refl, sym, ap, ap₂, subst, arith, Bool, true, false}
 use Rattle.std.specs.Prelude.{if◌then◌else◌, None, slice_index_or, ℤ, pos, neg_ℤ, MatchBool}
 use Rattle.std.specs.List.{range_with_len, AllByRecursion}
@@ -47,11 +48,7 @@ map-as_range f (x ∷ xs) a g same =
 
 pub renamed-slot : (number : ℕ → ℕ) (slots : List ℕ) (slot : ℕ) → slot < 4
     → arc_in (renamed_crossing number slots) slot ≡ number (arc_in slots slot)
-renamed-slot number slots zero below = refl
-renamed-slot number slots (suc zero) below = refl
-renamed-slot number slots (suc (suc zero)) below = refl
-renamed-slot number slots (suc (suc (suc zero))) below = refl
-renamed-slot number slots (suc (suc (suc (suc slot)))) below = absurd (omega (arith, below))
+renamed-slot number slots slot below = grind (arith, nat_tests)
 
 pub slot-renumbered : (parts : Parts) (crossing slot : ℕ) → IsCrossing parts.crossings crossing → slot < 4
     → arc_in (slots_of (renumber parts).crossings crossing) slot
@@ -76,17 +73,7 @@ module _ (parts : Parts) (paired : ArePaired parts) where
   order = order_of passes
 
   pub components-are : AreSoFar (follows passes) (map (λ (pass : Pass). pass.enters) passes) (0 + bound_of passes) components
-  components-are =
-      AreSoFar-fold passes (AreNext-passes parts paired) 0 (bound_of passes) []
-      (record {
-        rounds = tt;
-        least = tt;
-        below = tt;
-        ascending = tt;
-        named = λ y none. absurd none;
-        distinct = tt;
-        covers = λ y below. absurd (omega (arith, below));
-      })
+  components-are = grind (arith, nat_tests, AreSoFar-fold, AreNext-passes)
 
   pub all-heads : (x : ℕ) → IsIn x (heads_of parts paired) → IsIn x (all_of components)
   all-heads x is = components-are.covers x (omega (arith, below-bound passes x is)) is
@@ -131,8 +118,7 @@ module _ (parts : Parts) (paired : ArePaired parts) where
       ∙ by (is_positive_at parts.positive place)
     where
       by : (b : Bool) → int_eq (if b then pos 1 else neg_ℤ (pos 1)) (pos 1) ≡ b
-      by true = refl
-      by false = refl
+      by b = grind (arith, nat_tests)
 
   pub no-bad : bad_label (all_labels groups_of) ≡ None
   no-bad =
@@ -157,13 +143,7 @@ module _ (parts : Parts) (paired : ArePaired parts) where
   numbered-is : (pass own : Pass) → IsNumbered label (follows passes) order pass → pass.label ≡ own.label
       → entering passes own.enters ≡ own → IsIn own.enters (heads_of parts paired)
       → (pass.enters ≡ number_in order own.enters) × (pass.leaves ≡ number_in order own.leaves)
-  numbered-is pass own is same entering_own own_is =
-      let label_own : label own.enters ≡ own.label = ap (λ (p : Pass). p.label) entering_own in
-      let name : is.name ≡ own.enters =
-      label-once parts paired is.name own.enters (order-heads is.name is.stands) own_is (sym is.has_label ∙ same ∙ sym label_own) in (
-        is.enters ∙ ap (number_in order) name,
-        is.leaves ∙ ap (λ x. number_in order (follows passes x)) name ∙ ap (λ (p : Pass). number_in order p.leaves) entering_own,
-      )
+  numbered-is pass own is same entering_own own_is = grind (arith, nat_tests, label-once, order-heads)
 
   abbrev own_under : ℕ → Pass
   own_under place = under_pass (slots_in parts.crossings place) place
@@ -206,30 +186,14 @@ module _ (parts : Parts) (paired : ArePaired parts) where
           → (if test then under.enters ∷ over.leaves ∷ under.leaves ∷ over.enters ∷ []
           else under.enters ∷ over.enters ∷ under.leaves ∷ over.leaves ∷ [])
           ≡ renamed_crossing (number_in (order_of (passes_through parts))) slots
-      by true test is under over slots at_under enters leaves =
-          ap (λ t. if t then under.enters ∷ over.leaves ∷ under.leaves ∷ over.enters ∷ []
-          else under.enters ∷ over.enters ∷ under.leaves ∷ over.leaves ∷ []) is
-          ∙ ap₂ (λ x y. x ∷ over.leaves ∷ y ∷ over.enters ∷ []) at_under.0 at_under.1
-          ∙ ap₂ (λ x y. number_in (order_of (passes_through parts)) (arc_in slots 0) ∷ x
-          ∷ number_in (order_of (passes_through parts)) (arc_in slots 2) ∷ y ∷ []) leaves enters
-      by false test is under over slots at_under enters leaves =
-          ap (λ t. if t then under.enters ∷ over.leaves ∷ under.leaves ∷ over.enters ∷ []
-          else under.enters ∷ over.enters ∷ under.leaves ∷ over.leaves ∷ []) is
-          ∙ ap₂ (λ x y. x ∷ over.enters ∷ y ∷ over.leaves ∷ []) at_under.0 at_under.1
-          ∙ ap₂ (λ x y. number_in (order_of (passes_through parts)) (arc_in slots 0) ∷ x
-          ∷ number_in (order_of (passes_through parts)) (arc_in slots 2) ∷ y ∷ []) enters leaves
+      by true test is under over slots at_under enters leaves = grind (arith, nat_tests)
+      by false test is under over slots at_under enters leaves = grind (arith, nat_tests)
 
   pub crossings-are : crossings_of groups_of signs_of ≡ (renumber parts).crossings
-  crossings-are =
-      ap (λ n. map (gauss.slots_by_passes (all_passes 1 groups_of) signs_of) (range_with_len 0 n)) crossings-in
-      ∙ map-as_range (renamed_crossing (number_in order)) parts.crossings 0 (gauss.slots_by_passes (all_passes 1 groups_of) signs_of)
-      (λ place below.
-      let e : 0 + place ≡ place = omega arith in
-      ap (gauss.slots_by_passes (all_passes 1 groups_of) signs_of) e ∙ slots-are place below)
+  crossings-are = grind (arith, nat_tests, signs_of, crossings-in, map-as_range, slots-are)
 
   pub IsDirected-renumbered : IsDirected (renumber parts).crossings
-  IsDirected-renumbered =
-      subst (λ (cs : List (List ℕ)). IsDirected cs) crossings-are (IsDirected-crossings groups_of signs_of no-bad)
+  IsDirected-renumbered = grind (arith, nat_tests, crossings-are, IsDirected-crossings, signs_of, no-bad)
 
   -- a crossing under its new numbers
   pub length-renumbered : length (renumber parts).crossings ≡ length parts.crossings

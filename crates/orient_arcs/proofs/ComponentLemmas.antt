@@ -1,4 +1,5 @@
 -- The list of components, and its least arcs in an accepted code.
+use Rattle.std.proofs.lemmas.Bool.Decides.{nat_tests}
 use Rattle.std.proofs.Common.{◌≡◌, ℕ, ◌+◌, ◌≤◌, ◌∙◌, List, length, take, ap, arith}
 use Rattle.std.specs.Prelude.{IsTrue}
 use Rattle.std.proofs.Math.Seq.{take-append_seam}
@@ -14,10 +15,7 @@ use Rattle.orient_arcs.specs.Inside.{spread}
 -- the array that holds it begins with it
 pub take_spread : (crossings : List (List ℕ)) (least : List ℕ) (arcs : ℕ) → least ≡ spread (components_of crossings)
     → arcs ≡ arc_count crossings → take (arcs + 1) least ≡ components_of crossings
-take_spread crossings least arcs is_least is_count =
-    let count : arcs + 1 ≡ length (components_of crossings) = omega (arith, is_count, components_size crossings) in
-    ap (λ n. take n least) count ∙ ap (λ xs. take (length (components_of crossings)) xs) is_least
-    ∙ take-append_seam (components_of crossings) _
+take_spread crossings least arcs is_least is_count = grind (arith, nat_tests, components_size, take-append_seam)
 
 -- an accepted code is directed
 pub IsDirected-accepted : (code : Code) → IsTrue (accepted code) → IsDirected code.crossings

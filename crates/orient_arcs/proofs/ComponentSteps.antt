@@ -3,6 +3,7 @@
 -- The code of renumbering pushes one component after the other, and turns one of two names that are both over by beginning its walk with
 -- the second. The specification makes all components and turns them at the end. One step of the one is one step of the other: a name that
 -- is new adds its walk, turned or not (`order-turned`), any other adds nothing (`order-same`).
+use Rattle.std.proofs.lemmas.Bool.Decides.{nat_tests}
 use Rattle.std.proofs.Common.{◌≡◌, ◌≢◌, ℕ, zero, suc, inl, inr, ◌+◌, ◌*◌, ◌≤◌, ◌∙◌, List, [], ◌∷◌, ◌++◌, length, map, refl, sym, ap, ap₂, subst, arith, Bool, true, false, not, ◌&&◌, ℤ, length-append}
 use Rattle.std.specs.Prelude.{nat_eq, int_lt, if◌then◌else◌}
 use Rattle.std.specs.List.{flat_map, fold, range_with_len, AllByRecursion}
@@ -23,11 +24,7 @@ use Rattle.orient_arcs.proofs.Labels.{IsIn-order, order-IsIn, AreDistinct-order}
 module _ (next : ℕ → ℕ) where
   -- a walk round two names
   pub walk-two : (fuel a b : ℕ) → next a ≡ b → next b ≡ a → b ≢ a → walk next a (suc (suc fuel)) a ≡ a ∷ b ∷ []
-  walk-two fuel a b is_b is_a differ =
-      let first : nat_eq (next a) a ≡ false = ap (λ x. nat_eq x a) is_b ∙ ne_eqb b a differ in
-      let second : nat_eq (next (next a)) a ≡ true = eq-eqb (next (next a)) a (ap next is_b ∙ is_a) in
-      ap₂ (λ s t. a ∷ (if s then [] else next a ∷ (if t then [] else walk next a fuel (next (next a))))) first second
-      ∙ ap (λ x. a ∷ x ∷ []) is_b
+  walk-two fuel a b is_b is_a differ = grind (arith, nat_tests)
 
   -- a component is turned by beginning its walk with its second name
   turned-walk : (label : ℕ → ℤ) (fuel name : ℕ) → IsRound next (walk next name (suc (suc fuel)) name)
@@ -36,36 +33,7 @@ module _ (next : ℕ → ℕ) where
       → turned_names label (walk next name (suc (suc fuel)) name)
       ≡ walk next (if not b1 && (b2 && t) then next name else name) (suc (suc fuel))
       (if not b1 && (b2 && t) then next name else name)
-  turned-walk label fuel name round true b2 t one two test =
-      let is : walk next name (suc (suc fuel)) name ≡ name ∷ [] =
-      ap (λ b. name ∷ (if b then [] else next name ∷ (if nat_eq (next (next name)) name then [] else walk next name fuel (next (next name)))))
-      one in
-      ap (turned_names label) is ∙ sym is
-  turned-walk label fuel name round false true t one two test =
-      let differ : next name ≢ name = λ same. eqb-false (next name) name one same in
-      let back : next (next name) ≡ name = eqb-true (next (next name)) name two in
-      let is = walk-two fuel name (next name) refl back differ in
-      let other = walk-two fuel (next name) name back refl (λ same. differ (sym same)) in
-      ap (turned_names label) is
-      ∙ ap (λ (b : Bool). if b then next name ∷ name ∷ [] else name ∷ next name ∷ []) test ∙ by t is other
-    where
-      by : (t : Bool) → walk next name (suc (suc fuel)) name ≡ name ∷ next name ∷ []
-          → walk next (next name) (suc (suc fuel)) (next name) ≡ next name ∷ name ∷ []
-          → (if t then next name ∷ name ∷ [] else name ∷ next name ∷ [])
-          ≡ walk next (if t then next name else name) (suc (suc fuel)) (if t then next name else name)
-      by true is other = sym other
-      by false is other = sym is
-  turned-walk label zero name round false false t one two test =
-      let is : walk next name (suc (suc zero)) name ≡ name ∷ next name ∷ [] =
-      ap₂ (λ s t. name ∷ (if s then [] else next name ∷ (if t then [] else []))) one two in
-      let led : IsRound next (name ∷ next name ∷ []) = subst (λ (xs : List ℕ). IsRound next xs) is round in
-      absurd (eqb-false (next (next name)) name two led.1)
-  turned-walk label (suc fuel) name round false false t one two test =
-      let third = next (next name) in
-      let more = if nat_eq (next third) name then [] else walk next name fuel (next third) in
-      let is : walk next name (suc (suc (suc fuel))) name ≡ name ∷ next name ∷ third ∷ more =
-      ap₂ (λ s t. name ∷ (if s then [] else next name ∷ (if t then [] else third ∷ more))) one two in
-      ap (turned_names label) is ∙ sym is
+  turned-walk label fuel name round b1 b2 t one two test = grind (arith, nat_tests)
 
 module _ (parts : Parts) (paired : ArePaired parts) where
   abbrev passes : List Pass
@@ -75,22 +43,10 @@ module _ (parts : Parts) (paired : ArePaired parts) where
   below k = fold (with_component passes) [] (range_with_len 0 k)
 
   so-far : (k : ℕ) → AreSoFar (follows passes) (map (λ (pass : Pass). pass.enters) passes) (0 + k) (below k)
-  so-far k =
-      AreSoFar-fold passes (AreNext-passes parts paired) 0 k []
-      (record {
-        rounds = tt;
-        least = tt;
-        below = tt;
-        ascending = tt;
-        named = λ y none. absurd none;
-        distinct = tt;
-        covers = λ y less. absurd (omega (arith, less));
-      })
+  so-far k = grind (arith, nat_tests, AreSoFar-fold, AreNext-passes)
 
   below-more : (k : ℕ) → below (k + 1) ≡ with_component passes (below k) k
-  below-more k =
-      ap (λ ks. fold (with_component passes) [] ks) (range_from_zero k)
-      ∙ fold-append (with_component passes) [] (range_with_len 0 k) (k ∷ [])
+  below-more k = grind (arith, nat_tests, range_from_zero, fold-append)
 
   -- there is room for all names
   pub length-order_below : (k : ℕ) → length (order_below passes k) ≤ 2 * length parts.crossings
@@ -118,19 +74,11 @@ module _ (parts : Parts) (paired : ArePaired parts) where
   is_new-is k = ap (λ b. is_in (map (λ (pass : Pass). pass.enters) passes) k && not b) (same-names k k)
 
   pub order-same : (k : ℕ) → is_new passes (order_below passes k) k ≡ false → order_below passes k ≡ order_below passes (k + 1)
-  order-same k old =
-      sym (ap (λ cs. flat_map (turned_names (label_entered passes)) cs)
-      (below-more k
-      ∙ ap (λ b. if b then below k ++ walk (follows passes) k (length passes) k ∷ [] else below k) (sym (is_new-is k) ∙ old)))
+  order-same k old = grind (arith, nat_tests, below-more, is_new-is)
 
   pub order-turned : (k : ℕ) → is_new passes (order_below passes k) k ≡ true
       → order_below passes k ++ turned_names (label_entered passes) (walk (follows passes) k (length passes) k) ≡ order_below passes (k + 1)
-  order-turned k new =
-      let w = walk (follows passes) k (length passes) k in
-      let more : below (k + 1) ≡ below k ++ w ∷ [] =
-      below-more k ∙ ap (λ b. if b then below k ++ w ∷ [] else below k) (sym (is_new-is k) ∙ new) in
-      sym (ap (λ cs. flat_map (turned_names (label_entered passes)) cs) more ∙ flat_map-append (turned_names (label_entered passes)) (below k) (w ∷ [])
-      ∙ ap (λ ys. order_below passes k ++ ys) (append-nil (turned_names (label_entered passes) w)))
+  order-turned k new = grind (arith, nat_tests, below-more, is_new-is, flat_map-append, append-nil)
 
   pub order-more : (k : ℕ) → is_new passes (order_below passes k) k ≡ true
       → order_below passes k ++ walk (follows passes) (start_of passes k) (length passes) (start_of passes k)
@@ -167,11 +115,7 @@ module _ (parts : Parts) (paired : ArePaired parts) where
           ≡ walk (follows (passes_through parts)) (start_of (passes_through parts) k) size (start_of (passes_through parts) k)
       at-least_two zero two round = absurd (omega (arith, two))
       at-least_two (suc zero) two round = absurd (omega (arith, two))
-      at-least_two (suc (suc fuel)) two round =
-          turned-walk (follows (passes_through parts)) (label_entered (passes_through parts)) fuel k round
-          (nat_eq (follows (passes_through parts) k) k) (nat_eq (follows (passes_through parts) (follows (passes_through parts) k)) k)
-          ((is_over (label_entered (passes_through parts) k) && is_over (label_entered (passes_through parts) (follows (passes_through parts) k)))
-          && int_lt (label_entered (passes_through parts) (follows (passes_through parts) k)) (label_entered (passes_through parts) k)) refl refl refl
+      at-least_two (suc (suc fuel)) two round = grind (arith, nat_tests, turned-walk)
 
 -- the same as the code has it
 
@@ -191,10 +135,7 @@ StepSame ps order held name =
 
 step_more_own : (parts : Parts) → ArePaired parts → (order held : List ℕ) (start : ℕ) (after : List ℕ) (name : ℕ)
     → StepMore (passes_through parts) order held start after name
-step_more_own parts paired order held start after name ordered same new starts made =
-    let ps = passes_through parts in
-    made ∙ ap₂ (λ os s. os ++ walk (follows ps) s (length ps) s) ordered starts
-    ∙ order-more parts paired name (ap (λ os. is_new ps os name) (sym ordered ∙ sym same) ∙ new)
+step_more_own parts paired order held start after name = grind (arith, nat_tests, order-more)
 
 pub step_more : (parts : Parts) → ArePaired parts → (ps : List Pass) → ps ≡ passes_through parts → (order held : List ℕ) (start : ℕ)
     (after : List ℕ) (name : ℕ) → StepMore ps order held start after name
@@ -216,7 +157,4 @@ step_room parts paired ps are order held start name ordered same new starts =
 
 pub step_same : (parts : Parts) → ArePaired parts → (ps : List Pass) → ps ≡ passes_through parts → (order held : List ℕ) (name : ℕ)
     → StepSame ps order held name
-step_same parts paired ps are order held name =
-    subst (λ (qs : List Pass). StepSame qs order held name) (sym are)
-    (λ ordered same old.
-    ordered ∙ order-same parts paired name (ap (λ os. is_new (passes_through parts) os name) (sym ordered ∙ sym same) ∙ old))
+step_same parts paired ps are order held name = grind (arith, nat_tests, order-same)

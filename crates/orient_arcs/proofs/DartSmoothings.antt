@@ -1,4 +1,5 @@
 -- The smoothings of crossings by darts, which are numbered without regard to arcs.
+use Rattle.std.proofs.lemmas.Bool.Decides.{nat_tests}
 use Rattle.std.proofs.Common.{◌≡◌, ℕ, zero, suc, ◌+◌, ◌*◌, ◌/◌, ◌%◌, ◌<◌, ◌≤◌, ◌∙◌, List, [], ◌∷◌, ◌++◌, sym, refl, length, ap, ap₂, arith}
 use Rattle.std.specs.Prelude.{slice_index_or}
 use Rattle.std.specs.List.{flat_map, range_with_len}
@@ -30,25 +31,7 @@ dart_passes count = flat_map (λ place. passes_of (darts_of place)) (range_with_
 pair-darts : (arc : ℕ → ℕ → ℕ) (place : ℕ) (quadruple : List ℕ)
     → ((slot : ℕ) → slot < 4 → arc_in quadruple slot ≡ arc place slot)
     → passes_of quadruple ≡ renamed (at_dart arc) (passes_of (darts_of place))
-pair-darts arc place quadruple same =
-    let q0 : 4 * place / 4 ≡ place = omega arith in
-    let q1 : (4 * place + 1) / 4 ≡ place = omega arith in
-    let q2 : (4 * place + 2) / 4 ≡ place = omega arith in
-    let q3 : (4 * place + 3) / 4 ≡ place = omega arith in
-    let r0 : 4 * place % 4 ≡ 0 = omega arith in
-    let r1 : (4 * place + 1) % 4 ≡ 1 = omega arith in
-    let r2 : (4 * place + 2) % 4 ≡ 2 = omega arith in
-    let r3 : (4 * place + 3) % 4 ≡ 3 = omega arith in
-    four (arc_in quadruple 0) (arc_in quadruple 1) (arc_in quadruple 2) (arc_in quadruple 3)
-    (at_dart arc (4 * place)) (at_dart arc (4 * place + 1)) (at_dart arc (4 * place + 2)) (at_dart arc (4 * place + 3))
-    (same 0 (omega arith) ∙ sym (ap₂ arc q0 r0)) (same 1 (omega arith) ∙ sym (ap₂ arc q1 r1))
-    (same 2 (omega arith) ∙ sym (ap₂ arc q2 r2)) (same 3 (omega arith) ∙ sym (ap₂ arc q3 r3))
-  where
-    four : (w x y z a b c d : ℕ) → w ≡ a → x ≡ b → y ≡ c → z ≡ d
-        → (let ps : List (ℕ × ℕ) = (w, y) ∷ (x, z) ∷ [] in let qs : List (ℕ × ℕ) = (a, c) ∷ (b, d) ∷ [] in ps ≡ qs)
-    four w x y z a b c d is_a is_b is_c is_d =
-        let f : ℕ → ℕ → ℕ → ℕ → List (ℕ × ℕ) = λ k l m n. (k, m) ∷ (l, n) ∷ [] in
-        ap₂ (λ k l. f k l y z) is_a is_b ∙ ap₂ (λ k l. f a b k l) is_c is_d
+pair-darts arc place quadruple same = grind (arith, nat_tests)
 
 passes-from : (arc : ℕ → ℕ → ℕ) (at : ℕ) (xs : List (List ℕ))
     → ((k slot : ℕ) → k < length xs → slot < 4 → arc_in (slice_index_or xs k []) slot ≡ arc (at + k) slot)
@@ -73,10 +56,7 @@ passes_of-darts crossings =
 dart_passes-from : (n at count : ℕ) → at + count ≤ n
     → AreBelow (4 * n) (flat_map (λ place. passes_of (darts_of place)) (range_with_len at count))
 dart_passes-from n at zero within = tt
-dart_passes-from n at (suc count) within =
-    AreBelow-append (4 * n) (passes_of (darts_of at)) (flat_map (λ place. passes_of (darts_of place)) (range_with_len (at + 1) count))
-    ((omega (arith, within), omega (arith, within)), ((omega (arith, within), omega (arith, within)), tt))
-    (dart_passes-from n (at + 1) count (omega arith))
+dart_passes-from n at (suc count) within = grind (arith, nat_tests, AreBelow-append, dart_passes-from n (at + 1) count (omega arith))
 
 pub dart_passes-below : (count : ℕ) → AreBelow (4 * count) (dart_passes count)
 dart_passes-below count = dart_passes-from count 0 count (omega arith)

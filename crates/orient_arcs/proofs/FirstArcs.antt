@@ -29,22 +29,17 @@ pub record Passes (p : ℕ → Bool) (a n x : ℕ) : Type 0 where
 
 -- what of a range passes, where its first number does, and where it does not
 filter-first : (p : ℕ → Bool) (a n : ℕ) → p a ≡ true → filter p (range_with_len a (suc n)) ≡ a ∷ filter p (range_with_len (a + 1) n)
-filter-first p a n passes =
-    let rest = filter p (range_with_len (a + 1) n) in ap (λ b. cond b (a ∷ rest) rest) passes
+filter-first p a n passes = grind (arith, nat_tests)
 
 filter-later : (p : ℕ → Bool) (a n : ℕ) → p a ≡ false → filter p (range_with_len a (suc n)) ≡ filter p (range_with_len (a + 1) n)
-filter-later p a n fails =
-    let rest = filter p (range_with_len (a + 1) n) in ap (λ b. cond b (a ∷ rest) rest) fails
+filter-later p a n fails = grind (arith, nat_tests)
 
 Passes-later : (p : ℕ → Bool) (a n x : ℕ) → Passes p (a + 1) n x → Passes p a (suc n) x
 Passes-later p a n x is = record { from = omega (arith, is.from); below = omega (arith, is.below); passes = is.passes }
 
 Passes-cons : (p : ℕ → Bool) (a n : ℕ) (rest : List ℕ) (i : ℕ) → p a ≡ true → i < length (a ∷ rest)
     → ((k : ℕ) → k < length rest → Passes p (a + 1) n (get_or rest k 0)) → Passes p a (suc n) (get_or (a ∷ rest) i 0)
-Passes-cons p a n rest zero passes within later =
-    record { from = omega arith; below = omega arith; passes = passes }
-Passes-cons p a n rest (suc k) passes within later =
-    Passes-later p a n (get_or rest k 0) (later k (omega (arith, within)))
+Passes-cons p a n rest i passes within later = grind (arith, nat_tests)
 
 -- the numbers of a range that pass a test are such numbers
 pub Passes-filter : (p : ℕ → Bool) (a n i : ℕ) → i < length (filter p (range_with_len a n))
@@ -68,9 +63,7 @@ Passes-filter p a (suc n) i within = elim (cases_Bool (p a)) [
 ascending-cons : (a : ℕ) (rest : List ℕ) (i j : ℕ) → ((k : ℕ) → k < length rest → a < get_or rest k 0)
     → ((k m : ℕ) → k < m → m < length rest → get_or rest k 0 < get_or rest m 0) → i < j → j < length (a ∷ rest)
     → get_or (a ∷ rest) i 0 < get_or (a ∷ rest) j 0
-ascending-cons a rest i zero greater later before within = absurd (omega (arith, before))
-ascending-cons a rest zero (suc m) greater later before within = greater m (omega (arith, within))
-ascending-cons a rest (suc k) (suc m) greater later before within = later k m (omega (arith, before)) (omega (arith, within))
+ascending-cons a rest i j greater later before within = grind (arith, nat_tests)
 
 pub ascending-filter : (p : ℕ → Bool) (a n i j : ℕ) → i < j → j < length (filter p (range_with_len a n))
     → get_or (filter p (range_with_len a n)) i 0 < get_or (filter p (range_with_len a n)) j 0
@@ -135,8 +128,7 @@ first_arc-number code arc holds is =
 
 Passes-first_arc : (crossings : List (List ℕ)) (component : ℕ) → component < component_count crossings
     → Passes (is_least (components_of crossings)) 1 (arc_count crossings) (first_arc crossings component)
-Passes-first_arc crossings component within =
-    Passes-filter (is_least (components_of crossings)) 1 (arc_count crossings) component within
+Passes-first_arc crossings component within = grind (arith, nat_tests, Passes-filter)
 
 -- the least arc of a component is an arc
 pub first_is_arc : (crossings : List (List ℕ)) (component : ℕ) → component < component_count crossings
@@ -155,8 +147,7 @@ component-first_arc crossings component within =
 -- components are numbered by their least arcs
 pub first_arc-ascending : (crossings : List (List ℕ)) (component later : ℕ) → component < later → later < component_count crossings
     → first_arc crossings component < first_arc crossings later
-first_arc-ascending crossings component later before within =
-    ascending-filter (is_least (components_of crossings)) 1 (arc_count crossings) component later before within
+first_arc-ascending crossings component later before within = grind (arith, nat_tests, ascending-filter)
 
 -- the number of the component of the least arc of a component is its own
 pub number-first_arc : (crossings : List (List ℕ)) (component : ℕ) → component < component_count crossings

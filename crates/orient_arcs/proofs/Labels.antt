@@ -26,64 +26,31 @@ use Rattle.orient_arcs.proofs.AllComponents.{IsRound}
 pub turned-cases : (label : ℕ → ℤ) (names : List ℕ)
     → (turned_names label names ≡ names)
     ⊎ ((a : ℕ) × (b : ℕ) × (names ≡ a ∷ b ∷ []) × (turned_names label names ≡ b ∷ a ∷ []))
-turned-cases label [] = inl refl
-turned-cases label (a ∷ []) = inl refl
-turned-cases label (a ∷ b ∷ []) = by ((is_over (label a) && is_over (label b)) && int_lt (label b) (label a))
-  where
-    by : (test : Bool) → ((if test then b ∷ a ∷ [] else a ∷ b ∷ []) ≡ a ∷ b ∷ [])
-        ⊎ ((c : ℕ) × (d : ℕ) × (a ∷ b ∷ [] ≡ c ∷ d ∷ []) × ((if test then b ∷ a ∷ [] else a ∷ b ∷ []) ≡ d ∷ c ∷ []))
-    by true = inr (a, b, refl, refl)
-    by false = inl refl
-turned-cases label (a ∷ b ∷ c ∷ names) = inl refl
+turned-cases label names = grind (arith, nat_tests)
 
 -- so what holds of both, holds of it
 turned-holds : (label : ℕ → ℤ) (P : List ℕ → Type 0) (names : List ℕ) → P names → ((a b : ℕ) → P (a ∷ b ∷ []) → P (b ∷ a ∷ []))
     → P (turned_names label names)
-turned-holds label P names holds exchanged = elim (turned-cases label names) [
-  | inl same ↦ subst P (sym same) holds
-  | inr two ↦ subst P (sym two.3) (exchanged two.0 two.1 (subst P two.2 holds))
-]
+turned-holds label P names holds exchanged = grind (arith, nat_tests)
 
 length-turned_names : (label : ℕ → ℤ) (names : List ℕ) → length (turned_names label names) ≡ length names
-length-turned_names label names =
-    turned-holds label (λ (xs : List ℕ). length xs ≡ length names) names refl (λ a b same. same)
+length-turned_names label names = grind (arith, nat_tests)
 
 IsIn-turned : (label : ℕ → ℤ) (names : List ℕ) (x : ℕ) → IsIn x names → IsIn x (turned_names label names)
-IsIn-turned label names x is =
-    turned-holds label (λ (xs : List ℕ). IsIn x xs) names is
-    (λ a b here. elim here [
-      | inl first ↦ inr (inl first)
-      | inr later ↦ elim later [ inl second ↦ inl second | inr none ↦ absurd none ]
-    ])
+IsIn-turned label names x is = grind (arith, nat_tests)
 
 turned-IsIn : (label : ℕ → ℤ) (names : List ℕ) (x : ℕ) → IsIn x (turned_names label names) → IsIn x names
-turned-IsIn label names x is =
-    turned-holds label (λ (xs : List ℕ). IsIn x xs → IsIn x names) names (λ here. here)
-    (λ a b onward here. onward (elim here [
-      | inl first ↦ inr (inl first)
-      | inr later ↦ elim later [ inl second ↦ inl second | inr none ↦ absurd none ]
-    ])) is
+turned-IsIn label names x is = grind (arith, nat_tests)
 
 AreDistinct-turned : (label : ℕ → ℤ) (names : List ℕ) → AreDistinct names → AreDistinct (turned_names label names)
-AreDistinct-turned label names distinct =
-    turned-holds label AreDistinct names distinct
-    (λ a b both. (λ is. elim is [ inl same ↦ both.0 (inl (sym same)) | inr none ↦ absurd none ], both.1))
+AreDistinct-turned label names distinct = grind (arith, nat_tests)
 
 round-turned : (label : ℕ → ℤ) (next : ℕ → ℕ) (names : List ℕ) → IsRound next names → IsRound next (turned_names label names)
-round-turned label next names round =
-    turned-holds label (IsRound next) names round (λ a b both. (sym both.1, sym both.0))
+round-turned label next names round = grind (arith, nat_tests)
 
 -- labels are turned as names are
 pub turned-labels : (label : ℕ → ℤ) (names : List ℕ) → gauss.turned_labels (map label names) ≡ map label (turned_names label names)
-turned-labels label [] = refl
-turned-labels label (a ∷ []) = refl
-turned-labels label (a ∷ b ∷ []) = by ((is_over (label a) && is_over (label b)) && int_lt (label b) (label a))
-  where
-    by : (test : Bool) → (if test then label b ∷ label a ∷ [] else label a ∷ label b ∷ [])
-        ≡ map label (if test then b ∷ a ∷ [] else a ∷ b ∷ [])
-    by true = refl
-    by false = refl
-turned-labels label (a ∷ b ∷ c ∷ names) = refl
+turned-labels label names = grind (arith, nat_tests)
 
 -- all names in order are those of the components
 
@@ -133,9 +100,7 @@ get-middle [] xs back at below =
     first [] k below = absurd (omega (arith, below))
     first (y ∷ ys) zero below = refl
     first (y ∷ ys) (suc k) below = first ys k (omega (arith, below))
-get-middle (x ∷ front) xs back at below =
-    let e : length (x ∷ front) + at ≡ suc (length front + at) = omega arith in
-    ap (λ k. get_or (x ∷ (front ++ (xs ++ back))) k 0) e ∙ get-middle front xs back at below
+get-middle (x ∷ front) xs back at below = grind (arith, nat_tests, get-middle front xs back at below)
 
 length-middle : (front xs back : List ℕ) → length (front ++ (xs ++ back)) ≡ length front + (length xs + length back)
 length-middle front xs back = length-append front (xs ++ back) ∙ ap (λ k. length front + k) (length-append xs back)
@@ -145,9 +110,7 @@ led-at : (next : ℕ → ℕ) (last p : ℕ) (xs : List ℕ) → AreLed next las
     → next (get_or (p ∷ xs) at 0) ≡ get_or (p ∷ xs) (at + 1) 0
 led-at next last p [] led at below = absurd (omega (arith, below))
 led-at next last p (x ∷ xs) led zero below = sym led.0
-led-at next last p (x ∷ xs) led (suc at) below =
-    let e : suc at + 1 ≡ suc (at + 1) = omega arith in
-    led-at next last x xs led.1 at (omega (arith, below)) ∙ ap (λ k. get_or (p ∷ x ∷ xs) k 0) (sym e)
+led-at next last p (x ∷ xs) led (suc at) below = grind (arith, nat_tests, led-at next last x xs led.1 at (omega (arith, below)))
 
 led-end : (next : ℕ → ℕ) (last p : ℕ) (xs : List ℕ) → AreLed next last (next p) xs → (at : ℕ) → at + 1 ≡ length (p ∷ xs)
     → next (get_or (p ∷ xs) at 0) ≡ last
@@ -176,14 +139,7 @@ pub record IsNumbered (label : ℕ → ℤ) (next : ℕ → ℕ) (order : List �
 
 number-middle : (front xs back order : List ℕ) → order ≡ front ++ (xs ++ back) → AreDistinct order → (at : ℕ) → at < length xs
     → number_in order (get_or xs at 0) ≡ length front + at + 1
-number-middle front xs back order is distinct at below =
-    let here : get_or order (length front + at) 0 ≡ get_or xs at 0 =
-    ap (λ os. get_or os (length front + at) 0) is ∙ get-middle front xs back at below in
-    let size : length order ≡ length front + (length xs + length back) = ap length is ∙ length-middle front xs back in
-    let place = position-get order (length front + at) distinct (omega (arith, size, below)) in
-    let same : position_or_len (nat_eq (get_or xs at 0)) order ≡ length front + at =
-    ap (λ x. position_or_len (nat_eq x) order) (sym here) ∙ place in
-    omega (arith, same)
+number-middle front xs back order is distinct at below = grind (arith, nat_tests, get-middle, length-middle, position-get)
 
 number_at-map : (label : ℕ → ℤ) (xs : List ℕ) (at : ℕ) → at < length xs → listed_number (map label xs) at ≡ label (get_or xs at 0)
 number_at-map label [] at below = absurd (omega (arith, below))
@@ -193,10 +149,8 @@ number_at-map label (x ∷ xs) (suc at) below = number_at-map label xs at (omega
 All-range : (P : Pass → Type 0) (f : ℕ → Pass) (a n : ℕ) → ((k : ℕ) → a ≤ k → k < a + n → P (f k))
     → AllByRecursion P (map f (range_with_len a n))
 All-range P f a zero each = tt
-All-range P f a (suc n) each = (
-  each a (omega arith) (omega arith),
-  All-range P f (a + 1) n (λ k from below. each k (omega (arith, from)) (omega (arith, below))),
-)
+All-range P f a (suc n) each =
+    grind (arith, nat_tests, All-range P f (a + 1) n (λ k from below. each k (omega (arith, from)) (omega (arith, below))))
 
 module _ (label : ℕ → ℤ) (next : ℕ → ℕ) (order : List ℕ) (distinct : AreDistinct order) where
   numbered-pass : (front xs back : List ℕ) → order ≡ front ++ (xs ++ back) → IsRound next xs → (at : ℕ) → at < length xs
@@ -259,9 +213,7 @@ module _ (label : ℕ → ℤ) (names : List ℕ) (once : (x y : ℕ) → IsIn x
       → list_any (int_eq (label z)) (map label xs) ≡ false
   no-label [] z z_is out among = refl
   no-label (x ∷ xs) z z_is out among =
-      ap (λ b. b || list_any (int_eq (label z)) (map label xs))
-      (int_eq-other (label z) (label x) (λ same. out (inl (once z x z_is (among x (inl refl)) same))))
-      ∙ no-label xs z z_is (λ later. out (inr later)) (λ y y_in. among y (inr y_in))
+      grind (arith, nat_tests, int_eq-other, no-label xs z z_is (λ later. out (inr later)) (λ y y_in. among y (inr y_in)))
 
   IsIn-take : (k : ℕ) (xs : List ℕ) (x : ℕ) → IsIn x (take k xs) → IsIn x xs
   IsIn-take zero xs x is = absurd is

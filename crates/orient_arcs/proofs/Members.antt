@@ -1,4 +1,5 @@
 -- Lists of numbers in which none stands twice.
+use Rattle.std.proofs.lemmas.Bool.Decides.{nat_tests}
 use Rattle.std.proofs.Common.{◌≡◌, ◌≢◌, ℕ, zero, suc, ◌⊎◌, inl, inr, ◌+◌, ◌<◌, ◌≤◌, ◌∙◌, List, [], ◌∷◌, ◌++◌, length, take, get_or, refl, sym, ap, arith, Bool, true, false, not, cond, ◌||◌}
 use Rattle.std.specs.Prelude.{nat_eq}
 use Rattle.std.specs.List.{position_or_len}
@@ -30,10 +31,7 @@ IsIn-right x (y ∷ xs) ys is = inr (IsIn-right x xs ys is)
 pub IsIn-parts : (x : ℕ) (xs ys : List ℕ) → IsIn x (xs ++ ys) → IsIn x xs ⊎ IsIn x ys
 IsIn-parts x [] ys is = inr is
 IsIn-parts x (y ∷ xs) ys (inl same) = inl (inl same)
-IsIn-parts x (y ∷ xs) ys (inr later) = elim (IsIn-parts x xs ys later) [
-  | inl front ↦ inl (inr front)
-  | inr back ↦ inr back
-]
+IsIn-parts x (y ∷ xs) ys (inr later) = grind (arith, nat_tests, IsIn-parts x xs ys later)
 
 pub AreDistinct-append : (xs ys : List ℕ) → AreDistinct xs → AreDistinct ys → ((x : ℕ) → IsIn x xs → IsIn x ys → ⊥)
     → AreDistinct (xs ++ ys)
@@ -79,8 +77,7 @@ is_in-true x (y ∷ ys) (inl same) = ap (λ b. b || is_in ys x) (eq-eqb x y same
 is_in-true x (y ∷ ys) (inr later) = ap (λ b. nat_eq x y || b) (is_in-true x ys later) ∙ or_true (nat_eq x y)
   where
     or_true : (b : Bool) → (b || true) ≡ true
-    or_true true = refl
-    or_true false = refl
+    or_true b = grind (arith, nat_tests)
 
 pub true-is_in : (x : ℕ) (xs : List ℕ) → is_in xs x ≡ true → IsIn x xs
 true-is_in x [] holds = absurd (false_true holds)
@@ -96,10 +93,7 @@ pub false-is_in : (x : ℕ) (xs : List ℕ) → is_in xs x ≡ false → IsIn x 
 false-is_in x xs fails is = both_ways (is_in xs x) fails (is_in-true x xs is)
 
 pub is_in-false : (x : ℕ) (xs : List ℕ) → (IsIn x xs → ⊥) → is_in xs x ≡ false
-is_in-false x xs out = elim (cases_Bool (is_in xs x)) [
-  | inl holds ↦ absurd (out (true-is_in x xs holds))
-  | inr fails ↦ fails
-]
+is_in-false x xs out = grind (arith, nat_tests, cases_Bool, true-is_in)
 
 -- numbers at places
 pub IsIn-get : (xs : List ℕ) (at : ℕ) → at < length xs → IsIn (get_or xs at 0) xs
@@ -116,18 +110,12 @@ get-IsIn x (y ∷ ys) (inr later) = let found = get-IsIn x ys later in (suc foun
 pub apart-before : (xs : List ℕ) (at : ℕ) → AreDistinct xs → at < length xs → IsIn (get_or xs at 0) (take at xs) → ⊥
 apart-before [] at distinct below is = absurd (omega (arith, below))
 apart-before (x ∷ xs) zero distinct below is = is
-apart-before (x ∷ xs) (suc at) distinct below (inl same) =
-    distinct.0 (IsIn-same x (get_or xs at 0) xs same (IsIn-get xs at (omega (arith, below))))
+apart-before (x ∷ xs) (suc at) distinct below (inl same) = grind (arith, nat_tests, IsIn-same, IsIn-get)
 apart-before (x ∷ xs) (suc at) distinct below (inr later) = apart-before xs at distinct.1 (omega (arith, below)) later
 
 -- the place of the number at a place
 pub position-get : (xs : List ℕ) (at : ℕ) → AreDistinct xs → at < length xs → position_or_len (nat_eq (get_or xs at 0)) xs ≡ at
 position-get [] at distinct below = absurd (omega (arith, below))
-position-get (x ∷ xs) zero distinct below =
-    ap (λ b. cond (not b) (1 + position_or_len (nat_eq x) xs) 0) (eq-eqb x x refl)
+position-get (x ∷ xs) zero distinct below = grind (arith, nat_tests, eq-eqb)
 position-get (x ∷ xs) (suc at) distinct below =
-    let y = get_or xs at 0 in
-    let later = position-get xs at distinct.1 (omega (arith, below)) in
-    ap (λ b. cond (not b) (1 + position_or_len (nat_eq y) xs) 0)
-    (ne_eqb y x (λ same. distinct.0 (IsIn-same x y xs same (IsIn-get xs at (omega (arith, below))))))
-    ∙ omega (arith, later)
+    grind (arith, nat_tests, ne_eqb, IsIn-same, IsIn-get, position-get xs at distinct.1 (omega (arith, below)))

@@ -21,26 +21,12 @@ map-IsIn f z (y ∷ ys) (inr later) = let found = map-IsIn f z ys later in (foun
 
 -- labels of two over passes, of which the second is not less than the first
 pub rising : (x y : ℤ) → is_over x ≡ true → is_over y ≡ true → int_lt y x ≡ false → x ≢ y → int_lt x y ≡ true
-rising (pos m) (pos n) x_over y_over not_less differ = rises m n not_less (λ same. differ (ap (λ (k : ℕ). pos k) same))
-  where
-    rises : (m n : ℕ) → int_lt (pos n) (pos m) ≡ false → m ≢ n → int_lt (pos m) (pos n) ≡ true
-    rises m n not_less differ = grind (arith, nat_tests)
-rising (pos m) (negsuc n) x_over y_over not_less differ = absurd (cc)
-rising (negsuc m) y x_over y_over not_less differ = absurd (cc)
+rising x y x_over y_over not_less differ = grind (arith, nat_tests)
 
 -- names are turned as arcs are, where their labels are those of the arcs
 pub turned-map : (f : ℕ → ℕ) (label own : ℕ → ℤ) (names : List ℕ) → ((x : ℕ) → IsIn x names → label (f x) ≡ own x)
     → turned_names label (map f names) ≡ map f (turned_names own names)
-turned-map f label own [] same = refl
-turned-map f label own (a ∷ []) same = refl
-turned-map f label own (a ∷ b ∷ []) same =
-    ap₂ (λ x y. if (is_over x && is_over y) && int_lt y x then f b ∷ f a ∷ [] else f a ∷ f b ∷ []) (same a (inl refl)) (same b (inr (inl refl)))
-    ∙ by ((is_over (own a) && is_over (own b)) && int_lt (own b) (own a))
-  where
-    by : (test : Bool) → (if test then f b ∷ f a ∷ [] else f a ∷ f b ∷ []) ≡ map f (if test then b ∷ a ∷ [] else a ∷ b ∷ [])
-    by true = refl
-    by false = refl
-turned-map f label own (a ∷ b ∷ c ∷ names) same = refl
+turned-map f label own names same = grind (arith, nat_tests)
 
 -- a list under names that are its own again
 pub own-again : (number : ℕ → ℕ) (xs ys : List (List ℕ)) → length xs ≡ length ys → AllByRecursion (λ (slots : List ℕ). length slots ≡ 4) ys
@@ -59,7 +45,5 @@ own-again number (x ∷ xs) (y ∷ ys) alike four each =
     quad number old (i ∷ []) four each = absurd (omega (arith, four))
     quad number old (i ∷ j ∷ []) four each = absurd (omega (arith, four))
     quad number old (i ∷ j ∷ k ∷ []) four each = absurd (omega (arith, four))
-    quad number old (i ∷ j ∷ k ∷ l ∷ []) four each =
-        ap₂ (λ x y. x ∷ y ∷ number (arc_in old 2) ∷ number (arc_in old 3) ∷ []) (each 0 (omega arith)) (each 1 (omega arith))
-        ∙ ap₂ (λ x y. i ∷ j ∷ x ∷ y ∷ []) (each 2 (omega arith)) (each 3 (omega arith))
+    quad number old (i ∷ j ∷ k ∷ l ∷ []) four each = grind (arith, nat_tests)
     quad number old (i ∷ j ∷ k ∷ l ∷ m ∷ more) four each = absurd (omega (arith, four))

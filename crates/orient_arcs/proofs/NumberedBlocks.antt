@@ -4,6 +4,7 @@
 -- The order is made of blocks (Blocks), of which each is a component: in front of it stand the numbers below its least arc, so that its own
 -- are those from there on (`block`). A block is turned where it has two arcs that are both over; then its least arc comes second, and that
 -- is the one way in which a least arc is not the first of its component (`HasOverLabels`).
+use Rattle.std.proofs.lemmas.Bool.Decides.{nat_tests}
 use Rattle.std.proofs.Common.{ℤ, ◌≡◌, ◌≢◌, ℕ, ◌⊎◌, inl, inr, ◌+◌, ◌<◌, ◌≤◌, ◌∙◌, List, [], ◌∷◌, ◌++◌, length, get_or, refl, sym, ap, ap₂, subst, arith, Bool, true, false, not, ◌&&◌, cond, length-append}
 use Rattle.std.specs.Prelude.{nat_eq, int_lt, if◌then◌else◌}
 use Rattle.std.specs.List.{position_or_len}
@@ -42,9 +43,7 @@ number-right xs ys x out = let p = by xs out in omega (arith, p)
   where
     by : (xs : List ℕ) → (IsIn x xs → ⊥) → position_or_len (nat_eq x) (xs ++ ys) ≡ length xs + position_or_len (nat_eq x) ys
     by [] out = omega arith
-    by (z ∷ zs) out =
-        let later = by zs (λ there. out (inr there)) in
-        ap (λ b. cond (not b) (1 + position_or_len (nat_eq x) (zs ++ ys)) 0) (ne_eqb x z (λ same. out (inl same))) ∙ omega (arith, later)
+    by (z ∷ zs) out = grind (arith, nat_tests, ne_eqb, by zs (λ there. out (inr there)))
 
 number-le : (xs : List ℕ) (x : ℕ) → IsIn x xs → number_in xs x ≤ length xs
 number-le xs x is = by xs is
@@ -64,24 +63,16 @@ pub number-first : (a b : ℕ) → number_in (b ∷ a ∷ []) b ≡ 1
 number-first a b = ap (λ t. cond (not t) (1 + position_or_len (nat_eq b) (a ∷ [])) 0 + 1) (eq-eqb b b refl)
 
 pub number-second : (a b : ℕ) → a ≢ b → number_in (b ∷ a ∷ []) a ≡ 2
-number-second a b apart =
-    ap₂ (λ s t. cond (not s) (1 + cond (not t) 1 0) 0 + 1) (ne_eqb a b apart) (eq-eqb a a refl)
+number-second a b apart = grind (arith, nat_tests)
 
 -- names that are turned are both over, and the second enters the first listed crossing
 pub turned-test : (label : ℕ → ℤ) (a b : ℕ) → a ≢ b → turned_names label (a ∷ b ∷ []) ≡ b ∷ a ∷ []
     → ((is_over (label a) && is_over (label b)) && int_lt (label b) (label a)) ≡ true
-turned-test label a b apart is = by ((is_over (label a) && is_over (label b)) && int_lt (label b) (label a)) refl is
-  where
-    by : (t : Bool) → ((is_over (label a) && is_over (label b)) && int_lt (label b) (label a)) ≡ t
-        → (if t then b ∷ a ∷ [] else a ∷ b ∷ []) ≡ b ∷ a ∷ [] → t ≡ true
-    by true test same = refl
-    by false test same = absurd (apart (ap (λ xs. get_or xs 0 0) same))
+turned-test label a b apart is = grind (arith, nat_tests)
 
 pub turned-over : (label : ℕ → ℤ) (a b : ℕ) → a ≢ b → turned_names label (a ∷ b ∷ []) ≡ b ∷ a ∷ []
     → (is_over (label a) ≡ true) × (is_over (label b) ≡ true)
-turned-over label a b apart is =
-    and_parts (is_over (label a)) (is_over (label b))
-    (and_parts (is_over (label a) && is_over (label b)) (int_lt (label b) (label a)) (turned-test label a b apart is)).0
+turned-over label a b apart is = grind (arith, nat_tests)
 
 -- names that go over the component of a least arc, and begin with it
 pub record GoesOver (crossings : List (List ℕ)) (first : ℕ) (names : List ℕ) : Type 0 where

@@ -3,6 +3,7 @@
 -- Components that go round, have no name twice and stand in the order of their least names can be listed in one way only: the first of both
 -- lists begins with the least name of all, and goes on from name to next name until it is back; so they agree, and so do the rest, over the
 -- other names.
+use Rattle.std.proofs.lemmas.Bool.Decides.{nat_tests}
 use Rattle.std.proofs.Common.{◌≡◌, ℕ, zero, suc, ◌⊎◌, inl, inr, ◌+◌, ◌-◌, ◌<◌, ◌≤◌, ◌∙◌, List, [], ◌∷◌, ◌++◌, length, refl, sym, ap, ap₂, arith, cond}
 use Rattle.std.specs.Prelude.{nat_eq, slice_index, slice_index_or}
 use Rattle.std.specs.List.{count_by, flat_map, position_or_len}
@@ -84,11 +85,7 @@ module _ (next : ℕ → ℕ) where
       two_ways m n = grind arith
 
   one-round : (a b : List ℕ) → GoRound a → GoRound b → slice_index a 0 ≡ slice_index b 0 → AreDistinct a → AreDistinct b → a ≡ b
-  one-round a b round other first a_distinct b_distinct =
-      let long = no-longer a b round other first b_distinct in
-      let short = no-longer b a other round (sym first) a_distinct in
-      same_number_lists a b (omega (arith, long, short))
-      (λ k below. names-agree a b round other first k below (omega (arith, below, short)))
+  one-round a b round other first a_distinct b_distinct = grind (arith, nat_tests, round, no-longer, same_number_lists, names-agree)
 
   -- components that go round, in the order of their first names, which are their least
   record AreSorted (components : List (List ℕ)) : Type 0 where
@@ -168,13 +165,7 @@ module _ (next : ℕ → ℕ) where
 
 ordered-sorted : (parts : Parts) (components : List (List ℕ)) → AreOrdered parts components
     → AreSorted (follows (passes_through parts)) components
-ordered-sorted parts components ordered = record {
-  some = ordered.some;
-  onward = ordered.onward;
-  round = ordered.round;
-  least = ordered.least;
-  ascending = ordered.ascending;
-}
+ordered-sorted parts components ordered = grind (arith, nat_tests)
 
 pub one-order : (parts : Parts) (order other : List ℕ) → ArePaired parts → AreInOrder parts order → AreInOrder parts other → order ≡ other
 one-order parts order other paired is also =

@@ -1,4 +1,5 @@
 -- The order of components, by places.
+use Rattle.std.proofs.lemmas.Bool.Decides.{nat_tests}
 use Rattle.std.proofs.Common.{◌≡◌, ℕ, zero, suc, ◌⊎◌, inl, inr, ◌<◌, ◌≤◌, ◌∙◌, List, [], ◌∷◌, length, refl, sym, ap, arith, cond}
 use Rattle.std.specs.Prelude.{nat_eq, slice_index, slice_index_or}
 use Rattle.std.specs.List.{count_by, AllByRecursion}
@@ -22,25 +23,17 @@ ascending-at : (xs : List (List ℕ)) → AreAscending xs → (at later : ℕ) �
     → slice_index (slice_index_or xs at []) 0 < slice_index (slice_index_or xs later []) 0
 ascending-at [] ascending at later less below = absurd (omega (arith, below))
 ascending-at (x ∷ xs) ascending at zero less below = absurd (omega (arith, less))
-ascending-at (x ∷ xs) ascending zero (suc later) less below =
-    all-at (λ (other : List ℕ). slice_index x 0 < slice_index other 0) xs ascending.0 later (omega (arith, below))
+ascending-at (x ∷ xs) ascending zero (suc later) less below = grind (arith, nat_tests, all-at)
 ascending-at (x ∷ xs) ascending (suc at) (suc later) less below =
     ascending-at xs ascending.1 at later (omega (arith, less)) (omega (arith, below))
 
 round-some : (next : ℕ → ℕ) (names : List ℕ) → IsRound next names → 1 ≤ length names
-round-some next [] round = absurd round
-round-some next (x ∷ xs) round = omega arith
+round-some next names round = grind (arith, nat_tests)
 
 -- a name stands once in a list without repetitions, or not at all
 count-out : (x : ℕ) (xs : List ℕ) → (IsIn x xs → ⊥) → count_by (nat_eq x) xs ≡ 0
 count-out x [] out = refl
-count-out x (y ∷ ys) out =
-    omega (
-      arith,
-      sum_by-cons (λ z. cond (nat_eq x z) 1 0) y ys,
-      ap {B = ℕ} (λ b. cond b 1 0) (ne_eqb x y (λ same. out (inl same))),
-      count-out x ys (λ later. out (inr later)),
-    )
+count-out x (y ∷ ys) out = grind (arith, nat_tests, sum_by-cons, ne_eqb, count-out x ys (λ later. out (inr later)))
 
 count-in : (x : ℕ) (xs : List ℕ) → AreDistinct xs → IsIn x xs → count_by (nat_eq x) xs ≡ 1
 count-in x [] distinct is = absurd is
@@ -51,13 +44,7 @@ count-in x (y ∷ ys) distinct (inl same) =
       ap {B = ℕ} (λ b. cond b 1 0) (eq-eqb x y same),
       count-out x ys (λ later. distinct.0 (IsIn-same y x ys same later)),
     )
-count-in x (y ∷ ys) distinct (inr later) =
-    omega (
-      arith,
-      sum_by-cons (λ z. cond (nat_eq x z) 1 0) y ys,
-      ap {B = ℕ} (λ b. cond b 1 0) (ne_eqb x y (λ same. distinct.0 (IsIn-same y x ys same later))),
-      count-in x ys distinct.1 later,
-    )
+count-in x (y ∷ ys) distinct (inr later) = grind (arith, nat_tests, sum_by-cons, ne_eqb, IsIn-same, count-in x ys distinct.1 later)
 
 module _ (parts : Parts) (paired : ArePaired parts) where
   stands-once : (name : ℕ) → count_by (nat_eq name) (all_of (named_components (passes_through parts))) ≡ head_count parts name

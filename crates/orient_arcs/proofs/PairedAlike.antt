@@ -3,6 +3,7 @@
 -- Parts are those of a code under other names. A name of the parts is that of some arc, and slots hold it exactly where they hold the arc;
 -- so it is as often a head as the arc is, and as often a tail. The arcs of a code are so once each, hence the names are; other numbers are
 -- so never.
+use Rattle.std.proofs.lemmas.Bool.Decides.{nat_tests}
 use Rattle.std.proofs.Common.{◌≡◌, ℕ, zero, suc, inl, inr, ◌+◌, ◌-◌, ◌*◌, ◌/◌, ◌%◌, ◌<◌, ◌≤◌, ◌∙◌, List, [], length, refl, sym, ap, ap₂, arith, Bool, true, false, cond}
 use Rattle.std.specs.Prelude.{nat_eq, if◌then◌else◌, slice_index_or}
 use Rattle.std.specs.List.{count_by, flat_map, list_any, range_with_len}
@@ -49,16 +50,7 @@ module _ (parts others : Parts) (x y : ℕ) where
       by : (b c : Bool) → b ≡ c → (p q : ℕ → Bool) → ((slot : ℕ) → slot < 4 → p slot ≡ q slot)
           → (0 + cond (p 0) 1 0 + cond (p (if b then 3 else 1)) 1 0 ≡ 0 + cond (q 0) 1 0 + cond (q (if c then 3 else 1)) 1 0)
           × (0 + cond (p 2) 1 0 + cond (p (if b then 1 else 3)) 1 0 ≡ 0 + cond (q 2) 1 0 + cond (q (if c then 1 else 3)) 1 0)
-      by true true is p q each = (
-        ap₂ (λ s t. 0 + cond s 1 0 + cond t 1 0) (each 0 (omega arith)) (each 3 (omega arith)),
-        ap₂ (λ s t. 0 + cond s 1 0 + cond t 1 0) (each 2 (omega arith)) (each 1 (omega arith)),
-      )
-      by false false is p q each = (
-        ap₂ (λ s t. 0 + cond s 1 0 + cond t 1 0) (each 0 (omega arith)) (each 1 (omega arith)),
-        ap₂ (λ s t. 0 + cond s 1 0 + cond t 1 0) (each 2 (omega arith)) (each 3 (omega arith)),
-      )
-      by true false is p q each = absurd (cc)
-      by false true is p q each = absurd (cc)
+      by b c is p q each = grind (arith, nat_tests)
 
   same-counts : (a n : ℕ) → ((place : ℕ) → a ≤ place → place < a + n → SameAt place)
       → (heads_in parts x a n ≡ heads_in others y a n) × (tails_in parts x a n ≡ tails_in others y a n)

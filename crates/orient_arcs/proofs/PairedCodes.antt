@@ -1,4 +1,5 @@
 -- The arcs of a directed code without single arcs are paired by its own directions.
+use Rattle.std.proofs.lemmas.Bool.Decides.{nat_tests}
 use Rattle.std.proofs.Common.{◌≡◌, ℕ, zero, suc, ◌⊎◌, inl, inr, ◌+◌, ◌-◌, ◌<◌, ◌≤◌, ◌∙◌, List, length, map, refl, sym, ap, subst, arith, Bool, true, false, cond, ◌||◌}
 use Rattle.std.specs.Prelude.{nat_eq, if◌then◌else◌, IsTrue}
 use Rattle.std.specs.List.{count_by, sum_by, flat_map, range_with_len, AllByRecursion}
@@ -23,16 +24,7 @@ one-place : (parts : Parts) (x place : ℕ)
     → count_by (λ (pass : Pass). nat_eq pass.enters x) (passes_at parts place)
     + count_by (λ (pass : Pass). nat_eq pass.leaves x) (passes_at parts place)
     ≡ times_in (slots_in parts.crossings place) x
-one-place parts x place = by (is_positive_at parts.positive place) (slots_in parts.crossings place)
-  where
-    test : List ℕ → ℕ → ℕ
-    test slots slot = cond (nat_eq (arc_in slots slot) x) 1 0
-
-    by : (b : Bool) (slots : List ℕ)
-        → 0 + test slots 0 + test slots (if b then 3 else 1) + (0 + test slots 2 + test slots (if b then 1 else 3))
-        ≡ test slots 0 + test slots 1 + test slots 2 + test slots 3
-    by true slots = omega arith
-    by false slots = omega arith
+one-place parts x place = grind (arith, nat_tests)
 
 all-places : (parts : Parts) (x a n : ℕ)
     → count_by (λ (pass : Pass). nat_eq pass.enters x) (flat_map (passes_at parts) (range_with_len a n))
@@ -52,25 +44,11 @@ all-places parts x a (suc n) =
 
 which-head : (slot : ℕ) (b : Bool) → IsTrue (nat_eq slot 0 || nat_eq slot (if b then 3 else 1))
     → (slot ≡ 0) ⊎ (slot ≡ (if b then 3 else 1))
-which-head slot b head = elim (cases_eq slot 0) [
-  | inl zeroth ↦ inl zeroth
-  | inr other ↦ elim (cases_eq slot (if b then 3 else 1)) [
-    | inl same ↦ inr same
-    | inr neither ↦ absurd
-        (both_ways (nat_eq slot 0 || nat_eq slot (if b then 3 else 1))
-        (ap (λ t. t || nat_eq slot (if b then 3 else 1)) (ne_eqb slot 0 other) ∙ ne_eqb slot (if b then 3 else 1) neither) head)
-  ]
-]
+which-head slot b head = grind (arith, nat_tests)
 
 which-tail : (slot : ℕ) (b : Bool) → slot < 4 → (IsTrue (nat_eq slot 0 || nat_eq slot (if b then 3 else 1)) → ⊥)
     → (slot ≡ 2) ⊎ (slot ≡ (if b then 1 else 3))
-which-tail zero b below head = absurd (head refl)
-which-tail (suc zero) true below head = inr refl
-which-tail (suc zero) false below head = absurd (head refl)
-which-tail (suc (suc zero)) b below head = inl refl
-which-tail (suc (suc (suc zero))) true below head = absurd (head refl)
-which-tail (suc (suc (suc zero))) false below head = inr refl
-which-tail (suc (suc (suc (suc slot)))) b below head = absurd (omega (arith, below))
+which-tail slot b below head = grind (arith, nat_tests)
 
 module _ (code : Code) (directed : IsDirected code.crossings) (moves : HasNoSingleArcs code.crossings) where
   abbrev parts : Parts

@@ -3,6 +3,7 @@
 -- In paired parts each number stands at most once among those on which passes enter, and once among those on which they leave where it does
 -- so. So the search for the pass that enters on a name finds the one there is, each fact of all passes is one of the pass found, and the
 -- passes are told apart by names and by labels. Two passes a crossing make twice as many names as crossings.
+use Rattle.std.proofs.lemmas.Bool.Decides.{nat_tests}
 use Rattle.std.proofs.Common.{◌≡◌, ◌≢◌, ℕ, zero, suc, inl, inr, ◌+◌, ◌*◌, ◌<◌, ◌≤◌, ◌∙◌, List, [], ◌∷◌, length, map, refl, sym, ap, subst, arith, cond}
 use Rattle.std.specs.Prelude.{nat_eq, unwrap_or, Some, ℤ, pos, negsuc, nat_abs}
 use Rattle.std.specs.List.{find, count_by, flat_map, range_with_len, AllByRecursion}
@@ -21,8 +22,7 @@ pub All-flat_map_range : {X : Type 0} (P : X → Type 0) (f : ℕ → List X) (a
     → ((k : ℕ) → a ≤ k → k < a + n → AllByRecursion P (f k)) → AllByRecursion P (flat_map f (range_with_len a n))
 All-flat_map_range P f a zero each = tt
 All-flat_map_range P f a (suc n) each =
-    AllByRecursion-append P (f a) (flat_map f (range_with_len (a + 1) n)) (each a (omega arith) (omega arith))
-    (All-flat_map_range P f (a + 1) n (λ k from below. each k (omega (arith, from)) (omega (arith, below))))
+    grind (arith, nat_tests, AllByRecursion-append, All-flat_map_range P f (a + 1) n (λ k from below. each k (omega (arith, from)) (omega (arith, below))))
 
 pub flat_map_range-All : {X : Type 0} (P : X → Type 0) (f : ℕ → List X) (a n : ℕ) → AllByRecursion P (flat_map f (range_with_len a n))
     → (k : ℕ) → a ≤ k → k < a + n → AllByRecursion P (f k)
@@ -40,12 +40,10 @@ module _ (f : Pass → ℕ) where
   found passes x = unwrap_or (find (λ (pass : Pass). nat_eq (f pass) x) passes) no_pass
 
   found-here : (p : Pass) (passes : List Pass) (x : ℕ) → f p ≡ x → found (p ∷ passes) x ≡ p
-  found-here p passes x same =
-      ap (λ b. unwrap_or (cond b (Some p) (find (λ (pass : Pass). nat_eq (f pass) x) passes)) no_pass) (eq-eqb (f p) x same)
+  found-here p passes x same = grind (arith, nat_tests)
 
   found-later : (p : Pass) (passes : List Pass) (x : ℕ) → f p ≢ x → found (p ∷ passes) x ≡ found passes x
-  found-later p passes x other =
-      ap (λ b. unwrap_or (cond b (Some p) (find (λ (pass : Pass). nat_eq (f pass) x) passes)) no_pass) (ne_eqb (f p) x other)
+  found-later p passes x other = grind (arith, nat_tests)
 
   pub found-holds : (P : Pass → Type 0) (passes : List Pass) (x : ℕ) → AllByRecursion P passes → IsIn x (map f passes)
       → P (found passes x) × (f (found passes x) ≡ x)
@@ -107,11 +105,7 @@ module _ (f : Pass → ℕ) where
 
   pub all-in : (passes : List Pass) → AllByRecursion (λ (pass : Pass). IsIn (f pass) (map f passes)) passes
   all-in [] = tt
-  all-in (p ∷ passes) = (
-    inl refl,
-    AllByRecursion-weaker (λ (pass : Pass). IsIn (f pass) (map f passes)) (λ (pass : Pass). IsIn (f pass) (map f (p ∷ passes))) passes
-        (λ pass is. inr is) (all-in passes),
-  )
+  all-in (p ∷ passes) = grind (arith, nat_tests, AllByRecursion-weaker, IsIn, all-in passes)
 
 -- the pass with a label
 pass_with : Parts → ℤ → Pass

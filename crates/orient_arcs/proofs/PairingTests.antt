@@ -1,4 +1,5 @@
 -- The test whether names are paired.
+use Rattle.std.proofs.lemmas.Bool.Decides.{nat_tests}
 use Rattle.std.proofs.Common.{◌≡◌, ℕ, ◌⊎◌, inl, inr, ◌≤◌, ◌∙◌, List, [], ◌∷◌, map, refl, sym, ap, arith, Bool, true, ◌&&◌}
 use Rattle.std.specs.Prelude.{nat_eq, nat_lt, IsTrue, ◌↔◌}
 use Rattle.std.specs.List.{count_by, list_all}
@@ -41,15 +42,11 @@ record IsPairedIn (passes : List Pass) (name : ℕ) : Type 0 where
   pub same : leaving_count passes name ≡ entering_count passes name
 
 true-paired : (passes : List Pass) (name : ℕ) → is_paired_in passes name ≡ true → IsPairedIn passes name
-true-paired passes name holds =
-    let parts = and_parts (nat_lt (entering_count passes name) 2) (nat_eq (leaving_count passes name) (entering_count passes name)) holds in
-    record { few = grind (arith, parts.0); same = grind (arith, parts.1) }
+true-paired passes name holds = grind (arith, nat_tests)
 
 paired-true : (passes : List Pass) (name : ℕ) → entering_count passes name ≤ 1
     → leaving_count passes name ≡ entering_count passes name → is_paired_in passes name ≡ true
-paired-true passes name few same =
-    and_from (nat_lt (entering_count passes name) 2) (nat_eq (leaving_count passes name) (entering_count passes name))
-    (grind (arith, few)) (grind (arith, same))
+paired-true passes name few same = grind (arith, nat_tests)
 
 pub true-ArePaired : (parts : Parts) → all_are_paired (passes_through parts) ≡ true → ArePaired parts
 true-ArePaired parts holds =
@@ -81,7 +78,4 @@ ArePaired-true parts paired =
 
 pub tested : (parts : Parts) (passes : List Pass) (result : Bool) → passes ≡ passes_through parts → result ≡ all_are_paired passes
     → IsTrue result ↔ ArePaired parts
-tested parts passes result are same = (
-  λ holds. true-ArePaired parts (ap all_are_paired (sym are) ∙ sym same ∙ holds),
-  λ paired. same ∙ ap all_are_paired are ∙ ArePaired-true parts paired,
-)
+tested parts passes result are same = grind (arith, nat_tests, same, true-ArePaired, ArePaired-true)

@@ -1,4 +1,5 @@
 -- The steps of renumbering.
+use Rattle.std.proofs.lemmas.Bool.Decides.{nat_tests}
 use Rattle.std.proofs.Common.{◌≡◌, ℕ, zero, suc, ◌+◌, ◌*◌, ◌<◌, ◌≤◌, ◌∙◌, List, [], ◌∷◌, ◌++◌, length, map, take, get_or, max, refl, sym, ap, ap₂, arith, true, false}
 use Rattle.std.specs.Prelude.{nat_eq, ◌||◌, if◌then◌else◌}
 use Rattle.std.specs.List.{flat_map, list_any, range_with_len}
@@ -48,14 +49,10 @@ walk_step order next first fuel less name size other =
 
 pub walk_last : (order : List ℕ) (next : ℕ → ℕ) (first fuel less name : ℕ) → fuel ≡ suc less → nat_eq (next name) first ≡ true
     → order ++ name ∷ [] ≡ order ++ walk next first fuel name
-walk_last order next first fuel less name size same =
-    ap (λ b. order ++ name ∷ (if b then [] else walk next first less (next name))) (sym same)
-    ∙ ap (λ k. order ++ walk next first k name) (sym size)
+walk_last order next first fuel less name size same = grind (arith, nat_tests)
 
 pub length_walk : (next : ℕ → ℕ) (first fuel less name : ℕ) → fuel ≡ suc less → 1 ≤ length (walk next first fuel name)
-length_walk next first fuel less name size =
-    let some : 1 ≤ length (walk next first (suc less) name) = omega arith in
-    omega (arith, some, ap (λ k. length (walk next first k name)) size)
+length_walk next first fuel less name size = grind (arith, nat_tests)
 
 pub code_is : (parts : Parts) (passes : List Pass) (order : List ℕ) (crossings : List (List ℕ)) (loops : ℕ) → passes ≡ passes_through parts
     → order ≡ order_of passes → crossings ≡ map (renamed_crossing (number_in order)) parts.crossings → loops ≡ parts.loops

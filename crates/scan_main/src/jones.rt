@@ -11,6 +11,7 @@ ghost use Rattle.kh_replies.specs.Jones.{jones_line};
 use circle_smoothing::{CountedDiagram, GENERATORS};
 use jones_sum::{Row, Table, euler};
 use kh_replies::jones_line;
+use kh_types::laws::diagrams::diagram_laws;
 use kh_types::{Diagram, NoMemory};
 use prime_field::FieldSize;
 use std::alloc::Global;
@@ -28,9 +29,9 @@ pub fn jones_line_with(
     requires { scanned.now ≡ table field diagram.now }
     ensures { IfOk result (λ text. text.items ≡ jones_line diagram.now) }
 {
-    // (what the types of a field's size and of a diagram keep)
+    // (what the type of a field's size keeps)
     let _ = field.elements();
-    let _ = diagram.crossings();
+    diagram_laws(diagram);
     if are_small(scanned.rows()) {
         let table = narrowed(alloc, scanned)?;
         Ok(print_jones(alloc, &euler(&table))?)

@@ -1,4 +1,5 @@
 -- Lists of entries that ascend, by recursion on the list.
+use Rattle.std.proofs.lemmas.Bool.Decides.{nat_tests}
 use Rattle.std.proofs.Common.{◌≡◌, ℕ, zero, suc, ◌+◌, ◌<◌, ◌≤◌, List, [], ◌∷◌, length, map, get_or, subst, arith}
 use Rattle.std.specs.Prelude.{slice_index}
 use Rattle.std.specs.List.Sorted.{IsStrictlyIncreasing}
@@ -25,9 +26,7 @@ increasing-tail x xs ascending k within =
     subst (λ (n : ℕ). slice_index xs k < slice_index (x ∷ xs) n) next (ascending (suc k) (omega arith))
 
 begin-next : (e : Entry) (es : List Entry) → IsStrictlyIncreasing (places (e ∷ es)) → Begin (e.place + 1) es
-begin-next e [] ascending = tt
-begin-next e (f ∷ es) ascending =
-    let next : e.place < f.place = ascending 0 (omega arith) in omega arith
+begin-next e es ascending = grind (arith, nat_tests)
 
 entries-tail : (p size : ℕ) (e : Entry) (es : List Entry) → AreEntries p size (e ∷ es) → AreEntries p size es
 entries-tail p size e es are =
@@ -40,17 +39,10 @@ entries-tail p size e es are =
 pub ascend-from_entries : (p a size : ℕ) (es : List Entry) → Begin a es → AreEntries p size es → Ascend p a size es
 ascend-from_entries p a size [] begin are = tt
 ascend-from_entries p a size (e ∷ es) begin are =
-    let value = All-head (λ (e : Entry). (0 < e.value) × (e.value < p)) e es are.values in (
-      begin,
-      All-head (λ (e : Entry). e.place < size) e es are.places,
-      value.0,
-      value.1,
-      ascend-from_entries p (e.place + 1) size es (begin-next e es are.ascending) (entries-tail p size e es are),
-    )
+    grind (arith, nat_tests, All-head, begin-next, entries-tail, ascend-from_entries p (e.place + 1) size es (begin-next e es are.ascending) (entries-tail p size e es are))
 
 begin-zero : (es : List Entry) → Begin 0 es
-begin-zero [] = tt
-begin-zero (e ∷ es) = omega arith
+begin-zero es = grind (arith, nat_tests)
 
 pub entries-ascend : (p size : ℕ) (es : List Entry) → AreEntries p size es → Ascend p 0 size es
 entries-ascend p size es are = ascend-from_entries p 0 size es (begin-zero es) are
@@ -58,43 +50,25 @@ entries-ascend p size es are = ascend-from_entries p 0 size es (begin-zero es) a
 -- and back
 
 begin-from_ascend : (p a b : ℕ) (es : List Entry) → Ascend p a b es → Begin a es
-begin-from_ascend p a b [] ascend = tt
-begin-from_ascend p a b (e ∷ es) ascend = ascend.0
+begin-from_ascend p a b es ascend = grind (arith, nat_tests)
 
 increasing-cons : (e : Entry) (es : List Entry) → Begin (e.place + 1) es → IsStrictlyIncreasing (places es)
     → IsStrictlyIncreasing (places (e ∷ es))
-increasing-cons e [] begin ascending k within = absurd (omega arith)
-increasing-cons e (f ∷ es) begin ascending zero within =
-    let next : e.place < f.place = omega (arith, begin) in next
-increasing-cons e (f ∷ es) begin ascending (suc k) within =
-    let next : suc (k + 1) ≡ suc k + 1 = omega arith in
-    subst (λ (n : ℕ). slice_index (places (f ∷ es)) k < slice_index (places (e ∷ f ∷ es)) n) next (ascending k (omega (arith, within)))
+increasing-cons e es begin ascending = grind (arith, nat_tests)
 
 pub entries-from_ascend : (p a size : ℕ) (es : List Entry) → Ascend p a size es → AreEntries p size es
-entries-from_ascend p a size [] ascend =
-    record {
-      ascending = λ k within. absurd (omega arith);
-      places = All-nil (λ (e : Entry). e.place < size);
-      values = All-nil (λ (e : Entry). (0 < e.value) × (e.value < p));
-    }
+entries-from_ascend p a size [] ascend = grind (arith, nat_tests, All-nil)
 entries-from_ascend p a size (e ∷ es) ascend =
-    let rest = entries-from_ascend p (e.place + 1) size es ascend.4 in
-    record {
-      ascending = increasing-cons e es (begin-from_ascend p (e.place + 1) size es ascend.4) rest.ascending;
-      places = All-cons (λ (e : Entry). e.place < size) e es ascend.1 rest.places;
-      values = All-cons (λ (e : Entry). (0 < e.value) × (e.value < p)) e es (ascend.2, ascend.3) rest.values;
-    }
+    grind (arith, nat_tests, increasing-cons, begin-from_ascend, All-cons, entries-from_ascend p (e.place + 1) size es ascend.4)
 
 -- entries that begin later also begin at an earlier place
 pub ascend-earlier : (p a c b : ℕ) (es : List Entry) → a ≤ c → Ascend p c b es → Ascend p a b es
 ascend-earlier p a c b [] earlier ascend = tt
-ascend-earlier p a c b (e ∷ es) earlier ascend =
-    (omega (arith, ascend.0), ascend.1, ascend.2, ascend.3, ascend.4)
+ascend-earlier p a c b (e ∷ es) earlier ascend = grind (arith, nat_tests)
 
 -- each place is at least the first
 pub ascend-place : (p a b k : ℕ) (es : List Entry) (d : Entry) → Ascend p a b es → k < length es → a ≤ (get_or es k d).place
 ascend-place p a b k [] d ascend within = absurd (omega arith)
 ascend-place p a b zero (e ∷ es) d ascend within = ascend.0
 ascend-place p a b (suc k) (e ∷ es) d ascend within =
-    let later : e.place + 1 ≤ (get_or es k d).place = ascend-place p (e.place + 1) b k es d ascend.4 (omega (arith, within)) in
-    omega (arith, ascend.0)
+    grind (arith, nat_tests, ascend-place p (e.place + 1) b k es d ascend.4 (omega (arith, within)))

@@ -1,4 +1,5 @@
 -- The complex that names and columns make.
+use Rattle.std.proofs.lemmas.Bool.Decides.{nat_tests}
 use Rattle.std.proofs.Common.{◌≡◌, ℕ, zero, suc, ◌+◌, ◌<◌, ◌^◌, ◌∙◌, inl, inr, List, [], ◌∷◌, ◌++◌, ℤ, pos, negsuc, ◌+ℤ◌, ◌-ℤ◌, ◌≤ℤ◌, length, map, get_or, take, replicate, ap, sym, subst, arith, refl, Bool, true}
 use Rattle.std.specs.Prelude.{slice_index_or, All}
 use Rattle.std.specs.List.{range_with_len}
@@ -29,9 +30,7 @@ all_true degree = map (λ name. true) degree
 
 pub sizes-all_alive : (names : List (List Generator)) → map length (all_alive names) ≡ map length names
 sizes-all_alive [] = refl
-sizes-all_alive (degree ∷ names) =
-    ap (λ (n : ℕ). n ∷ map length (all_alive names)) (length-map degree (λ (name : Generator). true))
-    ∙ ap (λ (ns : List ℕ). length degree ∷ ns) (sizes-all_alive names)
+sizes-all_alive (degree ∷ names) = grind (arith, nat_tests, length-map, sizes-all_alive names)
 
 pub replicate-all_true : (degree : List Generator) → replicate (length degree) true ≡ all_true degree
 replicate-all_true [] = refl
@@ -98,11 +97,7 @@ module _ (p : ℕ) (names : List (List Generator)) (columns : List (List (List E
   row-sized : (k row : ℕ) → row < length (degree_from_lists (all_alive names) columns k).matrix
       → length (slice_index_or (degree_from_lists (all_alive names) columns k).matrix row [])
       ≡ length (degree_from_lists (all_alive names) columns k).alive
-  row-sized k row within =
-      let height = length (slice_index_or (all_alive names) (k + 1) []) in
-      let lists : List (List Entry) = slice_index_or columns k [] in
-      ap length (row-matrix_from height row lists (omega (arith, within, length-matrix_from height lists)))
-      ∙ length-map lists (λ (column : List Entry). value_at column row) ∙ width-at k
+  row-sized k row within = grind (arith, nat_tests, row-matrix_from, length-matrix_from, length-map, width-at)
 
   number-below : (k row column : ℕ) → 0 < p → value_at (slice_index_or (slice_index_or columns k []) column []) row < p
   number-below k row column positive =
@@ -118,20 +113,7 @@ module _ (p : ℕ) (names : List (List Generator)) (columns : List (List (List E
 
   entry-below : (k row column : ℕ) → 0 < p → entry_in (degree_from_lists (all_alive names) columns k).matrix row column < p
   entry-below k row column positive =
-      let height = length (slice_index_or (all_alive names) (k + 1) []) in
-      let lists : List (List Entry) = slice_index_or columns k [] in
-      elim (leb_tells height row) [
-        | inl past ↦ omega (
-          arith,
-          positive,
-          entry-past_rows (matrix_from height lists) row column (omega (arith, past.1, length-matrix_from height lists)),
-        )
-        | inr within ↦ omega (
-          arith,
-          entry-matrix_from height row column lists within.1,
-          number-below k row column positive,
-        )
-      ]
+      grind (arith, nat_tests, leb_tells, entry-past_rows, length-matrix_from, entry-matrix_from, number-below)
 
   entry-below-from : (low distance : ℤ) (row column : ℕ) → 0 < p
       → entry_in (degree_from (complex_from low (all_alive names) columns) distance).matrix row column < p
@@ -208,10 +190,7 @@ rows-more alive columns k rows made are so_far =
 pub rows-of_height : (names : List (List Generator)) (columns : List (List (List Entry))) (k height : ℕ)
     (lists : List (List Entry)) → height ≡ length (slice_index_or names (k + 1) []) → lists ≡ slice_index_or columns k []
     → map entries_of (matrix_from height lists) ≡ row_entries (degree_from_lists (all_alive names) columns k)
-rows-of_height names columns k height lists is_height are =
-    ap (λ (height : ℕ). map entries_of (matrix_from height lists))
-    (is_height ∙ sym (length-at (all_alive names) names (k + 1) (sizes-all_alive names)))
-    ∙ ap (λ (lists : List (List Entry)). map entries_of (matrix_from (length (slice_index_or (all_alive names) (k + 1) [])) lists)) are
+rows-of_height names columns k height lists is_height are = grind (arith, nat_tests, length-at, sizes-all_alive)
 
 -- the columns of a degree in memory
 
@@ -219,14 +198,7 @@ module _ (names : List (Vec Generator)) (columns : List (Vec (SmallVec Entry))) 
     (lines : List (SmallVec Entry)) (sizes : map length (lines_in columns) ≡ map length (lists_in names))
     (within : k < length names) (is_degree : degree ≡ get_or columns k degree) (are : lines ≡ degree.items) where
   within-columns : k < length columns
-  within-columns =
-      omega (
-        arith,
-        within,
-        length-same (lines_in columns) (lists_in names) sizes,
-        length-map columns (λ (degree : Vec (SmallVec Entry)). entries_in degree.items),
-        length-map names (λ (degree : Vec Generator). degree.items),
-      )
+  within-columns = grind (arith, nat_tests, length-same, length-map)
 
   pub lines-of_degree : entries_in lines ≡ slice_index_or (lines_in columns) k []
   lines-of_degree = ap entries_in are ∙ sym (lines-lines_in columns k degree within-columns is_degree)

@@ -1,4 +1,5 @@
 -- Over a field, the cancellation of an entry other than 0 leaves a complex of a complex.
+use Rattle.std.proofs.lemmas.Bool.Decides.{nat_tests}
 use Rattle.std.proofs.Common.{◌≡◌, ℕ, ◌+◌, ◌*◌, ◌%◌, ◌<◌, ◌∙◌, List, [], ℤ, pos, ◌+ℤ◌, length, map, ap, ap₂, sym, arith}
 use Rattle.std.specs.Prelude.{slice_index_or}
 use Rattle.std.proofs.Math.ListN.{get_or-map}
@@ -26,15 +27,7 @@ product-from_entries : (p : ℕ) (complex : Complex) (pivot : Pivot) (i : ℤ) (
     → Same p (product_at (length (degree_of complex (i +ℤ pos 1)).alive) U L row column) 0
     → product_entry p (cancel p complex pivot) i row column ≡ 0
 product-from_entries p complex pivot i row column U L is_upper is_lower is_zero =
-    let after = cancel p complex pivot in
-    let upper = entry_of after (i +ℤ pos 1) in
-    let lower = entry_of after i in
-    product_of-below p (degree_of after i) (degree_of after (i +ℤ pos 1)) row column
-    ∙ ap (λ places. product_at places upper lower row column % p) (places-cancel p complex pivot (i +ℤ pos 1))
-    ∙ ap (λ z. z % p)
-    (sum_below-equal (length (degree_of complex (i +ℤ pos 1)).alive) (λ m. upper row m * lower m column) (λ m. U row m * L m column)
-    (λ m. ap₂ (λ x y. x * y) (is_upper m) (is_lower m)))
-    ∙ is_zero ∙ zero-mod p
+    grind (arith, nat_tests, product_of-below, places-cancel, sum_below-equal, zero-mod)
 
 product-cancel : (p : ℕ) (complex : Complex) (pivot : Pivot) (i : ℤ) (row column : ℕ) → IsField p
     → IsComplex p complex → IsPivot complex pivot → product_entry p (cancel p complex pivot) i row column ≡ 0

@@ -1,4 +1,5 @@
 -- The degrees of a complex after a cancellation, by how far they are from the pivot's, and the places that are dead then.
+use Rattle.std.proofs.lemmas.Bool.Decides.{nat_tests}
 use Rattle.std.proofs.Common.{◌≡◌, ℕ, zero, suc, ◌+◌, ◌∙◌, ◌⊎◌, inl, inr, List, [], ◌∷◌, ℤ, pos, negsuc, ◌+ℤ◌, ◌-ℤ◌, map, ap, sym, refl, arith, Bool, true, false}
 use Rattle.std.specs.Prelude.{◌≢◌, nat_eq, slice_index_or, if◌then◌else◌}
 use Rattle.std.specs.List.{enumerate_from}
@@ -12,26 +13,17 @@ use Rattle.kh_types.proofs.Integers.{int_eq-other, int_eq-same}
 -- a degree without places stays without them
 chosen-empty : (first second third : Bool) (a b c d : Degree) → a ≡ empty_degree → b ≡ empty_degree → c ≡ empty_degree
     → d ≡ empty_degree → (if first then a else if second then b else if third then c else d) ≡ empty_degree
-chosen-empty true second third a b c d in_a in_b in_c in_d = in_a
-chosen-empty false true third a b c d in_a in_b in_c in_d = in_b
-chosen-empty false false true a b c d in_a in_b in_c in_d = in_c
-chosen-empty false false false a b c d in_a in_b in_c in_d = in_d
+chosen-empty first second third a b c d in_a in_b in_c in_d = grind (arith, nat_tests)
 
 cancelled_degree-empty : (p : ℕ) (pivot : Pivot) (i : ℤ) → cancelled_degree p pivot i empty_degree ≡ empty_degree
-cancelled_degree-empty p pivot i =
-    chosen-empty (int_eq i pivot.degree) (int_eq i (pivot.degree +ℤ pos 1)) (int_eq (i +ℤ pos 1) pivot.degree)
-    (record { alive = without_place pivot.column []; matrix = cancelled_matrix p pivot [] })
-    (record { alive = without_place pivot.row []; matrix = without_column pivot.row [] })
-    (record { alive = []; matrix = without_row pivot.column [] })
-    empty_degree refl refl refl refl
+cancelled_degree-empty p pivot i = grind (arith, nat_tests)
 
 -- the degrees, from number n on
 degrees_from-at : (p : ℕ) (pivot : Pivot) (low : ℤ) (n k j : ℕ) (degrees : List Degree) → n + k ≡ j
     → slice_index_or (map (λ at. cancelled_degree p pivot (low +ℤ pos at.0) at.1) (enumerate_from n degrees)) k empty_degree
     ≡ cancelled_degree p pivot (low +ℤ pos j) (slice_index_or degrees k empty_degree)
 degrees_from-at p pivot low n k j [] is_j = sym (cancelled_degree-empty p pivot (low +ℤ pos j))
-degrees_from-at p pivot low n zero j (degree ∷ degrees) is_j =
-    let e : n ≡ j = omega arith in ap (λ m. cancelled_degree p pivot (low +ℤ pos m) degree) e
+degrees_from-at p pivot low n zero j (degree ∷ degrees) is_j = grind (arith, nat_tests)
 degrees_from-at p pivot low n (suc k) j (degree ∷ degrees) is_j =
     degrees_from-at p pivot low (n + 1) k j degrees (omega arith)
 
@@ -55,8 +47,7 @@ pub degree-at_pivot : (p : ℕ) (complex : Complex) (pivot : Pivot) (i : ℤ) �
       alive = without_place pivot.column (degree_of complex i).alive;
       matrix = cancelled_matrix p pivot (degree_of complex i).matrix;
     }
-degree-at_pivot p complex pivot i here =
-    degree_of-cancel p complex pivot i ∙ cond-true (int_eq i pivot.degree) _ _ (int_eq-same i pivot.degree here)
+degree-at_pivot p complex pivot i here = grind (arith, nat_tests, degree_of-cancel, cond-true, int_eq-same)
 
 -- the next degree loses the pivot's row, a place of it, and its matrix that column
 pub degree-after_pivot : (p : ℕ) (complex : Complex) (pivot : Pivot) (i : ℤ) → i ≡ pivot.degree +ℤ pos 1
@@ -66,35 +57,22 @@ pub degree-after_pivot : (p : ℕ) (complex : Complex) (pivot : Pivot) (i : ℤ)
       matrix = without_column pivot.row (degree_of complex i).matrix;
     }
 degree-after_pivot p complex pivot i here =
-    let not_pivot : i ≢ pivot.degree = λ same. omega (arith, ints) in
-    degree_of-cancel p complex pivot i ∙ cond-false (int_eq i pivot.degree) _ _ (int_eq-other i pivot.degree not_pivot)
-    ∙ cond-true (int_eq i (pivot.degree +ℤ pos 1)) _ _ (int_eq-same i (pivot.degree +ℤ pos 1) here)
+    grind (arith, nat_tests, ints, degree_of-cancel, cond-false, int_eq-other, cond-true, int_eq-same)
 
 -- the degree before keeps its places, and its matrix loses the row of the pivot's column
 pub degree-before_pivot : (p : ℕ) (complex : Complex) (pivot : Pivot) (i : ℤ) → i +ℤ pos 1 ≡ pivot.degree
     → degree_of (cancel p complex pivot) i
     ≡ record { alive = (degree_of complex i).alive; matrix = without_row pivot.column (degree_of complex i).matrix }
 degree-before_pivot p complex pivot i here =
-    let not_pivot : i ≢ pivot.degree = λ same. omega (arith, ints) in
-    let not_after : i ≢ pivot.degree +ℤ pos 1 = λ same. omega (arith, ints) in
-    degree_of-cancel p complex pivot i ∙ cond-false (int_eq i pivot.degree) _ _ (int_eq-other i pivot.degree not_pivot)
-    ∙ cond-false (int_eq i (pivot.degree +ℤ pos 1)) _ _ (int_eq-other i (pivot.degree +ℤ pos 1) not_after)
-    ∙ cond-true (int_eq (i +ℤ pos 1) pivot.degree) _ _ (int_eq-same (i +ℤ pos 1) pivot.degree here)
+    grind (arith, nat_tests, ints, degree_of-cancel, cond-false, int_eq-other, cond-true, int_eq-same)
 
 -- all other degrees stay
 pub degree-elsewhere : (p : ℕ) (complex : Complex) (pivot : Pivot) (i : ℤ) → i ≢ pivot.degree → i ≢ pivot.degree +ℤ pos 1
     → i +ℤ pos 1 ≢ pivot.degree → degree_of (cancel p complex pivot) i ≡ degree_of complex i
-degree-elsewhere p complex pivot i not_pivot not_after not_before =
-    degree_of-cancel p complex pivot i ∙ cond-false (int_eq i pivot.degree) _ _ (int_eq-other i pivot.degree not_pivot)
-    ∙ cond-false (int_eq i (pivot.degree +ℤ pos 1)) _ _ (int_eq-other i (pivot.degree +ℤ pos 1) not_after)
-    ∙ cond-false (int_eq (i +ℤ pos 1) pivot.degree) _ _ (int_eq-other (i +ℤ pos 1) pivot.degree not_before)
+degree-elsewhere p complex pivot i not_pivot not_after not_before = grind (arith, nat_tests, degree_of-cancel, cond-false, int_eq-other)
 
 cases_int : (i j : ℤ) → (i ≡ j) ⊎ (i ≢ j)
-cases_int i j =
-    elim (cases_Bool (int_eq i j)) [
-      | inl same ↦ inl ((Decides-int_eq i j).0 same)
-      | inr other ↦ inr (not_from_Decides (int_eq i j) (Decides-int_eq i j) other)
-    ]
+cases_int i j = grind (arith, nat_tests)
 
 -- where a degree is, seen from the pivot's
 pub data Where (i pivot : ℤ) : Type 0 where
@@ -104,30 +82,14 @@ pub data Where (i pivot : ℤ) : Type 0 where
   is_elsewhere : i ≢ pivot → i ≢ pivot +ℤ pos 1 → i +ℤ pos 1 ≢ pivot → Where i pivot
 
 pub where_is : (i pivot : ℤ) → Where i pivot
-where_is i pivot =
-    elim (cases_int i pivot) [
-      | inl here ↦ Where.is_at here
-      | inr not_here ↦
-          elim (cases_int i (pivot +ℤ pos 1)) [
-            | inl after ↦ Where.is_after after
-            | inr not_after ↦
-                elim (cases_int (i +ℤ pos 1) pivot) [
-                  | inl before ↦ Where.is_before before
-                  | inr not_before ↦ Where.is_elsewhere not_here not_after not_before
-                ]
-          ]
-    ]
+where_is i pivot = grind (arith, nat_tests)
 
 -- a place that is dead afterwards was dead, or it is the one that dies
 places_from-dead : (place n k j : ℕ) (alive : List Bool) → n + k ≡ j
     → slice_index_or (map (λ at. if nat_eq at.0 place then false else at.1) (enumerate_from n alive)) k true ≡ false
     → (slice_index_or alive k true ≡ false) ⊎ (j ≡ place)
 places_from-dead place n k j [] is_j dead = inl dead
-places_from-dead place n zero j (first ∷ rest) is_j dead =
-    elim (eqb_tells n place) [
-      | inl same ↦ inr (let e = same.1 in omega arith)
-      | inr other ↦ inl (sym (ap (λ b. if b then false else first) other.0) ∙ dead)
-    ]
+places_from-dead place n zero j (first ∷ rest) is_j dead = grind (arith, nat_tests, eqb_tells)
 places_from-dead place n (suc k) j (first ∷ rest) is_j dead = places_from-dead place (n + 1) k j rest (omega arith) dead
 
 without_place-dead : (place k : ℕ) (alive : List Bool) → slice_index_or (without_place place alive) k true ≡ false

@@ -1,4 +1,5 @@
 -- What is held of a complex after a cancellation is what the cancelled complex has.
+use Rattle.std.proofs.lemmas.Bool.Decides.{nat_tests}
 use Rattle.std.proofs.Common.{◌≡◌, ℕ, ◌+◌, ◌<◌, ◌∙◌, List, [], ◌++◌, ℤ, pos, ◌+ℤ◌, length, map, set, take, ap, sym, arith, refl, Bool, false}
 use Rattle.std.specs.Prelude.{slice_index_or}
 use Rattle.std.specs.Global.{Vec}
@@ -39,16 +40,11 @@ module _ {p : ℕ} {low : ℤ} {names : List (List Generator)} {alive : List (Li
       ∙ degree-count kept
 
   number-left : (j : ℕ) → degree_of (cancel p named.complex pivot) (low +ℤ pos j) ≡ degree_number (cancel p named.complex pivot) j
-  number-left j =
-      let after = cancel p named.complex pivot in
-      ap (λ (low : ℤ). degree_of after (low +ℤ pos j)) (sym same_low) ∙ degree_of-number after j
+  number-left j = grind (arith, nat_tests)
 
   places-left : (i : ℤ) (j : ℕ) → i ≡ low +ℤ pos j
       → place_count named.complex i ≡ length (degree_number (cancel p named.complex pivot) j).alive
-  places-left i j is_i =
-      ap (λ (i : ℤ). place_count named.complex i) (is_i ∙ ap (λ (low : ℤ). low +ℤ pos j) (sym same_low))
-      ∙ ap (λ (degree : Degree). length degree.alive) (degree_of-number named.complex j)
-      ∙ sym (places_number-cancel p named.complex pivot j)
+  places-left i j is_i = grind (arith, nat_tests, same_low, degree_of-number, places_number-cancel)
 
   sizes-left : map (λ degree. length degree.alive) (cancel p named.complex pivot).degrees ≡ map length names
   sizes-left =

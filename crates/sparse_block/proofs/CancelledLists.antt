@@ -1,4 +1,5 @@
 -- What is held of a complex after a cancellation.
+use Rattle.std.proofs.lemmas.Bool.Decides.{nat_tests}
 use Rattle.std.proofs.Common.{◌≡◌, ◌≢◌, ℕ, zero, suc, ◌+◌, ◌<◌, ◌∙◌, inl, inr, List, [], ◌∷◌, ℤ, pos, ◌+ℤ◌, ◌≤ℤ◌, length, map, set, ap, ap₂, sym, subst, arith, refl, Bool, false}
 use Rattle.std.specs.Prelude.{nat_eq, slice_index_or, if◌then◌else◌}
 use Rattle.std.specs.List.{enumerate_from}
@@ -25,31 +26,14 @@ use Rattle.sparse_block.proofs.ReadingLemmas.{column-entries as entries-of_colum
 places-kept : (place n : ℕ) (alive : List Bool) → place < n
     → map (λ at. if nat_eq at.0 place then false else at.1) (enumerate_from n alive) ≡ alive
 places-kept place n [] before = refl
-places-kept place n (first ∷ rest) before =
-    elim (eqb_tells n place) [
-      | inl same ↦ absurd (omega (arith, same.1))
-      | inr other ↦
-          ap₂ (λ (b : Bool) (bs : List Bool). b ∷ bs) (ap (λ (b : Bool). if b then false else first) other.0)
-          (places-kept place (n + 1) rest (omega (arith, before)))
-    ]
+places-kept place n (first ∷ rest) before = grind (arith, nat_tests, eqb_tells, places-kept place (n + 1) rest (omega (arith, before)))
 
 place-dies : (place n k : ℕ) (alive : List Bool) → n + k ≡ place
     → set alive k false ≡ map (λ at. if nat_eq at.0 place then false else at.1) (enumerate_from n alive)
 place-dies place n k [] is_place = refl
-place-dies place n zero (first ∷ rest) is_place =
-    elim (eqb_tells n place) [
-      | inl same ↦
-          ap₂ (λ (b : Bool) (bs : List Bool). b ∷ bs) (sym (ap (λ (b : Bool). if b then false else first) same.0))
-          (sym (places-kept place (n + 1) rest (omega (arith, same.1))))
-      | inr other ↦ absurd (other.1 (omega arith))
-    ]
+place-dies place n zero (first ∷ rest) is_place = grind (arith, nat_tests, eqb_tells, places-kept)
 place-dies place n (suc k) (first ∷ rest) is_place =
-    elim (eqb_tells n place) [
-      | inl same ↦ absurd (omega (arith, same.1))
-      | inr other ↦
-          ap₂ (λ (b : Bool) (bs : List Bool). b ∷ bs) (sym (ap (λ (b : Bool). if b then false else first) other.0))
-          (place-dies place (n + 1) k rest (omega (arith, is_place)))
-    ]
+    grind (arith, nat_tests, eqb_tells, place-dies place (n + 1) k rest (omega (arith, is_place)))
 
 pub set-without_place : (place : ℕ) (alive : List Bool) → set alive place false ≡ without_place place alive
 set-without_place place alive = place-dies place 0 place alive (omega arith)
@@ -62,19 +46,7 @@ pub data Beside (j k : ℕ) : Type 0 where
   is_elsewhere : j ≢ k → j ≢ k + 1 → j + 1 ≢ k → Beside j k
 
 pub beside : (j k : ℕ) → Beside j k
-beside j k =
-    elim (eqb_tells j k) [
-      | inl here ↦ Beside.is_at here.1
-      | inr not_at ↦
-          elim (eqb_tells j (k + 1)) [
-            | inl next ↦ Beside.is_after next.1
-            | inr not_after ↦
-                elim (eqb_tells (j + 1) k) [
-                  | inl before ↦ Beside.is_before before.1
-                  | inr not_before ↦ Beside.is_elsewhere not_at.1 not_after.1 not_before.1
-                ]
-          ]
-    ]
+beside j k = grind (arith, nat_tests)
 
 -- the pivot's own columns and rows are those after the cancellation, and all others are as they were
 pub record HaveOwn (p : ℕ) (complex : Complex) (pivot : Pivot) (k : ℕ) (columns rows columns_after rows_after : List (List (List Entry)))
@@ -97,10 +69,7 @@ module _ {p : ℕ} {low : ℤ} {names : List (List Generator)} {alive : List (Li
   stands = entry-stands p named.complex pivot.degree pivot.row pivot.column (complex-seen kept seen) is_pivot
 
   pub pivot-from_low : low ≤ℤ pivot.degree
-  pivot-from_low =
-      by_lt_z pivot.degree low
-      (λ below. absurd (omega (arith, stands.column_place, places-below kept seen pivot.degree below)))
-      (λ from. from)
+  pivot-from_low = grind (arith, nat_tests)
 
   module _ (k : ℕ) (is_distance : pivot.degree ≡ low +ℤ pos k) where
     pub next-degree : pivot.degree +ℤ pos 1 ≡ low +ℤ pos (k + 1)
@@ -178,8 +147,7 @@ module _ {p : ℕ} {low : ℤ} {names : List (List Generator)} {alive : List (Li
         omega (arith, stands.column_place, length-column kept seen pivot.degree k is_distance (omega (arith, k-within)))
 
     pub row_place : pivot.row < length (lines_at rows k)
-    row_place =
-        omega (arith, stands.row_place, length-row kept seen pivot.degree k is_distance (omega (arith, k-within)))
+    row_place = grind (arith, nat_tests, stands, length-row, k-within)
 
     -- the pivot's column and its row have an entry
 

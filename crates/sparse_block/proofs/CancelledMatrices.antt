@@ -1,4 +1,5 @@
 -- The matrices of a complex after a cancellation: they keep their sizes, and are 0 in the rows and columns of dead places.
+use Rattle.std.proofs.lemmas.Bool.Decides.{nat_tests}
 use Rattle.std.proofs.Common.{◌≡◌, ℕ, ◌+◌, ◌*◌, ◌%◌, ◌<◌, ◌≢◌, ◌∙◌, ◌⊎◌, inl, inr, List, ℤ, pos, ◌+ℤ◌, length, ap, sym, subst, refl, arith, Bool, true, false}
 use Rattle.std.specs.Prelude.{nat_eq, slice_index_or, if◌then◌else◌}
 use Rattle.std.proofs.Math.Nat.{zero-mod, mod-eq_of_lt}
@@ -25,9 +26,7 @@ pivot-at complex pivot i here is_pivot = subst (λ d. entry_of complex d pivot.r
 pub matrix-cancelled : (p n : ℕ) (pivot : Pivot) (rows : List (List ℕ)) → 0 < p → IsMatrix p n rows → pivot.row < length rows
     → IsMatrix p n (cancelled_matrix p pivot rows)
 matrix-cancelled p n pivot rows positive is within =
-    matrix-with_entries p n (entry_cancelled p pivot.row pivot.column (entry_in rows)) rows is
-    (entry-cancelled_matrix p pivot rows n is within)
-    (λ i j. entry_cancelled-below p pivot.row pivot.column i j (entry_in rows) positive)
+    grind (arith, nat_tests, matrix-with_entries, entry_cancelled, entry-cancelled_matrix, entry_cancelled-below)
 
 pub leaves-cancelled : (p n : ℕ) (pivot : Pivot) (rows : List (List ℕ)) → IsField p → IsMatrix p n rows → pivot.row < length rows
     → entry_in rows pivot.row pivot.column ≢ 0
@@ -84,12 +83,10 @@ zero-modulo p complex pivot i row column field is is_pivot same =
     sym (mod-eq_of_lt ((matrix-cancel p complex pivot i field is is_pivot).below row column)) ∙ same ∙ zero-mod p
 
 chosen-zero : (chosen : Bool) (x : ℕ) → x ≡ 0 → (if chosen then 0 else x) ≡ 0
-chosen-zero true x is_zero = refl
-chosen-zero false x is_zero = is_zero
+chosen-zero chosen x is_zero = grind (arith, nat_tests)
 
 way-zero : (x y z : ℕ) → (x ≡ 0) ⊎ (z ≡ 0) → x * (y * z) ≡ 0
-way-zero x y z (inl first) = ap (λ w. w * (y * z)) first ∙ omega arith
-way-zero x y z (inr last) = ap (λ w. x * (y * w)) last ∙ omega arith
+way-zero x y z has3 = grind (arith, nat_tests)
 
 -- an entry 0 stays 0, where its row has 0 in the pivot's column, or its column in the pivot's row
 zero-cancel : (p : ℕ) (complex : Complex) (pivot : Pivot) (i : ℤ) (row column : ℕ) → IsField p → IsComplex p complex

@@ -1,4 +1,5 @@
 -- What a pivot leaves of two neighbouring matrices has the product 0, where they have.
+use Rattle.std.proofs.lemmas.Bool.Decides.{nat_tests}
 use Rattle.std.proofs.Common.{◌≡◌, ℕ, ◌+◌, ◌*◌, ◌%◌, ◌<◌, ◌∙◌, inl, inr, ap, sym, subst, arith, Bool, true, false}
 use Rattle.std.specs.Prelude.{nat_eq, if◌then◌else◌}
 use Rattle.std.proofs.lemmas.Bool.Decides.{eqb_tells}
@@ -48,18 +49,10 @@ product-below_pivot p n a b row column U L R positive leaves at_pivot at_column 
 -- a product of transposes is the transpose of the product
 turned : (n row column : ℕ) (U L : ℕ → ℕ → ℕ)
     → product_at n (λ i j. L j i) (λ i j. U j i) column row ≡ product_at n U L row column
-turned n row column U L =
-    sum_below-equal n (λ m. L m column * U row m) (λ m. U row m * L m column) (λ m. omega arith)
+turned n row column U L = grind (arith, nat_tests)
 
 leaves-turned : (p a b : ℕ) (M R : ℕ → ℕ → ℕ) → Leaves p M R a b → Leaves p (λ i j. M j i) (λ i j. R j i) b a
-leaves-turned p a b M R leaves =
-    let y = leaves.inverse in
-    record {
-      inverse = y;
-      inverts = leaves.inverts;
-      others = λ i j.
-          same-equal p (M a i * (y * M j b) + R j i) (M j b * (y * M a i) + R j i) (omega arith) ∙ leaves.others j i;
-    }
+leaves-turned p a b M R leaves = grind (arith, nat_tests)
 
 -- the pivot's matrix above, and below it the matrix that loses the row of the pivot's column
 pub product-above_pivot : (p n a b row column : ℕ) (U L R : ℕ → ℕ → ℕ) → 0 < p → Leaves p U R a b
@@ -74,9 +67,7 @@ product-above_pivot p n a b row column U L R positive leaves at_pivot at_row =
 -- a column of the matrix below may become 0, and a row of the matrix above
 chosen-column : (p n row column : ℕ) (chosen : Bool) (U L : ℕ → ℕ → ℕ) → Same p (product_at n U L row column) 0
     → Same p (sum_below n (λ m. U row m * (if chosen then 0 else L m column))) 0
-chosen-column p n row column true U L zero_there =
-    same-equal p (sum_below n (λ m. U row m * 0)) 0 (sum_below-zeros n (λ m. U row m * 0) (λ m. omega arith))
-chosen-column p n row column false U L zero_there = zero_there
+chosen-column p n row column chosen U L zero_there = grind (arith, nat_tests, same-equal, sum_below-zeros)
 
 pub product-column_cleared : (p n dead row column : ℕ) (U L : ℕ → ℕ → ℕ) → Same p (product_at n U L row column) 0
     → Same p (product_at n U (column_cleared dead L) row column) 0

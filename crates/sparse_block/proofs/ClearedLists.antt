@@ -1,4 +1,5 @@
 -- Lines of each degree after some were emptied or crossed out, and what may be cleared then.
+use Rattle.std.proofs.lemmas.Bool.Decides.{nat_tests}
 use Rattle.std.proofs.Common.{◌≡◌, ◌≢◌, ℕ, zero, suc, ◌+◌, ◌<◌, ◌∙◌, inl, inr, List, [], length, map, get_or, set, refl, ap, sym, subst, arith}
 use Rattle.std.specs.Prelude.{slice_index_or, All}
 use Rattle.std.proofs.Math.ListN as plain
@@ -30,23 +31,11 @@ sizes-same degrees = record { degrees = refl; lines = λ k. refl }
 
 pub sizes-then : (first second third : List (List (List Entry))) → SameSizes first second → SameSizes second third
     → SameSizes first third
-sizes-then first second third same later =
-    record { degrees = later.degrees ∙ same.degrees; lines = λ k. later.lines k ∙ same.lines k }
+sizes-then first second third same later = omega arith
 
 pub sizes-set : (degrees : List (List (List Entry))) (k : ℕ) (lines : List (List Entry))
     → length lines ≡ length (lines_at degrees k) → k < length degrees → SameSizes degrees (set degrees k lines)
-sizes-set degrees k lines size within =
-    record {
-      degrees = length-set degrees k lines;
-      lines = λ j.
-          elim (eqb_tells j k) [
-            | inl here ↦
-                ap (λ (j : ℕ). length (lines_at (set degrees k lines) j)) here.1
-                ∙ ap length (get_or-set_same degrees k lines [] within) ∙ size
-                ∙ ap (λ (j : ℕ). length (lines_at degrees j)) (sym here.1)
-            | inr other ↦ ap length (get_or-set_other degrees k j lines [] other.1)
-          ];
-    }
+sizes-set degrees k lines size within = grind (arith, nat_tests, degrees, lines, length-set, eqb_tells, get_or-set_same, get_or-set_other)
 
 module _ (k place : ℕ) (degrees : List (List (List Entry))) where
   -- other degrees stay
@@ -88,15 +77,11 @@ module _ (k place : ℕ) (degrees : List (List (List Entry))) where
 
 pub emptied-before : (k j place : ℕ) (degrees : List (List (List Entry))) → j + 1 ≡ k
     → emptied_before k place degrees ≡ emptied j place degrees
-emptied-before zero j place degrees next = absurd (omega (arith, next))
-emptied-before (suc k) j place degrees next =
-    let same : k ≡ j = omega (arith, next) in ap (λ (k : ℕ). emptied k place degrees) same
+emptied-before k j place degrees next = grind (arith, nat_tests)
 
 pub crossed_out-before : (k j place : ℕ) (degrees : List (List (List Entry))) → j + 1 ≡ k
     → crossed_out_before k place degrees ≡ crossed_out j place degrees
-crossed_out-before zero j place degrees next = absurd (omega (arith, next))
-crossed_out-before (suc k) j place degrees next =
-    let same : k ≡ j = omega (arith, next) in ap (λ (k : ℕ). crossed_out k place degrees) same
+crossed_out-before k j place degrees next = grind (arith, nat_tests)
 
 pub emptied_before-other : (k j place : ℕ) (degrees : List (List (List Entry))) → j + 1 ≢ k
     → lines_at (emptied_before k place degrees) j ≡ lines_at degrees j
@@ -105,9 +90,7 @@ emptied_before-other (suc k) j place degrees other = emptied-other k place degre
 
 pub crossed_out_before-other : (k j place : ℕ) (degrees : List (List (List Entry))) → j + 1 ≢ k
     → lines_at (crossed_out_before k place degrees) j ≡ lines_at degrees j
-crossed_out_before-other zero j place degrees other = refl
-crossed_out_before-other (suc k) j place degrees other =
-    crossed_out-other k place degrees j (λ same. other (omega (arith, same)))
+crossed_out_before-other k j place degrees other = grind (arith, nat_tests, degrees, crossed_out-other)
 
 pub emptied_before-sizes : (k place : ℕ) (degrees : List (List (List Entry))) → k < length degrees
     → SameSizes degrees (emptied_before k place degrees)
@@ -126,8 +109,7 @@ all-height : (p height size : ℕ) (lines : List (List Entry)) → height ≡ si
 all-height p height size lines same are = subst (λ (size : ℕ). All (AreEntries p size) lines) same are
 
 pub crossed-swapped : (p : ℕ) (lines across : List (List Entry)) → AreCrossed p lines across → AreCrossed p across lines
-crossed-swapped p lines across crossed =
-    record { in_lines = crossed.in_across; in_across = crossed.in_lines; same = λ place other. sym (crossed.same other place) }
+crossed-swapped p lines across crossed = grind (arith, nat_tests)
 
 crossed-cleared : (p place : ℕ) (lines across : List (List Entry)) → place < length lines → AreCrossed p lines across
     → AreCrossed p (set lines place []) (map (without place) across)
@@ -200,14 +182,4 @@ can_clear-cleared k first second lines across can can_second =
 pub can_clear-kept : (k place : ℕ) (lines across lines_after across_after : List (List (List Entry)))
     → length lines_after ≡ length lines → length across_after ≡ length across → lines_at lines_after k ≡ lines_at lines k
     → lines_at across_after k ≡ lines_at across k → CanClear k place lines across → CanClear k place lines_after across_after
-can_clear-kept k place lines across lines_after across_after lines_count across_count same_lines same_across can =
-    record {
-      has_lines = omega (arith, can.has_lines, lines_count);
-      has_across = omega (arith, can.has_across, across_count);
-      has_place = omega (arith, can.has_place, ap length same_lines);
-      crossed = (
-        can.crossed.0,
-        subst (λ (xs : List (List Entry)). AreCrossed can.crossed.0 xs (lines_at across_after k)) (sym same_lines)
-            (subst (AreCrossed can.crossed.0 (lines_at lines k)) (sym same_across) can.crossed.1),
-      );
-    }
+can_clear-kept k place lines across lines_after across_after lines_count across_count same_lines same_across can = grind (arith, nat_tests)

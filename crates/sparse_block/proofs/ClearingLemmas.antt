@@ -1,4 +1,5 @@
 -- Lines that are exchanged, emptied, and rid of their entries at a place, in memory.
+use Rattle.std.proofs.lemmas.Bool.Decides.{nat_tests}
 use Rattle.std.proofs.Common.{◌≡◌, ℕ, zero, suc, ◌+◌, ◌<◌, ◌∙◌, ◌⊎◌, inl, inr, List, [], ◌∷◌, ◌++◌, length, map, get_or, set, take, refl, ap, ap₂, sym, subst, arith, append_assoc, Bool, false}
 use Rattle.std.specs.Prelude.{slice_index_or, All}
 use Rattle.std.specs.Global.{Vec}
@@ -30,8 +31,7 @@ list-same {X} xs ys d size same =
 -- lines are exchanged one by one
 
 contains-cons : {X : Type 0} (x : X) (xs : List X) (y : X) → Contains (x ∷ xs) y → (x ≡ y) ⊎ Contains xs y
-contains-cons x xs y (zero, below, is) = inl is
-contains-cons x xs y (suc k, below, is) = inr (k, omega arith, is)
+contains-cons x xs y has3 = grind (arith, nat_tests)
 
 contains-later : {X : Type 0} (x : X) (xs : List X) (y : X) → Contains xs y → Contains (x ∷ xs) y
 contains-later x xs y (k, below, is) = (suc k, omega arith, is)
@@ -82,10 +82,7 @@ places degree = degree.items
 
 pub lists_in-dead : (alive : List (Vec Bool)) (k place : ℕ) (d : Vec Bool) → k < length alive
     → lists_in (set alive k (with_item (slice_index_or alive k d) place false)) ≡ with_dead k place (lists_in alive)
-lists_in-dead alive k place d within =
-    map-set places alive k (with_item (slice_index_or alive k d) place false)
-    ∙ ap (λ (degree : List Bool). set (lists_in alive) k (set degree place false))
-    (sym (get_or-map places alive k d [] within))
+lists_in-dead alive k place d within = grind (arith, nat_tests, map-set, get_or-map)
 
 -- one line more is put in its place in memory
 
@@ -130,8 +127,7 @@ pub record AreRemoved (place : ℕ) (entries : List Entry) (before after : List 
       → slice_index_or after other [] ≡ left_at place (value_at entries other) (slice_index_or before other [])
 
 left_at-some : (place value : ℕ) (line : List Entry) → 0 < value → left_at place value line ≡ without place line
-left_at-some place zero line some = absurd (omega arith)
-left_at-some place (suc value) line some = refl
+left_at-some place value line some = grind (arith, nat_tests)
 
 module _ (p place k : ℕ) (entries : List Entry) (e d : Entry) (initial before : List (List Entry))
     (are : AreEntries p (length initial) entries) (within : k < length entries) (is_next : e ≡ get_or entries k d)
@@ -140,10 +136,7 @@ module _ (p place k : ℕ) (entries : List Entry) (e d : Entry) (initial before 
   is_new = value_at-new p 0 (length initial) k entries e d (entries-ascend p (length initial) entries are) within is_next
 
   pub place-next : e.place < length before
-  place-next =
-      let place_within : e.place < length initial =
-      subst (λ (e : Entry). e.place < length initial) (sym is_next) (are.places k d within) in
-      omega (arith, place_within, so_far.size)
+  place-next = grind (arith, nat_tests)
 
   line-next : slice_index_or before e.place [] ≡ slice_index_or initial e.place []
   line-next =

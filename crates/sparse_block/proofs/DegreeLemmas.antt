@@ -1,4 +1,5 @@
 -- The degrees of a complex whose matrices the entries of columns denote, by their distance from the least one.
+use Rattle.std.proofs.lemmas.Bool.Decides.{nat_tests}
 use Rattle.std.proofs.Common.{◌≡◌, ℕ, ◌+◌, ◌<◌, ◌≤◌, ◌∙◌, inl, inr, List, [], ℤ, pos, negsuc, ◌+ℤ◌, ◌-ℤ◌, ◌<ℤ◌, length, map, get_or, ap, sym, arith, Bool}
 use Rattle.std.specs.Prelude.{slice_index_or}
 use Rattle.std.proofs.Math.ListN as plain
@@ -17,31 +18,15 @@ length-degrees_from alive columns = length-map-range_with_len (degree_from_lists
 -- past the end there are no places
 degree-past : (alive : List (List Bool)) (columns : List (List (List Entry))) (k : ℕ) → length alive ≤ k
     → degree_from_lists alive columns k ≡ empty_degree
-degree-past alive columns k past =
-    let entries : List (List Entry) = slice_index_or columns k [] in
-    ap
-    (λ (places : List Bool).
-    let degree : Degree =
-    record { alive = places; matrix = matrix_from (length (slice_index_or alive (k + 1) [])) entries } in degree)
-    (get_or_past alive k [] past)
-    ∙ ap
-    (λ (places : List Bool). let degree : Degree = record { alive = []; matrix = matrix_from (length places) entries } in degree)
-    (get_or_past alive (k + 1) [] (omega (arith, past)))
+degree-past alive columns k past = grind (arith, nat_tests, get_or_past)
 
 pub degree-within : (alive : List (List Bool)) (columns : List (List (List Entry))) (k : ℕ) (d : Degree) → k < length alive
     → get_or (degrees_from alive columns) k d ≡ degree_from_lists alive columns k
-degree-within alive columns k d within =
-    get_or-map-range_with_len (degree_from_lists alive columns) 0 (length alive) k k d within (omega arith)
+degree-within alive columns k d within = grind (arith, nat_tests, get_or-map-range_with_len)
 
 pub degree_number-from : (low : ℤ) (alive : List (List Bool)) (columns : List (List (List Entry))) (k : ℕ)
     → degree_number (complex_from low alive columns) k ≡ degree_from_lists alive columns k
-degree_number-from low alive columns k =
-    elim (leb_tells (length alive) k) [
-      | inl past ↦
-          get_or_past (degrees_from alive columns) k empty_degree (omega (arith, past.1, length-degrees_from alive columns))
-          ∙ sym (degree-past alive columns k past.1)
-      | inr within ↦ degree-within alive columns k empty_degree within.1
-    ]
+degree_number-from low alive columns k = grind (arith, nat_tests, leb_tells, get_or_past, length-degrees_from, degree-past, degree-within)
 
 pub degree_of-at : (low i : ℤ) (alive : List (List Bool)) (columns : List (List (List Entry))) (k : ℕ) → i ≡ low +ℤ pos k
     → degree_of (complex_from low alive columns) i ≡ degree_from_lists alive columns k
@@ -51,11 +36,7 @@ degree_of-at low i alive columns k is_distance =
 
 pub degree_of-below : (low i : ℤ) (alive : List (List Bool)) (columns : List (List (List Entry))) → i <ℤ low
     → degree_of (complex_from low alive columns) i ≡ empty_degree
-degree_of-below low i alive columns below = at (i -ℤ low) (omega (arith, ints))
-  where
-    at : (distance : ℤ) → i -ℤ low ≡ distance → degree_of (complex_from low alive columns) i ≡ empty_degree
-    at (pos k) is_distance = absurd (omega (arith, ints))
-    at (negsuc k) is_distance = ap (degree_from (complex_from low alive columns)) is_distance
+degree_of-below low i alive columns below = grind (arith, nat_tests)
 
 -- lists of the same lengths
 pub length-at : {X Y : Type 0} (xs : List (List X)) (ys : List (List Y)) (k : ℕ) → map length xs ≡ map length ys

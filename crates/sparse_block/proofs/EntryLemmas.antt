@@ -1,4 +1,5 @@
 -- The entries of a line of numbers, and the numbers at places that entries denote.
+use Rattle.std.proofs.lemmas.Bool.Decides.{nat_tests}
 use Rattle.std.proofs.Common.{◌≡◌, ◌≢◌, ℕ, zero, suc, ◌+◌, ◌<◌, ◌≤◌, ◌∙◌, inl, inr, List, [], ◌∷◌, ◌++◌, length, map, get_or, take, refl, ap, sym, subst, arith, Bool, false, cond, not, ◌&&◌}
 use Rattle.std.specs.Prelude.{Option, Some, slice_index, nat_eq, All}
 use Rattle.std.specs.List.{list_all, range_with_len, filter, find, enumerate_from}
@@ -17,38 +18,21 @@ abbrev value_in : Option Entry → ℕ
 value_in found = option_map_or (λ (e : Entry). e.value) found 0
 
 pub value_at-here : (e : Entry) (es : List Entry) (place : ℕ) → e.place ≡ place → value_at (e ∷ es) place ≡ e.value
-value_at-here e es place same =
-    elim (eqb_tells e.place place) [
-      | inl here ↦ ap (λ (b : Bool). value_in (cond b (Some e) (find (λ (e : Entry). nat_eq e.place place) es))) here.0
-      | inr other ↦ absurd (other.1 same)
-    ]
+value_at-here e es place same = grind (arith, nat_tests)
 
 pub value_at-later : (e : Entry) (es : List Entry) (place : ℕ) → e.place ≢ place → value_at (e ∷ es) place ≡ value_at es place
-value_at-later e es place differs =
-    elim (eqb_tells e.place place) [
-      | inl here ↦ absurd (differs here.1)
-      | inr other ↦ ap (λ (b : Bool). value_in (cond b (Some e) (find (λ (e : Entry). nat_eq e.place place) es))) other.0
-    ]
+value_at-later e es place differs = grind (arith, nat_tests)
 
 -- before the first entry it is 0
 pub value_at-before : (p a b place : ℕ) (es : List Entry) → Ascend p a b es → place < a → value_at es place ≡ 0
 value_at-before p a b place [] ascend before = refl
 value_at-before p a b place (e ∷ es) ascend before =
-    let differs : e.place ≢ place = λ same. omega (arith, ascend.0) in
-    value_at-later e es place differs
-    ∙ value_at-before p (e.place + 1) b place es ascend.4 (omega (arith, ascend.0))
+    grind (arith, nat_tests, value_at-later, value_at-before p (e.place + 1) b place es ascend.4 (omega (arith, ascend.0)))
 
 pub value_at-below : (p a b place : ℕ) (es : List Entry) → 0 < p → Ascend p a b es → value_at es place < p
 value_at-below p a b place [] positive ascend = positive
 value_at-below p a b place (e ∷ es) positive ascend =
-    elim (eqb_tells e.place place) [
-      | inl here ↦ omega (arith, value_at-here e es place here.1, ascend.3)
-      | inr other ↦ omega (
-        arith,
-        value_at-later e es place other.1,
-        value_at-below p (e.place + 1) b place es positive ascend.4,
-      )
-    ]
+    grind (arith, nat_tests, eqb_tells, value_at-here, value_at-later, value_at-below p (e.place + 1) b place es positive ascend.4)
 
 -- the entries of a line, by its first number
 
@@ -57,32 +41,19 @@ entries_from-zero a v line is_zero = ap (λ (v : ℕ). entries_from a (v ∷ lin
 
 pub entries_from-other : (a v : ℕ) (line : List ℕ) → 0 < v
     → entries_from a (v ∷ line) ≡ entry_at (a, v) ∷ entries_from (a + 1) line
-entries_from-other a v line other =
-    let rest : List (ℕ × ℕ) = filter (λ at. not (nat_eq at.1 0)) (enumerate_from (a + 1) line) in
-    elim (eqb_tells v 0) [
-      | inl none ↦ absurd (omega (arith, none.1))
-      | inr some ↦ ap (λ (b : Bool). map entry_at (cond (not b) ((a, v) ∷ rest) rest)) some.0
-    ]
+entries_from-other a v line other = grind (arith, nat_tests)
 
 -- the entries of a longer line
 pub entries_from-push : (a v : ℕ) (line : List ℕ)
     → entries_from a (line ++ v ∷ []) ≡ entries_from a line ++ entries_from (a + length line) (v ∷ [])
-entries_from-push a v line =
-    let test : ℕ × ℕ → Bool = λ at. not (nat_eq at.1 0) in
-    let front : List (ℕ × ℕ) = enumerate_from a line in
-    let last : List (ℕ × ℕ) = (a + length line, v) ∷ [] in
-    ap (λ (xs : List (ℕ × ℕ)). map entry_at (filter test xs)) (enumerate_from-push a line v)
-    ∙ ap (λ (xs : List (ℕ × ℕ)). map entry_at xs) (filter-append test front last)
-    ∙ map-append entry_at (filter test front) (filter test last)
+entries_from-push a v line = grind (arith, nat_tests, enumerate_from-push, filter-append, map-append)
 
 -- entries that ascend are those of the line that they denote
 
 pub map-range_agree : {X : Type 0} (f g : ℕ → X) (a n : ℕ) → ((x : ℕ) → a ≤ x → f x ≡ g x)
     → map f (range_with_len a n) ≡ map g (range_with_len a n)
 map-range_agree f g a zero same = refl
-map-range_agree {X} f g a (suc n) same =
-    ap (λ (x : X). x ∷ map f (range_with_len (a + 1) n)) (same a (omega arith))
-    ∙ ap (λ (xs : List X). g a ∷ xs) (map-range_agree f g (a + 1) n (λ x from. same x (omega arith)))
+map-range_agree {X} f g a (suc n) same = grind (arith, nat_tests, map-range_agree f g (a + 1) n (λ x from. same x (omega arith)))
 
 entries_from-line : (p a n b : ℕ) (es : List Entry) → a + n ≡ b → Ascend p a b es
     → entries_from a (map (value_at es) (range_with_len a n)) ≡ es
@@ -118,16 +89,9 @@ ascend-entries_from : (p a b : ℕ) (line : List ℕ) → a + length line ≡ b 
     → Ascend p a b (entries_from a line)
 ascend-entries_from p a b [] ends below = tt
 ascend-entries_from p a b (zero ∷ line) ends below =
-    ascend-earlier p a (a + 1) b (entries_from (a + 1) line) (omega arith)
-    (ascend-entries_from p (a + 1) b line (omega (arith, ends)) (All-tail (λ (x : ℕ). x < p) zero line below))
+    grind (arith, nat_tests, ascend-earlier, All-tail, ascend-entries_from p (a + 1) b line (omega (arith, ends)) (All-tail (λ (x : ℕ). x < p) zero line below))
 ascend-entries_from p a b (suc v ∷ line) ends below =
-    subst (Ascend p a b) (sym (entries_from-other a (suc v) line (omega arith))) (
-      omega arith,
-      omega (arith, ends),
-      omega arith,
-      All-head (λ (x : ℕ). x < p) (suc v) line below,
-      ascend-entries_from p (a + 1) b line (omega (arith, ends)) (All-tail (λ (x : ℕ). x < p) (suc v) line below),
-    )
+    grind (arith, nat_tests, Ascend, entries_from-other, All-head, All-tail, ascend-entries_from p (a + 1) b line (omega (arith, ends)) (All-tail (λ (x : ℕ). x < p) (suc v) line below))
 
 pub entries-entries_of : (p : ℕ) (line : List ℕ) → All (λ x. x < p) line → AreEntries p (length line) (entries_of line)
 entries-entries_of p line below =
@@ -137,9 +101,7 @@ value_at-entries_before : (a place : ℕ) (line : List ℕ) → place < a → va
 value_at-entries_before a place [] before = refl
 value_at-entries_before a place (zero ∷ line) before = value_at-entries_before (a + 1) place line (omega arith)
 value_at-entries_before a place (suc v ∷ line) before =
-    ap (λ (es : List Entry). value_at es place) (entries_from-other a (suc v) line (omega arith))
-    ∙ value_at-later (entry_at (a, suc v)) (entries_from (a + 1) line) place (λ same. omega (arith, same))
-    ∙ value_at-entries_before (a + 1) place line (omega arith)
+    grind (arith, nat_tests, entries_from-other, value_at-later, value_at-entries_before (a + 1) place line (omega arith))
 
 value_at-entries_from : (a k place : ℕ) (line : List ℕ) → a + k ≡ place
     → value_at (entries_from a line) place ≡ slice_index line k
@@ -147,13 +109,9 @@ value_at-entries_from a k place [] is_place = refl
 value_at-entries_from a zero place (zero ∷ line) is_place = value_at-entries_before (a + 1) place line (omega (arith, is_place))
 value_at-entries_from a (suc k) place (zero ∷ line) is_place =
     value_at-entries_from (a + 1) k place line (omega (arith, is_place))
-value_at-entries_from a zero place (suc v ∷ line) is_place =
-    ap (λ (es : List Entry). value_at es place) (entries_from-other a (suc v) line (omega arith))
-    ∙ value_at-here (entry_at (a, suc v)) (entries_from (a + 1) line) place (omega (arith, is_place))
+value_at-entries_from a zero place (suc v ∷ line) is_place = grind (arith, nat_tests, entries_from-other, value_at-here)
 value_at-entries_from a (suc k) place (suc v ∷ line) is_place =
-    ap (λ (es : List Entry). value_at es place) (entries_from-other a (suc v) line (omega arith))
-    ∙ value_at-later (entry_at (a, suc v)) (entries_from (a + 1) line) place (λ same. omega (arith, same, is_place))
-    ∙ value_at-entries_from (a + 1) k place line (omega (arith, is_place))
+    grind (arith, nat_tests, entries_from-other, value_at-later, value_at-entries_from (a + 1) k place line (omega (arith, is_place)))
 
 pub value_at-entries_of : (line : List ℕ) (place : ℕ) → value_at (entries_of line) place ≡ slice_index line place
 value_at-entries_of line place = value_at-entries_from 0 place place line (omega arith)
@@ -180,15 +138,9 @@ length-entries_of line = length-entries_from 0 line
 pub value_at-more : (k place : ℕ) (es : List Entry) (e d : Entry) → k < length es → e ≡ get_or es k d → e.place ≢ place
     → value_at (take (suc k) es) place ≡ value_at (take k es) place
 value_at-more k place [] e d within is_next differs = absurd (omega arith)
-value_at-more zero place (f ∷ es) e d within is_next differs =
-    value_at-later f [] place (λ same. differs (ap (λ (e : Entry). e.place) is_next ∙ same))
+value_at-more zero place (f ∷ es) e d within is_next differs = grind (arith, nat_tests, value_at-later)
 value_at-more (suc k) place (f ∷ es) e d within is_next differs =
-    let rest = value_at-more k place es e d (omega (arith, within)) is_next differs in
-    elim (eqb_tells f.place place) [
-      | inl here ↦ value_at-here f (take (suc k) es) place here.1 ∙ sym (value_at-here f (take k es) place here.1)
-      | inr other ↦
-          value_at-later f (take (suc k) es) place other.1 ∙ rest ∙ sym (value_at-later f (take k es) place other.1)
-    ]
+    grind (arith, nat_tests, eqb_tells, value_at-here, value_at-later, value_at-more k place es e d (omega (arith, within)) is_next differs)
 
 -- at the place of the new entry it was 0, and is its value
 pub record IsNew (k : ℕ) (es : List Entry) (e : Entry) : Type 0 where

@@ -1,4 +1,5 @@
 -- Lines in memory that are counted where they have an entry, and empty ones behind them.
+use Rattle.std.proofs.lemmas.Bool.Decides.{nat_tests}
 use Rattle.std.proofs.Common.{◌≡◌, ◌≢◌, ℕ, zero, suc, ◌+◌, ◌-◌, ◌<◌, ◌≤◌, ◌∙◌, inl, inr, List, [], ◌∷◌, ◌++◌, length, get_or, set, replicate, refl, ap, ap₂, sym, subst, arith, append-nil, Bool, true, false, cond, not}
 use Rattle.std.specs.Prelude.{slice_index_or, nat_eq, min, ◌&&◌}
 use Rattle.std.specs.List.{list_all}
@@ -25,18 +26,10 @@ abbrev one : List Entry → ℕ
 one line = cond (has_entries line) 1 0
 
 one-length : (line : List Entry) → one line ≡ min (length line) 1
-one-length line =
-    elim (eqb_tells (length line) 0) [
-      | inl none ↦ ap (λ (b : Bool). cond (not b) 1 0) none.0 ∙ omega (arith, none.1)
-      | inr some ↦ ap (λ (b : Bool). cond (not b) 1 0) some.0 ∙ omega (arith, some.1)
-    ]
+one-length line = grind (arith, nat_tests)
 
 not_one : (line : List Entry) → nat_eq (one line) 0 ≡ nat_eq (length line) 0
-not_one line =
-    elim (eqb_tells (length line) 0) [
-      | inl none ↦ ap (λ (b : Bool). nat_eq (cond (not b) 1 0) 0) none.0 ∙ sym none.0
-      | inr some ↦ ap (λ (b : Bool). nat_eq (cond (not b) 1 0) 0) some.0 ∙ sym some.0
-    ]
+not_one line = grind (arith, nat_tests)
 
 all-alike : (f g : List Entry → Bool) (lines : List (List Entry)) → ((line : List Entry) → f line ≡ g line)
     → list_all f lines ≡ list_all g lines
@@ -44,25 +37,14 @@ all-alike f g [] same = refl
 all-alike f g (line ∷ lines) same = ap₂ (λ (a b : Bool). a && b) (same line) (all-alike f g lines same)
 
 pub no_entries-counted : (lines : List (List Entry)) → nat_eq (filled_count lines) 0 ≡ no_entries lines
-no_entries-counted lines =
-    sum_by-zero one lines ∙ all-alike (λ line. nat_eq (one line) 0) (λ line. nat_eq (length line) 0) lines not_one
+no_entries-counted lines = grind (arith, nat_tests, sum_by-zero, all-alike, not_one)
 
 -- one line has another length
 pub recounted : (lines : List (List Entry)) (place count result before after : ℕ) (line : List Entry) → place < length lines
     → count ≡ filled_count lines → before ≡ length (slice_index_or lines place []) → after ≡ length line
     → result + min before 1 ≡ count + min after 1 → result ≡ filled_count (set lines place line)
 recounted lines place count result before after line within is_count is_before is_after is_result =
-    let old = slice_index_or lines place [] in
-    let change : filled_count (set lines place line) + one old ≡ filled_count lines + one line =
-    sum_by-set one lines place line [] within in
-    omega (
-      arith,
-      is_count,
-      is_result,
-      change,
-      one-length old ∙ ap (λ (n : ℕ). min n 1) (sym is_before),
-      one-length line ∙ ap (λ (n : ℕ). min n 1) (sym is_after),
-    )
+    grind (arith, nat_tests, sum_by-set, one-length)
 
 -- the count has the line in it
 pub filled-counted : (lines : List (List Entry)) (place count before : ℕ) → place < length lines → count ≡ filled_count lines
@@ -102,13 +84,10 @@ line-empty (suc n) zero = refl
 line-empty (suc n) (suc place) = line-empty n place
 
 and_true : (b : Bool) → (b && true) ≡ b
-and_true true = refl
-and_true false = refl
+and_true b = grind (arith, nat_tests)
 
 pub no_entries-padded : (size : ℕ) (lines : List (List Entry)) → no_entries (padded size lines) ≡ no_entries lines
-no_entries-padded size lines =
-    list_all-append (λ line. nat_eq (length line) 0) lines (replicate (size - length lines) [])
-    ∙ ap (λ (b : Bool). no_entries lines && b) (no_entries-empty (size - length lines)) ∙ and_true (no_entries lines)
+no_entries-padded size lines = grind (arith, nat_tests, list_all-append, no_entries-empty, and_true)
 
 line-appended : (lines : List (List Entry)) (n place : ℕ)
     → slice_index_or (lines ++ replicate n []) place [] ≡ slice_index_or lines place []
@@ -121,9 +100,7 @@ pub line-padded : (size : ℕ) (lines : List (List Entry)) (place : ℕ)
 line-padded size lines place = line-appended lines (size - length lines) place
 
 pub padded-whole : (size : ℕ) (lines : List (List Entry)) → length lines ≡ size → padded size lines ≡ lines
-padded-whole size lines whole =
-    let none : size - length lines ≡ 0 = omega (arith, whole) in
-    ap (λ (n : ℕ). lines ++ replicate n []) none ∙ append-nil lines
+padded-whole size lines whole = grind (arith, nat_tests, append-nil)
 
 -- an empty line is written where no line is in memory
 pub padded-unset : {size count : ℕ} (lines : List (List Entry)) (place : ℕ) (line : List Entry) → AreHeld size lines count
@@ -137,11 +114,7 @@ padded-unset {size} {count} lines place line held past is_empty =
 all-empty : (lines : List (List Entry)) → no_entries lines ≡ true → lines ≡ replicate (length lines) []
 all-empty [] none = refl
 all-empty ([] ∷ lines) none = ap (λ (lines : List (List Entry)). [] ∷ lines) (all-empty lines none)
-all-empty ((e ∷ es) ∷ lines) none =
-    elim (eqb_tells (suc (length es)) 0) [
-      | inl same ↦ absurd (omega (arith, same.1))
-      | inr other ↦ absurd (false≢true (sym (ap (λ (b : Bool). b && no_entries lines) other.0) ∙ none))
-    ]
+all-empty ((e ∷ es) ∷ lines) none = grind (arith, nat_tests, eqb_tells, false≢true)
 
 pub padded-let_go : {size count : ℕ} (lines : List (List Entry)) → AreHeld size lines count → count ≡ 0
     → padded size [] ≡ padded size lines
@@ -159,13 +132,7 @@ padded-let_go {size} {count} lines held none =
 -- some line has an entry, so all are in memory
 pub held-whole : {size count : ℕ} (lines : List (List Entry)) → AreHeld size lines count → no_entries (padded size lines) ≡ false
     → length lines ≡ size
-held-whole {size} {count} lines held some =
-    elim held.whole [
-      | inl whole ↦ whole
-      | inr let_go ↦
-          absurd
-          (false≢true (sym some ∙ no_entries-padded size lines ∙ ap no_entries let_go))
-    ]
+held-whole {size} {count} lines held some = grind (arith, nat_tests, false≢true, no_entries-padded)
 
 -- lines in memory are exchanged
 pub padded-exchanged : {size count : ℕ} (named : List PlacedLine) (lines after : List (List Entry)) → AreHeld size lines count
@@ -187,7 +154,4 @@ pub some-entries : (lines : List (List Entry)) (place at : ℕ) → value_at (sl
 some-entries lines place at some = decided (no_entries lines) refl
   where
     decided : (b : Bool) → no_entries lines ≡ b → no_entries lines ≡ false
-    decided false is = is
-    decided true is =
-        absurd
-        (some (ap (λ (es : List Entry). value_at es at) (line-none lines place is)))
+    decided b is = grind (arith, nat_tests, line-none)

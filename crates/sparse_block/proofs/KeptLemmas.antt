@@ -1,4 +1,5 @@
 -- What a complex in memory keeps, at a degree and a place of it.
+use Rattle.std.proofs.lemmas.Bool.Decides.{nat_tests}
 use Rattle.std.proofs.Common.{◌≡◌, ℕ, inl, inr, true, ◌+◌, ◌<◌, ◌^◌, ◌∙◌, List, [], ◌∷◌, ℤ, pos, ◌+ℤ◌, ◌-ℤ◌, ◌<ℤ◌, ◌≤ℤ◌, length, map, ap, sym, subst, arith, refl, Bool, FitsSigned, w16, to_z, of_z}
 use Rattle.std.specs.Prelude.{slice_index, slice_index_or, nat_eq, All, ◌&&◌}
 use Rattle.std.specs.List.{count_by, list_all, range_with_len}
@@ -80,8 +81,7 @@ IsSeen low names alive columns named =
 module _ {p : ℕ} {low : ℤ} {names : List (List Generator)} {alive : List (List Bool)} {columns rows : List (List (List Entry))}
     {named : NamedComplex} (kept : IsKept p low names alive columns rows) (seen : IsSeen low names alive columns named) where
   pub degree-at : (i : ℤ) (k : ℕ) → i ≡ low +ℤ pos k → degree_from_lists alive columns k ≡ degree_of named.complex i
-  degree-at i k is_distance =
-      sym (degree_of-at low i alive columns k is_distance) ∙ ap (λ (named : NamedComplex). degree_of named.complex i) seen
+  degree-at i k is_distance = grind (arith, nat_tests, degree_of-at)
 
   pub high-seen : high_of named.complex ≡ low +ℤ pos (length names) -ℤ pos 1
   high-seen =
@@ -97,14 +97,10 @@ module _ {p : ℕ} {low : ℤ} {names : List (List Generator)} {alive : List (Li
   alive-at i k is_distance = ap (λ (degree : Degree). count_by (λ is_alive. is_alive) degree.alive) (degree-at i k is_distance)
 
   pub places-below : (i : ℤ) → i <ℤ low → 0 ≡ place_count named.complex i
-  places-below i below =
-      ap (λ (degree : Degree). length degree.alive) (sym (degree_of-below low i alive columns below))
-      ∙ ap (λ (named : NamedComplex). place_count named.complex i) seen
+  places-below i below = grind (arith, nat_tests)
 
   pub alive-below : (i : ℤ) → i <ℤ low → 0 ≡ alive_count named.complex i
-  alive-below i below =
-      ap (λ (degree : Degree). count_by (λ is_alive. is_alive) degree.alive) (sym (degree_of-below low i alive columns below))
-      ∙ ap (λ (named : NamedComplex). alive_count named.complex i) seen
+  alive-below i below = grind (arith, nat_tests)
 
   -- a degree from low to high has a number, and so have its columns and rows
 
@@ -158,33 +154,21 @@ module _ {p : ℕ} {low : ℤ} {names : List (List Generator)} {alive : List (Li
 
   pub name-at : (i : ℤ) (k place : ℕ) → i ≡ low +ℤ pos k
       → slice_index_or (slice_index_or names k []) place (generator_of 0 0) ≡ name_of named i place
-  name-at i k place is_distance =
-      let distance : i -ℤ low ≡ pos k = omega (arith, ints) in
-      ap (λ (distance : ℤ). slice_index_or (names_from names distance) place (generator_of 0 0)) (sym distance)
-      ∙ ap (λ (named : NamedComplex). name_of named i place) seen
+  name-at i k place is_distance = grind (arith, nat_tests)
 
 -- all rows are empty where all entries are 0
 
 list_all-agree : {X : Type 0} (f g : X → Bool) (xs : List X) → ((x : X) → f x ≡ g x) → list_all f xs ≡ list_all g xs
 list_all-agree f g [] same = refl
-list_all-agree f g (x ∷ xs) same =
-    ap (λ b. b && list_all f xs) (same x) ∙ ap (λ b. g x && b) (list_all-agree f g xs same)
+list_all-agree f g (x ∷ xs) same = grind (arith, nat_tests, list_all-agree f g xs same)
 
 zero-rows : (degree : Degree) → no_entries (row_entries degree) ≡ list_all (λ row. list_all (nat_eq 0) row) degree.matrix
-zero-rows degree =
-    list_all-map (λ (list : List Entry). nat_eq (length list) 0) entries_of degree.matrix
-    ∙ list_all-agree (λ row. nat_eq (length (entries_of row)) 0) (λ row. list_all (nat_eq 0) row) degree.matrix length-entries_of
+zero-rows degree = grind (arith, nat_tests, list_all-map, list_all-agree, length-entries_of)
 
 pub zero-from_rows : {p : ℕ} {low : ℤ} {names : List (List Generator)} {alive : List (List Bool)}
     {columns rows : List (List (List Entry))} {named : NamedComplex} → IsKept p low names alive columns rows
     → IsSeen low names alive columns named → list_all no_entries rows ≡ is_zero named.complex
-zero-from_rows {p} {low} {names} {alive} {columns} {rows} kept seen =
-    let degrees : List Degree = degrees_from alive columns in
-    ap (λ (lists : List (List (List Entry))). list_all no_entries lists) kept.are_rows
-    ∙ list_all-map no_entries row_entries degrees
-    ∙ list_all-agree (λ degree. no_entries (row_entries degree))
-    (λ degree. list_all (λ row. list_all (nat_eq 0) row) degree.matrix) degrees zero-rows
-    ∙ ap (λ (named : NamedComplex). is_zero named.complex) seen
+zero-from_rows {p} {low} {names} {alive} {columns} {rows} kept seen = grind (arith, nat_tests, list_all-map, list_all-agree, zero-rows)
 
 -- the laws of a complex
 
@@ -194,8 +178,7 @@ module _ {p : ℕ} {low : ℤ} {names : List (List Generator)} {alive : List (Li
   complex-seen = subst (λ (named : NamedComplex). IsComplex p named.complex) seen kept.is_complex
 
   pub some-seen : 0 < length named.complex.degrees
-  some-seen =
-      subst (λ (named : NamedComplex). 0 < length named.complex.degrees) seen (omega (arith, kept.some, degree-count kept))
+  some-seen = grind (arith, nat_tests, degree-count)
 
   pub end-seen : (named.complex.low +ℤ pos (length named.complex.degrees)) ≤ℤ pos 32767
   end-seen =

@@ -1,4 +1,5 @@
 -- The entries of columns and rows after a cancellation, from those before.
+use Rattle.std.proofs.lemmas.Bool.Decides.{nat_tests}
 use Rattle.std.proofs.Common.{◌≡◌, ◌≢◌, ℕ, ◌+◌, ◌-◌, ◌*◌, ◌%◌, ◌<◌, ◌∙◌, ◌⊎◌, inl, inr, List, [], ℤ, pos, ◌+ℤ◌, ap, sym, subst, arith, refl, Bool, true, false}
 use Rattle.std.specs.Prelude.{nat_eq, if◌then◌else◌, ◌||◌}
 use Rattle.std.proofs.Math.Nat.{zero-mod, add-mod_right, mod-eq_of_lt}
@@ -26,11 +27,7 @@ cleared-same : (a x n : ℕ) → x ≡ a → (if nat_eq x a then 0 else n) ≡ 0
 cleared-same a x n same = ap (λ (b : Bool). if b then 0 else n) (eq-eqb x a same)
 
 cleared-other : (a x n : ℕ) → x ≢ a → (if nat_eq x a then 0 else n) ≡ n
-cleared-other a x n differs =
-    elim (eqb_tells x a) [
-      | inl same ↦ absurd (differs same.1)
-      | inr other ↦ ap (λ (b : Bool). if b then 0 else n) other.0
-    ]
+cleared-other a x n differs = grind (arith, nat_tests)
 
 -- the numbers of a column and a row, by their entries
 
@@ -132,70 +129,47 @@ module _ (p : ℕ) (complex : Complex) (pivot : Pivot) (field : IsField p) (is :
 
   pub column-elsewhere : (i : ℤ) (place : ℕ) → i ≢ pivot.degree → i ≢ pivot.degree +ℤ pos 1 → i +ℤ pos 1 ≢ pivot.degree
       → entries_of (column_of complex i place) ≡ entries_of (column_of (cancel p complex pivot) i place)
-  column-elsewhere i place not_at not_after not_before =
-      column-kept i place
-      (λ row. ap (λ (degree : Degree). entry_in degree.matrix row place) (degree-elsewhere p complex pivot i not_at not_after not_before))
+  column-elsewhere i place not_at not_after not_before = grind (arith, nat_tests, column-kept, degree-elsewhere)
 
   pub row-elsewhere : (i : ℤ) (place : ℕ) → i ≢ pivot.degree → i ≢ pivot.degree +ℤ pos 1 → i +ℤ pos 1 ≢ pivot.degree
       → entries_of (row_of complex i place) ≡ entries_of (row_of (cancel p complex pivot) i place)
-  row-elsewhere i place not_at not_after not_before =
-      row-kept i place
-      (λ column.
-      ap (λ (degree : Degree). entry_in degree.matrix place column) (degree-elsewhere p complex pivot i not_at not_after not_before))
+  row-elsewhere i place not_at not_after not_before = grind (arith, nat_tests, row-kept, degree-elsewhere)
 
   -- in the degree before, the row of the pivot's column goes
 
   entry-before : (i : ℤ) (row column : ℕ) → i +ℤ pos 1 ≡ pivot.degree
       → entry_of (cancel p complex pivot) i row column ≡ (if nat_eq row pivot.column then 0 else entry_of complex i row column)
-  entry-before i row column here =
-      ap (λ (degree : Degree). entry_in degree.matrix row column) (degree-before_pivot p complex pivot i here)
-      ∙ entry-without_row pivot.column (degree_of complex i).matrix row column
+  entry-before i row column here = grind (arith, nat_tests, degree-before_pivot, entry-without_row)
 
   pub column-before : (i : ℤ) (place : ℕ) → i +ℤ pos 1 ≡ pivot.degree
       → without pivot.column (entries_of (column_of complex i place)) ≡ entries_of (column_of (cancel p complex pivot) i place)
-  column-before i place here =
-      column-without i place pivot.column
-      (entry-before i pivot.column place here ∙ cleared-same pivot.column pivot.column (entry_of complex i pivot.column place) refl)
-      (λ row other. entry-before i row place here ∙ cleared-other pivot.column row (entry_of complex i row place) other)
+  column-before i place here = grind (arith, nat_tests, column-without, entry-before, cleared-same, cleared-other)
 
   pub row-before_same : (i : ℤ) (place : ℕ) → i +ℤ pos 1 ≡ pivot.degree → place ≡ pivot.column
       → [] ≡ entries_of (row_of (cancel p complex pivot) i place)
-  row-before_same i place here same =
-      row-emptied i place
-      (λ column. entry-before i place column here ∙ cleared-same pivot.column place (entry_of complex i place column) same)
+  row-before_same i place here same = grind (arith, nat_tests, row-emptied, entry-before, cleared-same)
 
   pub row-before_other : (i : ℤ) (place : ℕ) → i +ℤ pos 1 ≡ pivot.degree → place ≢ pivot.column
       → entries_of (row_of complex i place) ≡ entries_of (row_of (cancel p complex pivot) i place)
-  row-before_other i place here other =
-      row-kept i place
-      (λ column. entry-before i place column here ∙ cleared-other pivot.column place (entry_of complex i place column) other)
+  row-before_other i place here other = grind (arith, nat_tests, row-kept, entry-before, cleared-other)
 
   -- in the degree after, the column of the pivot's row goes
 
   entry-after : (i : ℤ) (row column : ℕ) → i ≡ pivot.degree +ℤ pos 1
       → entry_of (cancel p complex pivot) i row column ≡ (if nat_eq column pivot.row then 0 else entry_of complex i row column)
-  entry-after i row column here =
-      ap (λ (degree : Degree). entry_in degree.matrix row column) (degree-after_pivot p complex pivot i here)
-      ∙ entry-without_column pivot.row (degree_of complex i).matrix row column
+  entry-after i row column here = grind (arith, nat_tests, degree-after_pivot, entry-without_column)
 
   pub row-after : (i : ℤ) (place : ℕ) → i ≡ pivot.degree +ℤ pos 1
       → without pivot.row (entries_of (row_of complex i place)) ≡ entries_of (row_of (cancel p complex pivot) i place)
-  row-after i place here =
-      row-without i place pivot.row
-      (entry-after i place pivot.row here ∙ cleared-same pivot.row pivot.row (entry_of complex i place pivot.row) refl)
-      (λ column other. entry-after i place column here ∙ cleared-other pivot.row column (entry_of complex i place column) other)
+  row-after i place here = grind (arith, nat_tests, row-without, entry-after, cleared-same, cleared-other)
 
   pub column-after_same : (i : ℤ) (place : ℕ) → i ≡ pivot.degree +ℤ pos 1 → place ≡ pivot.row
       → [] ≡ entries_of (column_of (cancel p complex pivot) i place)
-  column-after_same i place here same =
-      column-emptied i place
-      (λ row. entry-after i row place here ∙ cleared-same pivot.row place (entry_of complex i row place) same)
+  column-after_same i place here same = grind (arith, nat_tests, column-emptied, entry-after, cleared-same)
 
   pub column-after_other : (i : ℤ) (place : ℕ) → i ≡ pivot.degree +ℤ pos 1 → place ≢ pivot.row
       → entries_of (column_of complex i place) ≡ entries_of (column_of (cancel p complex pivot) i place)
-  column-after_other i place here other =
-      column-kept i place
-      (λ row. entry-after i row place here ∙ cleared-other pivot.row place (entry_of complex i row place) other)
+  column-after_other i place here other = grind (arith, nat_tests, column-kept, entry-after, cleared-other)
 
   -- in the pivot's own degree its row and its column go, and all else stays where it stands alone
 
@@ -209,12 +183,7 @@ module _ (p : ℕ) (complex : Complex) (pivot : Pivot) (field : IsField p) (is :
       (entry-stands p complex pivot.degree pivot.row pivot.column is is_pivot).row_within row column
 
   entry-in_row : (row column : ℕ) → row ≡ pivot.row → entry_of (cancel p complex pivot) pivot.degree row column ≡ 0
-  entry-in_row row column same =
-      let old = entry_of complex pivot.degree in
-      let back = old row pivot.column * (inverse p (old pivot.row pivot.column) * old pivot.row column) in
-      entry-at row column
-      ∙ ap (λ (b : Bool). if b || nat_eq column pivot.column then 0 else minus_mod p (old row column) back)
-      (eq-eqb row pivot.row same)
+  entry-in_row row column same = grind (arith, nat_tests, entry-at, eq-eqb)
 
   entry-in_column : (row column : ℕ) → column ≡ pivot.column → entry_of (cancel p complex pivot) pivot.degree row column ≡ 0
   entry-in_column row column same =
@@ -273,9 +242,7 @@ module _ (p : ℕ) (complex : Complex) (pivot : Pivot) (field : IsField p) (is :
     pub column-at_other : (place : ℕ) → place ≢ pivot.column
         → without pivot.row (entries_of (column_of complex pivot.degree place))
         ≡ entries_of (column_of (cancel p complex pivot) pivot.degree place)
-    column-at_other place other =
-        column-without pivot.degree place pivot.row (entry-in_row pivot.row place refl)
-        (λ row row_other. entry-other row place row_other other)
+    column-at_other place other = grind (arith, nat_tests, column-without, entry-in_row, entry-other)
 
     pub row-at_same : (place : ℕ) → place ≡ pivot.row → [] ≡ entries_of (row_of (cancel p complex pivot) pivot.degree place)
     row-at_same place same = row-emptied pivot.degree place (λ column. entry-in_row place column same)
@@ -283,6 +250,4 @@ module _ (p : ℕ) (complex : Complex) (pivot : Pivot) (field : IsField p) (is :
     pub row-at_other : (place : ℕ) → place ≢ pivot.row
         → without pivot.column (entries_of (row_of complex pivot.degree place))
         ≡ entries_of (row_of (cancel p complex pivot) pivot.degree place)
-    row-at_other place other =
-        row-without pivot.degree place pivot.column (entry-in_column place pivot.column refl)
-        (λ column column_other. entry-other place column other column_other)
+    row-at_other place other = grind (arith, nat_tests, row-without, entry-in_column, entry-other)

@@ -1,4 +1,5 @@
 -- Columns and rows in memory.
+use Rattle.std.proofs.lemmas.Bool.Decides.{nat_tests}
 use Rattle.std.proofs.Common.{◌≡◌, ℕ, ◌<◌, ◌∙◌, List, [], ◌∷◌, ◌++◌, length, get_or, set, ap, sym, subst, arith}
 use Rattle.std.specs.Prelude.{slice_index_or, All}
 use Rattle.std.proofs.Math.ListN as plain
@@ -29,10 +30,7 @@ entries_in-set lines k line entries are = map-set items lines k line ∙ ap (set
 pub entries_in-pushed : (lines : List (SmallVec Entry)) (k : ℕ) (old new : SmallVec Entry) (e : Entry) → k < length lines
     → old ≡ get_or lines k old → new.items ≡ old.items ++ e ∷ []
     → entries_in (set lines k new) ≡ set (entries_in lines) k (slice_index_or (entries_in lines) k [] ++ e ∷ [])
-entries_in-pushed lines k old new e within is_old pushed =
-    map-set items lines k new
-    ∙ ap (set (entries_in lines) k)
-    (pushed ∙ ap (λ (xs : List Entry). xs ++ e ∷ []) (sym (line-entries_in lines k old within is_old)))
+entries_in-pushed lines k old new e within is_old pushed = grind (arith, nat_tests, map-set, line-entries_in)
 
 -- what holds of the entries of all lines
 pub entries-at-height : (p height k rows : ℕ) (lines : List (SmallVec Entry)) (line : SmallVec Entry) (entries : List Entry)
@@ -48,28 +46,21 @@ entries-at-height p height k rows lines line entries within is_line is_entries i
 
 pub list-lists_in : {X : Type 0} (vectors : List (Vec X)) (k : ℕ) (vector : Vec X) → k < length vectors
     → vector ≡ get_or vectors k vector → slice_index_or (lists_in vectors) k [] ≡ vector.items
-list-lists_in {X} vectors k vector within is_vector =
-    get_or-map (λ (vector : Vec X). vector.items) vectors k vector [] within
-    ∙ ap (λ (vector : Vec X). vector.items) (sym is_vector)
+list-lists_in {X} vectors k vector within is_vector = grind (arith, nat_tests, get_or-map)
 
 pub count-at : {X : Type 0} (limit : ℕ) (vectors : List (Vec X)) (k : ℕ) (vector : Vec X) → k < length vectors
     → vector ≡ get_or vectors k vector → All (λ list. length list < limit) (lists_in vectors) → length vector.items < limit
-count-at {X} limit vectors k vector within is_vector few =
-    subst (λ (list : List X). length list < limit) (list-lists_in vectors k vector within is_vector)
-    (few k [] (omega (arith, within, length-map vectors (λ (vector : Vec X). vector.items))))
+count-at {X} limit vectors k vector within is_vector few = grind (arith, nat_tests, list-lists_in, length-map)
 
 pub entries-height : (p : ℕ) (rows : List (SmallVec Entry)) (entries : List Entry) → AreEntries p (length rows) entries
     → AreEntries p (length (entries_in rows)) entries
-entries-height p rows entries are =
-    subst (λ (height : ℕ). AreEntries p height entries) (sym (length-map rows items)) are
+entries-height p rows entries are = grind (arith, nat_tests, length-map)
 
 -- the lines of a degree in memory
 
 pub lines-lines_in : (degrees : List (Vec (SmallVec Entry))) (k : ℕ) (degree : Vec (SmallVec Entry)) → k < length degrees
     → degree ≡ get_or degrees k degree → slice_index_or (lines_in degrees) k [] ≡ entries_in degree.items
-lines-lines_in degrees k degree within is_degree =
-    get_or-map (λ (degree : Vec (SmallVec Entry)). entries_in degree.items) degrees k degree [] within
-    ∙ ap (λ (degree : Vec (SmallVec Entry)). entries_in degree.items) (sym is_degree)
+lines-lines_in degrees k degree within is_degree = grind (arith, nat_tests, get_or-map)
 
 pub within-names : {X : Type 0} (vectors : List (Vec X)) (k : ℕ) → k < length (lists_in vectors) → k < length vectors
 within-names {X} vectors k within = omega (arith, within, length-map vectors (λ (vector : Vec X). vector.items))

@@ -1,4 +1,5 @@
 -- The columns, rows and places in memory after a cancellation, one by one.
+use Rattle.std.proofs.lemmas.Bool.Decides.{nat_tests}
 use Rattle.std.proofs.Common.{◌≡◌, ◌≢◌, ℕ, ◌+◌, ◌<◌, ◌∙◌, inl, inr, List, [], ℤ, pos, ◌+ℤ◌, length, set, ap, sym, arith, Bool, false}
 use Rattle.std.specs.Prelude.{slice_index_or}
 use Rattle.std.proofs.lemmas.Bool.Decides.{eqb_tells}
@@ -111,9 +112,7 @@ module _ {p : ℕ} {low : ℤ} {names : List (List Generator)} {alive : List (Li
 
   row-stays : (j place : ℕ) → j ≢ k → j < length names
       → line_at rows_after j place ≡ entries_of (row_of named.complex (low +ℤ pos j) place)
-  row-stays j place other j_within =
-      ap (λ (lines : List (List Entry)). slice_index_or lines place []) (own.rows_others j other)
-      ∙ row-line kept seen pivot is_pivot k is_distance j place j_within
+  row-stays j place other j_within = grind (arith, nat_tests, row-line)
 
   pub rows-left : (j place : ℕ) → j < length names → place < length (lines_at rows j)
       → line_at (crossed_out (k + 1) pivot.row (emptied_before k pivot.column rows_after)) j place

@@ -1,4 +1,5 @@
 -- Matrices that the entries of columns denote: their rows and columns, and their rows as one more column comes.
+use Rattle.std.proofs.lemmas.Bool.Decides.{nat_tests}
 use Rattle.std.proofs.Common.{◌≡◌, ℕ, suc, ◌+◌, ◌<◌, ◌≤◌, ◌∙◌, inl, inr, List, [], ◌∷◌, ◌++◌, length, map, get_or, take, set, replicate, refl, ap, sym, subst, arith}
 use Rattle.std.specs.Prelude.{slice_index, slice_index_or, slice_set}
 use Rattle.std.specs.List.{range_with_len}
@@ -40,15 +41,12 @@ column_in-matrix_from height column columns =
   where
     same : (rows : List ℕ) → map (λ row. slice_index (row_at columns row) column) rows ≡ map (value_at (get_or columns column [])) rows
     same [] = refl
-    same (row ∷ rows) =
-        ap (λ (x : ℕ). x ∷ map (λ row. slice_index (row_at columns row) column) rows) (number-row_at columns row column)
-        ∙ ap (λ (xs : List ℕ). value_at (get_or columns column []) row ∷ xs) (same rows)
+    same (row ∷ rows) = grind (arith, nat_tests, number-row_at, same rows)
 
 -- an entry is the number of its column at its row
 pub entry-matrix_from : (height row column : ℕ) (columns : List (List Entry)) → row < height
     → entry_in (matrix_from height columns) row column ≡ value_at (get_or columns column []) row
-entry-matrix_from height row column columns within =
-    ap (λ (xs : List ℕ). slice_index xs column) (row-matrix_from height row columns within) ∙ number-row_at columns row column
+entry-matrix_from height row column columns within = grind (arith, nat_tests, row-matrix_from, number-row_at)
 
 -- past the last row there is none
 pub entry-past_rows : (matrix : List (List ℕ)) (row column : ℕ) → length matrix ≤ row → entry_in matrix row column ≡ 0
@@ -57,8 +55,7 @@ entry-past_rows matrix row column past = ap (λ (xs : List ℕ). slice_index xs 
 -- one entry of a new column comes to the end of its row
 
 length-row_entry : (column value : ℕ) (xs : List Entry) → value ≡ 0 → xs ++ entries_from column (value ∷ []) ≡ xs
-length-row_entry column value xs is_zero =
-    ap (λ (v : ℕ). xs ++ entries_from column (v ∷ [])) is_zero ∙ append-nil xs
+length-row_entry column value xs is_zero = grind (arith, nat_tests, append-nil)
 
 pub column-more : (p column k : ℕ) (entries : List Entry) (e d : Entry) (initial before after : List (List Entry))
     → AreEntries p (length initial) entries → k < length entries → e ≡ get_or entries k d

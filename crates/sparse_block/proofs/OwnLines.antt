@@ -1,4 +1,5 @@
 -- The pivot's own columns and rows, after they were exchanged, and after they were cleared.
+use Rattle.std.proofs.lemmas.Bool.Decides.{nat_tests}
 use Rattle.std.proofs.Common.{◌≡◌, ◌≢◌, ℕ, ◌<◌, ◌∙◌, ◌⊎◌, inl, inr, List, [], ◌∷◌, ℤ, pos, ◌+ℤ◌, length, set, ap, sym, arith, refl, Bool}
 use Rattle.std.specs.Prelude.{slice_index_or}
 use Rattle.std.specs.Str.{bytes_eq}
@@ -144,11 +145,7 @@ module _ {p : ℕ} {low : ℤ} {names : List (List Generator)} {alive : List (Li
 number-alone : (entries : List Entry) (place at : ℕ) → length entries ≡ 1 → value_at entries place ≢ 0 → at ≢ place
     → value_at entries at ≡ 0
 number-alone [] place at one some other = refl
-number-alone (e ∷ []) place at one some other =
-    elim (eqb_tells e.place place) [
-      | inl here ↦ value_at-later e [] at (λ same. other (sym same ∙ here.1))
-      | inr past ↦ absurd (some (value_at-later e [] place past.1))
-    ]
+number-alone (e ∷ []) place at one some other = grind (arith, nat_tests, eqb_tells, value_at-later)
 number-alone (e ∷ f ∷ es) place at one some other = absurd (omega (arith, one))
 
 pub alone-from_entries : (complex : Complex) (pivot : Pivot) → IsPivot complex pivot

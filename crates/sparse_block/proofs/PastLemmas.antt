@@ -1,4 +1,5 @@
 -- Nothing stands past the places of a complex: its columns and rows are empty there.
+use Rattle.std.proofs.lemmas.Bool.Decides.{nat_tests}
 use Rattle.std.proofs.Common.{◌≡◌, ◌≢◌, ℕ, zero, suc, ◌+◌, ◌<◌, ◌≤◌, ◌∙◌, inl, inr, List, [], ◌∷◌, ℤ, pos, negsuc, ◌+ℤ◌, ◌-ℤ◌, ◌≤ℤ◌, length, ap, refl, arith}
 use Rattle.std.specs.Prelude.{slice_index}
 use Rattle.std.proofs.lemmas.Bool.Decides.{leb_tells}
@@ -23,25 +24,17 @@ entries-zeros xs zeros = entries_from-zeros 0 xs zeros
 
 -- a number that cannot be other than 0
 zero-unless : (x : ℕ) → (x ≢ 0 → ⊥) → x ≡ 0
-zero-unless zero never = refl
-zero-unless (suc x) never = absurd (never (λ same. omega arith))
+zero-unless x never = grind (arith, nat_tests)
 
 -- there is nothing past the places
 
 pub column-past : (p : ℕ) (complex : Complex) (i : ℤ) (place : ℕ) → IsComplex p complex → place_count complex i ≤ place
     → entries_of (column_of complex i place) ≡ []
-column-past p complex i place is past =
-    entries-zeros (column_of complex i place)
-    (λ row. number-column_of complex i row place
-    ∙ zero-unless (entry_of complex i row place)
-    (λ other. omega (arith, (entry-stands p complex i row place is other).column_place)))
+column-past p complex i place is past = grind (arith, nat_tests, entries-zeros, number-column_of, zero-unless, entry-stands)
 
 pub row-past : (p : ℕ) (complex : Complex) (i : ℤ) (place : ℕ) → IsComplex p complex → place_count complex (i +ℤ pos 1) ≤ place
     → entries_of (row_of complex i place) ≡ []
-row-past p complex i place is past =
-    entries-zeros (row_of complex i place)
-    (λ column. zero-unless (entry_of complex i place column)
-    (λ other. omega (arith, (entry-stands p complex i place column is other).row_place)))
+row-past p complex i place is past = grind (arith, nat_tests, entries-zeros, zero-unless, entry-stands)
 
 -- a degree with a place is one of the complex
 pub record IsDegree (complex : Complex) (i : ℤ) : Type 0 where

@@ -1,4 +1,5 @@
 -- The columns and rows of a complex as lines of numbers, and their entries.
+use Rattle.std.proofs.lemmas.Bool.Decides.{nat_tests}
 use Rattle.std.proofs.Common.{◌≡◌, ℕ, ◌+◌, ◌<◌, ◌≤◌, ◌∙◌, ◌⊎◌, inl, inr, List, [], ℤ, pos, negsuc, ◌+ℤ◌, ◌-ℤ◌, length, ap, subst, refl, arith}
 use Rattle.std.specs.Prelude.{slice_index, slice_index_or, All}
 use Rattle.std.proofs.Math.ListN as plain
@@ -18,12 +19,7 @@ number-column_of complex i row column =
 
 -- a longer line may have the same entries
 entries-longer : (p size longer : ℕ) (entries : List Entry) → size ≤ longer → AreEntries p size entries → AreEntries p longer entries
-entries-longer p size longer entries more are =
-    record {
-      ascending = are.ascending;
-      places = λ k d within. omega (arith, more, are.places k d within);
-      values = are.values;
-    }
+entries-longer p size longer entries more are = omega arith
 
 numbers-below : (p : ℕ) (line : List ℕ) → ((k : ℕ) → slice_index line k < p) → All (λ x. x < p) line
 numbers-below p line below k d within = omega (arith, get_or_default line k d 0 within, below k)
@@ -44,37 +40,15 @@ numbered complex i (negsuc k) is_distance = inl (ap (degree_from complex) is_dis
 
 row-count : (p : ℕ) (complex : Complex) (i : ℤ) → IsComplex p complex
     → length (degree_of complex i).matrix ≤ place_count complex (i +ℤ pos 1)
-row-count p complex i is_complex =
-    elim (numbered complex i (i -ℤ complex.low) refl) [
-      | inl none ↦ omega (arith, ap (λ (degree : Degree). length degree.matrix) none)
-      | inr at ↦ omega (
-        arith,
-        ap (λ (degree : Degree). length degree.matrix) at.2,
-        is_complex.rows at.0 at.1,
-        ap (λ (degree : Degree). length degree.alive) at.3,
-      )
-    ]
+row-count p complex i is_complex = grind (arith, nat_tests, numbered)
 
 row-width : (p : ℕ) (complex : Complex) (i : ℤ) (row : ℕ) → IsComplex p complex → row < length (degree_of complex i).matrix
     → length (row_of complex i row) ≤ place_count complex i
-row-width p complex i row is_complex within =
-    elim (numbered complex i (i -ℤ complex.low) refl) [
-      | inl none ↦ absurd (omega (arith, within, ap (λ (degree : Degree). length degree.matrix) none))
-      | inr at ↦ omega (
-        arith,
-        ap (λ (degree : Degree). length (slice_index_or degree.matrix row [])) at.2,
-        is_complex.columns at.0 row (subst (λ (degree : Degree). row < length degree.matrix) at.2 within),
-        ap (λ (degree : Degree). length degree.alive) at.2,
-      )
-    ]
+row-width p complex i row is_complex within = grind (arith, nat_tests)
 
 row-length : (p : ℕ) (complex : Complex) (i : ℤ) (row : ℕ) → IsComplex p complex
     → length (row_of complex i row) ≤ place_count complex i
-row-length p complex i row is_complex =
-    elim (leb_tells (length (degree_of complex i).matrix) row) [
-      | inl past ↦ omega (arith, ap length (get_or_past (degree_of complex i).matrix row [] past.1))
-      | inr within ↦ row-width p complex i row is_complex within.1
-    ]
+row-length p complex i row is_complex = grind (arith, nat_tests, leb_tells, get_or_past, row-width)
 
 pub column-entries : (p : ℕ) (complex : Complex) (i : ℤ) (column : ℕ) → IsComplex p complex
     → AreEntries p (place_count complex (i +ℤ pos 1)) (entries_of (column_of complex i column))

@@ -1,4 +1,5 @@
 -- Entries are determined by their numbers, and a line without its entry at a place.
+use Rattle.std.proofs.lemmas.Bool.Decides.{nat_tests}
 use Rattle.std.proofs.Common.{◌≡◌, ◌≢◌, ℕ, zero, suc, ◌+◌, ◌<◌, ◌∙◌, inl, inr, List, [], ◌∷◌, length, get_or, refl, ap, sym, arith, Bool, true, false, cond, not, unwrap_or}
 use Rattle.std.specs.Prelude.{Option, Some, None, nat_eq}
 use Rattle.std.specs.List.{remove, position, position_or_len}
@@ -23,18 +24,10 @@ entries-same p size es fs are_es are_fs same =
 -- the first entry goes, or it stays
 
 without-here : (place : ℕ) (e : Entry) (es : List Entry) → e.place ≡ place → without place (e ∷ es) ≡ without place es
-without-here place e es same =
-    elim (eqb_tells e.place place) [
-      | inl here ↦ ap (λ (b : Bool). cond (not b) (e ∷ without place es) (without place es)) here.0
-      | inr other ↦ absurd (other.1 same)
-    ]
+without-here place e es same = grind (arith, nat_tests)
 
 without-later : (place : ℕ) (e : Entry) (es : List Entry) → e.place ≢ place → without place (e ∷ es) ≡ e ∷ without place es
-without-later place e es differs =
-    elim (eqb_tells e.place place) [
-      | inl here ↦ absurd (differs here.1)
-      | inr other ↦ ap (λ (b : Bool). cond (not b) (e ∷ without place es) (without place es)) other.0
-    ]
+without-later place e es differs = grind (arith, nat_tests)
 
 -- the numbers of a line without a place: 0 there, and the others as they were
 
@@ -51,29 +44,14 @@ value_at-without place (e ∷ es) =
 pub value_at-without_other : (place at : ℕ) (es : List Entry) → at ≢ place → value_at (without place es) at ≡ value_at es at
 value_at-without_other place at [] differs = refl
 value_at-without_other place at (e ∷ es) differs =
-    let rest = value_at-without_other place at es differs in
-    elim (eqb_tells e.place place) [
-      | inl here ↦
-          ap (λ (es : List Entry). value_at es at) (without-here place e es here.1) ∙ rest
-          ∙ sym (value_at-later e es at (λ same. differs (sym same ∙ here.1)))
-      | inr other ↦
-          ap (λ (es : List Entry). value_at es at) (without-later place e es other.1)
-          ∙ elim (eqb_tells e.place at) [
-            | inl found ↦ value_at-here e (without place es) at found.1 ∙ sym (value_at-here e es at found.1)
-            | inr past ↦ value_at-later e (without place es) at past.1 ∙ rest ∙ sym (value_at-later e es at past.1)
-          ]
-    ]
+    grind (arith, nat_tests, eqb_tells, without-here, value_at-later, without-later, value_at-here, value_at-without_other place at es differs)
 
 -- it ascends still
 
 ascend-without : (p a b place : ℕ) (es : List Entry) → Ascend p a b es → Ascend p a b (without place es)
 ascend-without p a b place [] ascend = tt
 ascend-without p a b place (e ∷ es) ascend =
-    let rest = ascend-without p (e.place + 1) b place es ascend.4 in
-    elim (nat_eq e.place place) as (λ same. Ascend p a b (cond (not same) (e ∷ without place es) (without place es))) [
-      | true ↦ ascend-earlier p a (e.place + 1) b (without place es) (omega (arith, ascend.0)) rest
-      | false ↦ (ascend.0, ascend.1, ascend.2, ascend.3, rest)
-    ]
+    grind (arith, nat_tests, Ascend, ascend-earlier, ascend-without p (e.place + 1) b place es ascend.4)
 
 pub entries-without : (p size place : ℕ) (es : List Entry) → AreEntries p size es → AreEntries p size (without place es)
 entries-without p size place es are =
@@ -95,21 +73,14 @@ without-none p size place es are none =
 without-before : (p a b place : ℕ) (es : List Entry) → Ascend p a b es → place < a → without place es ≡ es
 without-before p a b place [] ascend before = refl
 without-before p a b place (e ∷ es) ascend before =
-    without-later place e es (λ same. omega (arith, ascend.0, same))
-    ∙ ap (λ (es : List Entry). e ∷ es) (without-before p (e.place + 1) b place es ascend.4 (omega (arith, ascend.0)))
+    grind (arith, nat_tests, without-later, without-before p (e.place + 1) b place es ascend.4 (omega (arith, ascend.0)))
 
 remove-at : (p a b place k : ℕ) (es : List Entry) (d : Entry) → Ascend p a b es → k < length es
     → (get_or es k d).place ≡ place → remove es k ≡ without place es
 remove-at p a b place k [] d ascend within is_there = absurd (omega arith)
-remove-at p a b place zero (e ∷ es) d ascend within is_there =
-    sym (
-    without-here place e es is_there
-    ∙ without-before p (e.place + 1) b place es ascend.4 (omega (arith, is_there))
-    )
+remove-at p a b place zero (e ∷ es) d ascend within is_there = grind (arith, nat_tests, without-here, without-before)
 remove-at p a b place (suc k) (e ∷ es) d ascend within is_there =
-    let later = ascend-place p (e.place + 1) b k es d ascend.4 (omega (arith, within)) in
-    ap (λ (es : List Entry). e ∷ es) (remove-at p (e.place + 1) b place k es d ascend.4 (omega (arith, within)) is_there)
-    ∙ sym (without-later place e es (λ same. omega (arith, same, later, is_there)))
+    grind (arith, nat_tests, ascend-place, without-later, remove-at p (e.place + 1) b place k es d ascend.4 (omega (arith, within)) is_there)
 
 pub remove-found : (p size place k : ℕ) (es : List Entry) (d : Entry) → AreEntries p size es → k < length es
     → (get_or es k d).place ≡ place → remove es k ≡ without place es

@@ -1,4 +1,5 @@
 -- The worked complex is one, and its columns are entries.
+use Rattle.std.proofs.lemmas.Bool.Decides.{nat_tests}
 use Rattle.std.proofs.Common.{◌≡◌, ◌≢◌, ℕ, zero, suc, ◌+◌, ◌<◌, ◌^◌, ◌∙◌, ◌⊎◌, List, [], ◌∷◌, inl, inr, ℤ, pos, ◌+ℤ◌, neg_ℤ, refl, ap, sym, subst, subst₂, length, map, arith}
 use Rattle.std.specs.Prelude.{slice_index_or, All}
 use Rattle.std.specs.List.{AllByRecursion}
@@ -32,62 +33,27 @@ no-entry : (p size : ℕ) → AreEntries p size []
 no-entry p size = entries-from_ascend p 0 size [] tt
 
 left-entries : (p : ℕ) → 2 < p → AreEntries p 3 (entry_at (0, 1) ∷ entry_at (1, 1) ∷ [])
-left-entries p above =
-    entries-from_ascend p 0 3 (entry_at (0, 1) ∷ entry_at (1, 1) ∷ [])
-    (omega arith, omega arith, omega arith, omega arith, (omega arith, omega arith, omega arith, omega arith, tt))
+left-entries p above = grind (arith, nat_tests)
 
 right-entries : (p : ℕ) → 2 < p → AreEntries p 3 (entry_at (1, 1) ∷ entry_at (2, 2) ∷ [])
-right-entries p above =
-    entries-from_ascend p 0 3 (entry_at (1, 1) ∷ entry_at (2, 2) ∷ [])
-    (omega arith, omega arith, omega arith, omega arith, (omega arith, omega arith, omega arith, omega arith, tt))
+right-entries p above = grind (arith, nat_tests)
 
 pub worked-entries : (p x y z : ℕ) → 2 < p → 0 < x → x < p → 0 < y → y < p → 0 < z → z < p
     → HaveEntries p worked_names (worked_columns x y z)
-worked-entries p x y z above x_other x_below y_other y_below z_other z_below zero =
-    let each = All-cons (AreEntries p 3) in
-    let left = left-entries p above in
-    let right = right-entries p above in
-    let l = entry_at (0, 1) ∷ entry_at (1, 1) ∷ [] in
-    let r = entry_at (1, 1) ∷ entry_at (2, 2) ∷ [] in
-    each l (r ∷ l ∷ l ∷ r ∷ l ∷ []) left
-    (each r (l ∷ l ∷ r ∷ l ∷ []) right
-    (each l (l ∷ r ∷ l ∷ []) left
-    (each l (r ∷ l ∷ []) left (each r (l ∷ []) right (each l [] left (All-nil (AreEntries p 3)))))))
-worked-entries p x y z above x_other x_below y_other y_below z_other z_below (suc zero) =
-    let each = All-cons (AreEntries p 1) in
-    let e : ℕ → List Entry = λ v. entry_at (0, v) ∷ [] in
-    each (e x) (e y ∷ e z ∷ []) (one-entry p x x_other x_below)
-    (each (e y) (e z ∷ []) (one-entry p y y_other y_below)
-    (each (e z) [] (one-entry p z z_other z_below) (All-nil (AreEntries p 1))))
-worked-entries p x y z above x_other x_below y_other y_below z_other z_below (suc (suc zero)) =
-    All-cons (AreEntries p 0) [] [] (no-entry p 0) (All-nil (AreEntries p 0))
-worked-entries p x y z above x_other x_below y_other y_below z_other z_below (suc (suc (suc zero))) = All-nil (AreEntries p 0)
-worked-entries p x y z above x_other x_below y_other y_below z_other z_below (suc (suc (suc (suc k)))) =
-    All-nil (AreEntries p (length (slice_index_or worked_names (suc (suc (suc (suc k))) + 1) [])))
+worked-entries p x y z above x_other x_below y_other y_below z_other z_below = grind (arith, nat_tests)
 
 -- what the tests make in memory
 
 pub names-made : (a b c d : List Generator) (first second third fourth : Vec Generator) (made : List (Vec Generator))
     → made ≡ first ∷ second ∷ third ∷ fourth ∷ [] → first.items ≡ a → second.items ≡ b → third.items ≡ c → fourth.items ≡ d
     → lists_in made ≡ a ∷ b ∷ c ∷ d ∷ []
-names-made a b c d first second third fourth made are firsts seconds thirds fourths =
-    ap lists_in are
-    ∙ ap (λ (xs : List Generator). xs ∷ second.items ∷ third.items ∷ fourth.items ∷ []) firsts
-    ∙ ap (λ (xs : List Generator). a ∷ xs ∷ third.items ∷ fourth.items ∷ []) seconds
-    ∙ ap (λ (xs : List Generator). a ∷ b ∷ xs ∷ fourth.items ∷ []) thirds
-    ∙ ap (λ (xs : List Generator). a ∷ b ∷ c ∷ xs ∷ []) fourths
+names-made a b c d first second third fourth made are firsts seconds thirds fourths = grind (arith, nat_tests)
 
 pub columns-made : (a b c d : List (List Entry)) (first second third fourth : Vec (SmallVec Entry))
     (made : List (Vec (SmallVec Entry))) → made ≡ first ∷ second ∷ third ∷ fourth ∷ [] → entries_in first.items ≡ a
     → entries_in second.items ≡ b → entries_in third.items ≡ c → entries_in fourth.items ≡ d
     → lines_in made ≡ a ∷ b ∷ c ∷ d ∷ []
-columns-made a b c d first second third fourth made are firsts seconds thirds fourths =
-    ap lines_in are
-    ∙ ap
-    (λ (xs : List (List Entry)). xs ∷ entries_in second.items ∷ entries_in third.items ∷ entries_in fourth.items ∷ []) firsts
-    ∙ ap (λ (xs : List (List Entry)). a ∷ xs ∷ entries_in third.items ∷ entries_in fourth.items ∷ []) seconds
-    ∙ ap (λ (xs : List (List Entry)). a ∷ b ∷ xs ∷ entries_in fourth.items ∷ []) thirds
-    ∙ ap (λ (xs : List (List Entry)). a ∷ b ∷ c ∷ xs ∷ []) fourths
+columns-made a b c d first second third fourth made are firsts seconds thirds fourths = grind (arith, nat_tests)
 
 -- and what `build` asks of it
 
@@ -124,23 +90,14 @@ abbrev pub point_columns : List (List (List Entry))
 point_columns = ([] ∷ []) ∷ []
 
 point-entries : (p : ℕ) → HaveEntries p point_names point_columns
-point-entries p zero = All-cons (AreEntries p 0) [] [] (no-entry p 0) (All-nil (AreEntries p 0))
-point-entries p (suc k) = All-nil (AreEntries p (length (slice_index_or point_names (suc k + 1) [])))
+point-entries p = grind (arith, nat_tests)
 
 point-complex : IsComplex 3 (sparse_complex (pos 7) point_names point_columns).complex
 point-complex = complex-from_test 3 (sparse_complex (pos 7) point_names point_columns).complex (omega arith) refl
 
 pub point-build : (names : List (List Generator)) (columns : List (List (List Entry))) → names ≡ point_names
     → columns ≡ point_columns → CanBuild 3 (pos 7) names columns
-point-build names columns are_names are_columns =
-    subst₂ (CanBuild 3 (pos 7)) (sym are_names) (sym are_columns)
-    (record {
-      some = omega arith;
-      counts = few-names point_names (omega arith, tt);
-      sizes = refl;
-      entries = point-entries 3;
-      squares = point-complex.product;
-    })
+point-build names columns are_names are_columns = grind (arith, nat_tests)
 
 -- the complex with a middle
 
@@ -148,34 +105,11 @@ middle-five : IsComplex 5 middle_complex.complex
 middle-five = complex-from_test 5 middle_complex.complex (omega arith) refl
 
 middle-entries : HaveEntries 5 middle_names middle_columns
-middle-entries zero =
-    All-cons (AreEntries 5 2) (entry_at (0, 1) ∷ entry_at (1, 1) ∷ []) []
-    (column-entries 5 middle_complex.complex (neg_ℤ (pos 1)) 0 middle-five) (All-nil (AreEntries 5 2))
-middle-entries (suc zero) =
-    All-cons (AreEntries 5 2) (entry_at (0, 2) ∷ entry_at (1, 2) ∷ []) ((entry_at (0, 3) ∷ entry_at (1, 3) ∷ []) ∷ [])
-    (column-entries 5 middle_complex.complex (pos 0) 0 middle-five)
-    (All-cons (AreEntries 5 2) (entry_at (0, 3) ∷ entry_at (1, 3) ∷ []) []
-    (column-entries 5 middle_complex.complex (pos 0) 1 middle-five) (All-nil (AreEntries 5 2)))
-middle-entries (suc (suc zero)) =
-    All-cons (AreEntries 5 1) (entry_at (0, 1) ∷ []) ((entry_at (0, 4) ∷ []) ∷ [])
-    (column-entries 5 middle_complex.complex (pos 1) 0 middle-five)
-    (All-cons (AreEntries 5 1) (entry_at (0, 4) ∷ []) [] (column-entries 5 middle_complex.complex (pos 1) 1 middle-five)
-    (All-nil (AreEntries 5 1)))
-middle-entries (suc (suc (suc zero))) = All-cons (AreEntries 5 0) [] [] (no-entry 5 0) (All-nil (AreEntries 5 0))
-middle-entries (suc (suc (suc (suc k)))) =
-    All-nil (AreEntries 5 (length (slice_index_or middle_names (suc (suc (suc (suc k))) + 1) [])))
+middle-entries = grind (arith, nat_tests)
 
 pub middle-build : (names : List (List Generator)) (columns : List (List (List Entry))) → names ≡ middle_names
     → columns ≡ middle_columns → CanBuild 5 (neg_ℤ (pos 1)) names columns
-middle-build names columns are_names are_columns =
-    subst₂ (CanBuild 5 (neg_ℤ (pos 1))) (sym are_names) (sym are_columns)
-    (record {
-      some = omega arith;
-      counts = few-names middle_names (omega arith, (omega arith, (omega arith, (omega arith, tt))));
-      sizes = refl;
-      entries = middle-entries;
-      squares = middle-five.product;
-    })
+middle-build names columns are_names are_columns = grind (arith, nat_tests)
 
 -- what `exchange` asks of a change
 pub record CanExchange (p : ℕ) (named : NamedComplex) (change : Exchange) : Type 0 where
@@ -190,55 +124,27 @@ two-changed : (size first second : ℕ) (before after : ℕ → List ℕ) (a b :
     → a ≡ entries_of (after first) → b ≡ entries_of (after second)
     → ((place : ℕ) → place ≢ first → place ≢ second → before place ≡ after place)
     → AreChanged size before after (placed first a ∷ placed second b ∷ [])
-two-changed size first second before after a b first_within second_within is_a is_b others =
-    let lines : List PlacedLine = placed first a ∷ placed second b ∷ [] in
-    record {
-      within = All-from_recursion (λ (line : PlacedLine). line.place < size) lines (first_within, (second_within, tt));
-      entries = All-from_recursion (λ (line : PlacedLine). line.entries ≡ entries_of (after line.place)) lines (is_a, (is_b, tt));
-      all = λ place differ.
-          elim (eqb_tells first place) [
-            | inl here ↦ (0, omega arith, here.1)
-            | inr not_first ↦
-                elim (eqb_tells second place) [
-                  | inl here ↦ (1, omega arith, here.1)
-                  | inr not_second ↦
-                      absurd (differ (others place (λ same. not_first.1 (sym same)) (λ same. not_second.1 (sym same))))
-                ]
-          ];
-    }
+two-changed size first second before after a b first_within second_within is_a is_b others = grind (arith, nat_tests)
 
 worked-columns_stay : (place : ℕ) → place ≢ 1 → place ≢ 4
     → column_of (worked_complex 2 3 1).complex (neg_ℤ (pos 1)) place
     ≡ column_of (cancel 5 (worked_complex 2 3 1).complex worked_change.pivot) (neg_ℤ (pos 1)) place
-worked-columns_stay zero first second = refl
-worked-columns_stay (suc zero) first second = absurd (first refl)
-worked-columns_stay (suc (suc zero)) first second = refl
-worked-columns_stay (suc (suc (suc zero))) first second = refl
-worked-columns_stay (suc (suc (suc (suc zero)))) first second = absurd (second refl)
-worked-columns_stay (suc (suc (suc (suc (suc zero))))) first second = refl
-worked-columns_stay (suc (suc (suc (suc (suc (suc place)))))) first second = refl
+worked-columns_stay place first second = grind (arith, nat_tests)
 
 worked-rows_stay : (place : ℕ) → place ≢ 1 → place ≢ 2
     → row_of (worked_complex 2 3 1).complex (neg_ℤ (pos 1)) place
     ≡ row_of (cancel 5 (worked_complex 2 3 1).complex worked_change.pivot) (neg_ℤ (pos 1)) place
-worked-rows_stay zero first second = refl
-worked-rows_stay (suc zero) first second = absurd (first refl)
-worked-rows_stay (suc (suc zero)) first second = absurd (second refl)
-worked-rows_stay (suc (suc (suc place))) first second = refl
+worked-rows_stay place first second = grind (arith, nat_tests)
 
 middle-columns_stay : (place : ℕ) → place ≢ 0 → place ≢ 1
     → column_of middle_complex.complex (pos 0) place
     ≡ column_of (cancel 5 middle_complex.complex middle_change.pivot) (pos 0) place
-middle-columns_stay zero first second = absurd (first refl)
-middle-columns_stay (suc zero) first second = absurd (second refl)
-middle-columns_stay (suc (suc place)) first second = refl
+middle-columns_stay place first second = grind (arith, nat_tests)
 
 middle-rows_stay : (place : ℕ) → place ≢ 0 → place ≢ 1
     → row_of middle_complex.complex (pos 0) place
     ≡ row_of (cancel 5 middle_complex.complex middle_change.pivot) (pos 0) place
-middle-rows_stay zero first second = absurd (first refl)
-middle-rows_stay (suc zero) first second = absurd (second refl)
-middle-rows_stay (suc (suc place)) first second = refl
+middle-rows_stay place first second = grind (arith, nat_tests)
 
 worked-exchange : CanExchange 5 (worked_complex 2 3 1) worked_change
 worked-exchange =
@@ -256,28 +162,15 @@ worked-exchange =
     }
 
 middle-exchange : CanExchange 5 middle_complex middle_change
-middle-exchange =
-    let before = middle_complex.complex in
-    let after = cancel 5 before middle_change.pivot in
-    record {
-      pivot = λ none. omega (arith, none);
-      columns =
-          two-changed 2 0 1 (column_of before (pos 0)) (column_of after (pos 0)) [] [] (omega arith) (omega arith) refl refl
-          middle-columns_stay;
-      rows =
-          two-changed 2 0 1 (row_of before (pos 0)) (row_of after (pos 0)) [] [] (omega arith) (omega arith) refl refl
-          middle-rows_stay;
-    }
+middle-exchange = grind (arith, nat_tests)
 
 pub worked-can_exchange : (named : NamedComplex) (change : Exchange) → named ≡ worked_complex 2 3 1 → change ≡ worked_change
     → CanExchange 5 named change
-worked-can_exchange named change is_complex is_change =
-    subst₂ (CanExchange 5) (sym is_complex) (sym is_change) worked-exchange
+worked-can_exchange named change is_complex is_change = grind (arith, nat_tests)
 
 pub middle-can_exchange : (named : NamedComplex) (change : Exchange) → named ≡ middle_complex → change ≡ middle_change
     → CanExchange 5 named change
-middle-can_exchange named change is_complex is_change =
-    subst₂ (CanExchange 5) (sym is_complex) (sym is_change) middle-exchange
+middle-can_exchange named change is_complex is_change = grind (arith, nat_tests)
 
 -- what `drop_pair` asks of a pivot
 pub record CanDrop (named : NamedComplex) (pivot : Pivot) : Type 0 where
@@ -286,11 +179,7 @@ pub record CanDrop (named : NamedComplex) (pivot : Pivot) : Type 0 where
       ⊎ (length (entries_of (row_of named.complex pivot.degree pivot.row)) ≡ 1)
 
 pub worked-column_alone : (named : NamedComplex) → named ≡ worked_complex 2 1 1 → CanDrop named (pivot_at (pos 0) 0 0)
-worked-column_alone named is =
-    subst (λ (named : NamedComplex). CanDrop named (pivot_at (pos 0) 0 0)) (sym is)
-    (record { is_pivot = λ none. omega (arith, none); is_alone = inl refl })
+worked-column_alone named is = grind (arith, nat_tests)
 
 pub middle-row_alone : (named : NamedComplex) → named ≡ middle_complex → CanDrop named (pivot_at (neg_ℤ (pos 1)) 0 0)
-middle-row_alone named is =
-    subst (λ (named : NamedComplex). CanDrop named (pivot_at (neg_ℤ (pos 1)) 0 0)) (sym is)
-    (record { is_pivot = λ none. omega (arith, none); is_alone = inr refl })
+middle-row_alone named is = grind (arith, nat_tests)

@@ -4,7 +4,7 @@
 -- second map: each of its dot sets has one choice, itself (`choices-itself`).
 use Rattle.std.proofs.Common.{◌≡◌, ◌≢◌, ℕ, zero, suc, inl, inr, ◌+◌, ◌-◌, ◌*◌, ◌/◌, ◌%◌, ◌^◌, ◌<◌, ◌≤◌, ◌∙◌, List, [], ◌∷◌, ◌++◌, map, length, get_or, refl, sym, subst, ap, ap₂, arith, Bool, true, false, cond, ◌&&◌, eq-eqb, Some}
 use Rattle.std.specs.Prelude.{nat_eq, slice_index}
-use Rattle.std.specs.List.{count_by, enumerate_from, filter, flat_map, list_all, sum_by, AllByRecursion, Contains}
+use Rattle.std.specs.List.{count_by, enumerate_from, filter, flat_map, list_all, AllByRecursion, Contains}
 use Rattle.std.proofs.Math.Nat.{div-div-eq-div-mul, mod-mod, pow-suc, zero-div}
 use Rattle.std.proofs.lemmas.Bool.{cases_eq, ne_eqb}
 use Rattle.std.proofs.lemmas.Bool.Decides.{nat_tests}

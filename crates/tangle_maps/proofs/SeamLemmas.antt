@@ -2,16 +2,18 @@
 -- The code joins the pairs of the first and the third pairing, and then those of the second: the classes of all three, in the order of the
 -- definition (`three_joined`). The discs of two pairings are least in their classes; each stands in the seam as its class under all three,
 -- and so do the components, which are their own classes (`least-named`). The genus of a component is counted in these lists (`seam_made`).
-use Rattle.std.proofs.Common.{◌≡◌, ◌≢◌, ℕ, zero, suc, ◌-◌, ◌*◌, ◌/◌, inl, inr, refl, subst, map, set, ◌+◌, ◌<◌, List, [], ◌∷◌, ◌++◌, take, length, ap, ap₂, ◌∙◌, arith, sym, Bool, true, false, cond}
+use Rattle.std.proofs.Common.{◌≡◌, ◌^◌, ◌%◌, ◌≢◌, ℕ, zero, suc, ◌-◌, ◌*◌, ◌/◌, inl, inr, refl, subst, map, set, ◌+◌, ◌<◌, List, [], ◌∷◌, ◌++◌, ◌%◌, take, length, ap, ap₂, ◌∙◌, arith, sym, Bool, true, false, cond}
 use Rattle.std.specs.Prelude.{nat_eq, slice_index, get_or}
 use Rattle.std.specs.List.{enumerate_from, sum_by, count_by, fold, filter, range_with_len, Contains}
 use Rattle.std.proofs.lemmas.List.{append_assoc, take_more, length-take-le, get_or-set_same, get_or-set_other}
 use Rattle.std.proofs.lemmas.List.Sums.{sum_by_push, fold-append}
 use Rattle.std.proofs.lemmas.Bool.{cases_eq, eqb-true}
+use Rattle.std.proofs.Math.Nat.{zero-div}
 use Rattle.kh_types.specs.Classes.{classes_of, is_least, joined}
 use Rattle.tangle_maps.specs.declared.pairing.TheConstants.{POINTS}
 use Rattle.std.proofs.lemmas.List.Elements.{Contains-push_cases}
 use Rattle.kh_types.proofs.Lists.{count_by-map, enumerate_from-push}
+use Rattle.kh_types.proofs.ListSums.{sum_by-zeros}
 use Rattle.dotted_surfaces.specs.Points.{discs}
 use Rattle.dotted_maps.specs.Parts.{components, component_in}
 use Rattle.dotted_maps.proofs.LeastPoints.{AllByRecursion-filter}
@@ -35,6 +37,15 @@ dots_on_more component dots k places within =
   where
     zero_plus : (x : ℕ) → 0 + x ≡ x
     zero_plus x = omega arith
+
+-- no dots on any discs
+pub dots_on_none : (component : ℕ) (places : List ℕ) → dots_on component 0 places ≡ 0
+dots_on_none component places =
+    sum_by-zeros (λ at. cond (nat_eq at.1 component) (bit 0 at.0) 0) (enumerate_from 0 places) (λ at. none (nat_eq at.1 component) at.0)
+  where
+    none : (b : Bool) (k : ℕ) → cond b (bit 0 k) 0 ≡ 0
+    none true k = ap (λ q. q % 2) (zero-div (2 ^ k))
+    none false k = refl
 
 -- classes of three pairings
 

@@ -1,6 +1,6 @@
 //! Compositions of maps.
 
-ghost use Rattle.std.specs.Prelude.{◌≡◌, ℕ, ◌<◌, ◌≤◌, ◌*◌, ◌-◌, ◌%◌, IfOk, OnOk, length, slice_index};
+ghost use Rattle.std.specs.Prelude.{◌≡◌, ℕ, ◌<◌, ◌≤◌, ◌*◌, ◌-◌, ◌%◌, IfOk, OnOk, length, min, slice_index};
 ghost use Rattle.std.specs.List.{flat_map, AllByRecursion, Contains};
 ghost use Rattle.kh_types.specs.Residues.{Same};
 ghost use Rattle.dotted_maps.specs.Choices.{choices};
@@ -17,7 +17,7 @@ ghost use Rattle.tangle_maps.specs.Ways.{HasReducedMaps, IsComposedAlong, IsWay,
 use crate::choices::{Dots, add_choices};
 use crate::names::{Names, at};
 use crate::pairing::POINTS;
-use crate::seam::{Seam, dots_on};
+use crate::seam::{Seam, add_dots};
 use crate::sum::Terms;
 use crate::way::Way;
 use dotted_maps::term::Term;
@@ -27,19 +27,19 @@ use prime_field::laws::element_laws;
 use smallvec::SmallVec;
 use std::alloc::Global;
 
-/// Dots and genus of a component.
-fn load(seam: &Seam, component: u8, dots: u64, others: u64) -> usize
-    requires { component < POINTS }
-    ensures load { result ≡ load_by seam.now dots others component }
-    ensures genus { slice_index seam.now.genera component ≤ result }
+/// Dots and genus of each component, as far as below 256.
+fn loads(seam: &Seam, dots: u64, others: u64) -> Names
+    ensures { (k : ℕ) → k < POINTS
+        → slice_index result k ≡ min 255 (load_by seam.now dots others k) }
 {
-    dots_on(component, dots, &seam.first)
-        + dots_on(component, others, &seam.second)
-        + usize::from(at(&seam.genera, component))
+    let mut loads = seam.genera;
+    add_dots(&mut loads, dots, &seam.first);
+    add_dots(&mut loads, others, &seam.second);
+    loads
 }
 
 /// A value times the factor of a component.
-fn times_factor<F: PrimeField>(value: F, load: usize, genus: u8) -> F
+fn times_factor<F: PrimeField>(value: F, load: u8, genus: u8) -> F
     requires { genus ≤ load }
     ensures { F.value_of result ≡ F.value_of value * factor_for load genus % F.P }
 {
@@ -62,10 +62,11 @@ fn weigh<F: PrimeField>(seam: &Seam, dots: u64, others: u64, left: &mut Names, v
     ensures value { Same F.P (F.value_of result) (F.value_of value
         * product_over (factor_by seam.now dots others) seam.now.components.items) }
 {
+    let loads = loads(seam, dots, others);
     let components: &[u8] = &seam.components;
     let mut weighed = value;
     'components: for component in components {
-        let load = load(seam, *component, dots, others);
+        let load = at(&loads, *component);
         left[usize::from(*component)] = left_at(load);
         weighed = times_factor(weighed, load, at(&seam.genera, *component));
     }
@@ -73,7 +74,7 @@ fn weigh<F: PrimeField>(seam: &Seam, dots: u64, others: u64, left: &mut Names, v
 }
 
 /// How many discs a component with this load leaves without a dot.
-fn left_at(load: usize) -> u8
+fn left_at(load: u8) -> u8
     ensures { result ≡ 1 - load }
 {
     if load == 0 { 1 } else { 0 }

@@ -1,11 +1,11 @@
 //! What a composition goes over: three pairings, the discs of each two of them, and the components.
 
-ghost use Rattle.std.specs.Prelude.{◌≡◌, ℕ, ◌<◌, ◌≤◌, ◌++◌, length, map, nat_eq, slice_index};
+ghost use Rattle.std.specs.Prelude.{◌≡◌, ℕ, ◌+◌, ◌<◌, ◌≤◌, ◌++◌, if◌then◌else◌, length, map, min, nat_eq, slice_index};
 ghost use Rattle.std.specs.List.{count_by, filter, AllByRecursion, Contains};
 ghost use Rattle.kh_types.specs.Classes.{classes_of, is_least};
 ghost use Rattle.tangle_maps.specs.declared.pairing.TheConstants.{POINTS};
 ghost use Rattle.tangle_maps.specs.Pairings.{IsOpened, joins_of, opened_points};
-ghost use Rattle.tangle_maps.specs.Seams.{IsSeam, dots_on, genus_by, load_by};
+ghost use Rattle.tangle_maps.specs.Seams.{IsSeam, dots_on, genus_by};
 
 use crate::names::{Names, at};
 use crate::pairing::{ALONE, POINTS, Pairing, join_pairs};
@@ -134,17 +134,28 @@ pub fn how_many(component: u8, numbers: &[u8]) -> usize
     numbers.iter().filter(|x| **x == component).count()
 }
 
-/// How many discs of a component have a dot.
-#[tactic(auto, using(crate::proofs::SeamLemmas::dots_on_more))]
-pub fn dots_on(component: u8, dots: u64, places: &[u8]) -> usize
-    ensures dots { result ≡ dots_on component dots places.now }
-    ensures bound { result ≤ length places.now }
+/// Adds to the number of each component how many of its discs, of which these are the components,
+/// have a dot; a number stays below 256.
+#[tactic(auto, using(crate::proofs::SeamLemmas::dots_on_more, crate::proofs::SeamLemmas::dots_on_none))]
+pub fn add_dots(loads: &mut Names, dots: u64, places: &[u8])
+    ensures { (k : ℕ) → k < POINTS → slice_index loads.new k
+        ≡ min 255 (slice_index loads.old k + dots_on k dots places.now) }
 {
-    let mut count = 0;
-    'places: for place in 0..places.len() {
-        if places[place] == component {
-            count += usize::from(bit(dots, place));
-        }
+    if dots == 0 {
+        return;
     }
-    count
+    'places: for place in 0..places.len() {
+        add_if(loads, places[place], bit(dots, place));
+    }
+}
+
+/// Adds to the number of a component; it stays below 256.
+fn add_if(loads: &mut Names, component: u8, more: u8)
+    ensures { (k : ℕ) → k < POINTS → slice_index loads.new k
+        ≡ min 255 (slice_index loads.old k + (if nat_eq component k then more else 0)) }
+{
+    if usize::from(component) < POINTS {
+        let load = loads[usize::from(component)];
+        loads[usize::from(component)] = load.saturating_add(more);
+    }
 }

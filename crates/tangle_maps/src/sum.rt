@@ -13,7 +13,7 @@ use prime_field::laws::element_laws;
 use smallvec::SmallVec;
 
 /// How many terms a sum keeps in itself, before it takes memory.
-pub const INLINE_TERMS: usize = 1;
+pub const INLINE_TERMS: usize = 2;
 
 /// A sum of terms, in any order. Where it is reduced, no two have the same dots, and none is 0.
 pub type Terms = SmallVec<Term, INLINE_TERMS>;

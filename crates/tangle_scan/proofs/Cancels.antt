@@ -13,7 +13,7 @@ use Rattle.tangle_scan.specs.declared.clearing.Turn.{Turn}
 use Rattle.tangle_scan.specs.declared.column.Entry.{Entry}
 use Rattle.tangle_scan.specs.declared.object.Object.{Object}
 use Rattle.tangle_scan.specs.Held.{is_alive_at, partners_at, terms_to}
-use Rattle.tangle_scan.specs.Eliminations.{HasHead, HasHeadsOf, HasOneEach, IsChanged, IsDottedTo, IsLess, IsLessOver, IsMultipleAt, IsTrimmed, IsTurn, head_at}
+use Rattle.tangle_scan.specs.Eliminations.{HasHead, HasHeadsOf, HasOneEach, IsChanged, IsDottedTo, IsLess, IsLessOver, IsMultipleAt, IsThrough, IsTrimmed, IsTurn, head_at}
 use Rattle.tangle_scan.proofs.Columns.{column-set, heads-kept_set, once-heads, heads-set, terms-at, terms-none}
 use Rattle.tangle_scan.proofs.Ways.{changed-as, changed-trimmed, less-along}
 
@@ -85,15 +85,6 @@ arcs-at opened (object ∷ objects) zero all within =
 arcs-at opened (object ∷ objects) (suc x) all within =
     arcs-at opened objects x (All-tail (λ (o : Object). opened ≡ paired_arcs o.pairing.partners) object objects all) (omega (arith, within))
 
--- a way through the pivot of a turn, from the object at x to that at z
-pub record IsThrough (turn : Turn) (x z : ℕ) (first second : List Term) (way : Way) : Type 0 where
-  pub opened : way.opened.now ≡ turn.opened.now
-  pub source : way.from.now.partners ≡ partners_at turn.objects.now x
-  pub middle : way.over.now.partners ≡ partners_at turn.objects.now turn.pivot.tail
-  pub target : way.to.now.partners ≡ partners_at turn.objects.now z
-  pub front : way.first.now ≡ first
-  pub back : way.second.now ≡ second
-
 pub way-through : (p : ℕ) (turn : Turn) (x z : ℕ) (first second : List Term) (way : Way) → IsTurn p turn → x < length turn.objects.now
     → z < length turn.objects.now → IsThrough turn x z first second way → IsWay way
 way-through p turn x z first second way is x_below z_below through =
@@ -143,3 +134,12 @@ less-through p c turn x z first second way old new same through is =
     (λ (f v : List ℕ).
     IsLessOver p turn.pivot.number way.opened.now f v way.to.now.partners way.first.now way.second.now old new)
     through.source through.middle less))
+
+-- and taken off the map of a column to its end
+pub less-changed : (p c : ℕ) (turn : Turn) (x y z : ℕ) (first second : List Term) (way : Way) (old new : List Entry)
+    → c ≡ turn.pivot.number → y ≡ z → IsThrough turn x z first second way
+    → IsChanged (IsCancelledAlong p c way) (Unit {0}) p y old new → IsChanged (IsLess p turn x z first second) (Unit {0}) p z old new
+less-changed p c turn x y z first second way old new same there through is =
+    subst (λ (v : ℕ). IsChanged (IsLess p turn x z first second) (Unit {0}) p v old new) there
+    (changed-as (IsCancelledAlong p c way) (IsLess p turn x z first second) p y old new
+    (less-through p c turn x z first second way (terms_to old y) (terms_to new y) same through) is)

@@ -1,4 +1,7 @@
 -- Objects of which one is not there any more: what else they are stays, and the places of those that are left.
+-- A mark changes one field of one object. So a list of what another field says is the same as before, and with it all that objects have to
+-- keep; and of two marks the second reads what the first left. The places of the objects that are there are the numbers from 0 on that pass
+-- a test: after both marks the test is the one before and that neither is met, so the places are those before without these two.
 use Rattle.std.proofs.Common.{◌≡◌, ◌≢◌, ℕ, inl, inr, ◌<◌, ◌∙◌, List, [], ◌∷◌, get_or, set, length, map, refl, sym, subst, ap, arith, Bool, true, false, cond, not, ◌&&◌}
 use Rattle.std.specs.Prelude.{nat_eq, All}
 use Rattle.std.specs.List.{Contains, filter, range_with_len}

@@ -10,14 +10,17 @@ use Rattle.dotted_maps.specs.declared.term.Term.{Term}
 use Rattle.dotted_maps.specs.Maps.{AreDotted, coefficient_in, composed_in}
 use Rattle.scan_laws.specs.Scans.{HasDots, Scan}
 use Rattle.scan_laws.specs.Steps.{LeadsTo}
+use Rattle.tangle_maps.specs.declared.way.Way.{Way}
 use Rattle.tangle_maps.specs.Pairings.{joins_of, opened_points, paired_arcs}
 use Rattle.tangle_maps.specs.Sums.{AreReduced, number_in}
 use Rattle.tangle_scan.specs.declared.clearing.Start.{Start}
 use Rattle.tangle_scan.specs.declared.clearing.Turn.{Turn}
 use Rattle.tangle_scan.specs.declared.column.Entry.{Entry}
 use Rattle.tangle_scan.specs.declared.complex.TangleComplex.{TangleComplex}
+use Rattle.tangle_scan.specs.declared.eliminating.Taken.{Taken}
 use Rattle.tangle_scan.specs.declared.front.Front.{Front}
 use Rattle.tangle_scan.specs.declared.object.Object.{Object}
+use Rattle.tangle_scan.specs.declared.pivots.Pivot.{Pivot}
 use Rattle.tangle_scan.specs.declared.rows.Rowed.{Rowed}
 use Rattle.tangle_scan.specs.Held.{IsColumn, IsComplexAt, column_at, has_head, is_alive_at, partners_at, scan_at, terms_to}
 
@@ -83,6 +86,27 @@ killed object =
 abbrev pub IsKilled : ℕ → List Object → List Object → Type 0
 IsKilled x old new = (d : Object) → new ≡ slice_set old x (killed (slice_index_or old x d))
 
+-- a pivot is taken out of a complex with its rows: its objects are not there any more, and the column of its tail and the names in the row
+-- of its head are what was taken, and the others stay
+pub record IsTakenOut (pivot : Pivot) (old new : Rowed) (taken : Taken) : Type 0 where
+  pub between : List Object
+  pub no_tail : IsKilled pivot.tail old.complex.objects.items between
+  pub no_head : IsKilled pivot.head between new.complex.objects.items
+  pub column : taken.column.items ≡ column_in old.complex.columns.items pivot.tail
+  pub size : length new.complex.columns.items ≡ length old.complex.columns.items
+  pub none : column_in new.complex.columns.items pivot.tail ≡ []
+  pub others : (z : ℕ) → z ≢ pivot.tail → column_in new.complex.columns.items z ≡ column_in old.complex.columns.items z
+  pub names : taken.named.items ≡ named_in old.rows.items pivot.head
+  pub rows_size : length new.rows.items ≡ length old.rows.items
+  pub rows_left : (z : ℕ) → z ≢ pivot.head → named_in new.rows.items z ≡ named_in old.rows.items z
+
+-- a turn is that of a pivot which was taken out of the complex at a front, and left these objects
+pub record IsTurnOf (front : Front) (objects : List Object) (pivot : Pivot) (taken : Taken) (turn : Turn) : Type 0 where
+  pub opened : turn.opened.now ≡ front.opened.items
+  pub objects_are : turn.objects.now ≡ objects
+  pub pivot_is : turn.pivot ≡ pivot
+  pub column : turn.column.now ≡ taken.column.items
+
 -- the map new is old less a way through a pivot, between objects with these partners: modulo p its coefficients, and the inverse of the
 -- pivot's number times those of the way's composition, are together those of old
 pub record IsLessOver (p number : ℕ) (opened from over to : List ℕ) (first second old new : List Term) : Type 0 where
@@ -139,6 +163,15 @@ pub record IsTurn (p : ℕ) (turn : Turn) : Type 0 where
   pub below : turn.pivot.number < p
   pub column : IsColumn p (length turn.objects.now) turn.column.now
   pub dots : All (IsDottedTo turn) turn.column.now
+
+-- a way through the pivot of a turn, from the object at x to that at z
+pub record IsThrough (turn : Turn) (x z : ℕ) (first second : List Term) (way : Way) : Type 0 where
+  pub opened : way.opened.now ≡ turn.opened.now
+  pub source : way.from.now.partners ≡ partners_at turn.objects.now x
+  pub middle : way.over.now.partners ≡ partners_at turn.objects.now turn.pivot.tail
+  pub target : way.to.now.partners ≡ partners_at turn.objects.now z
+  pub front : way.first.now ≡ first
+  pub back : way.second.now ≡ second
 
 -- a map from the object at a place to the pivot's head is a number times the identity
 pub record IsMultipleAt (turn : Turn) (place : ℕ) (first : List Term) (number : ℕ) : Type 0 where

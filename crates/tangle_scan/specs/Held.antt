@@ -1,5 +1,5 @@
 -- What the program holds of a scan, and the scan of the theorem that it stands for.
-use Rattle.std.specs.Prelude.{◌≡◌, ℕ, ◌+◌, ◌*◌, ◌<◌, ◌≤◌, pos, ◌+ℤ◌, ◌≤ℤ◌, List, [], length, map, nat_eq, slice_index_or, Bool, true, false, All, Some, None}
+use Rattle.std.specs.Prelude.{◌≡◌, ℕ, ◌+◌, ◌*◌, ◌<◌, ◌≤◌, pos, ◌+ℤ◌, ◌≤ℤ◌, List, [], length, map, nat_eq, slice_index_or, Bool, true, false, All, Some}
 use Rattle.std.specs.List.{count_by, filter, find, range_with_len}
 use Rattle.std.specs.Option.{option_map_or}
 use Rattle.kh_types.specs.Code.{Code, arc_count}

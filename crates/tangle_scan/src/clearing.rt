@@ -4,11 +4,12 @@
 
 ghost use Rattle.std.specs.Prelude.{◌≡◌, ◌≢◌, ℕ, ◌<◌, List, length, false, true, IfOk, IfSome, None, OnOk};
 ghost use Rattle.std.specs.List.{position};
+ghost use Rattle.tangle_maps.specs.Ways.{HasReducedMaps, IsMultiple, IsWay};
 ghost use Rattle.tangle_scan.specs.Held.{IsColumn, has_head, is_alive_at, partners_at};
 ghost use Rattle.tangle_scan.specs.Eliminations.{AreCleared, AreColumns, AreMore, AreTaken, HasHead};
 ghost use Rattle.tangle_scan.specs.Eliminations.{HasHeadsOf, IsChanged, IsCleared, IsClearStep};
 ghost use Rattle.tangle_scan.specs.Eliminations.{IsLess, IsLessIf, IsMultipleAt, IsNext, IsNoted};
-ghost use Rattle.tangle_scan.specs.Eliminations.{IsStart, IsTurn, head_at};
+ghost use Rattle.tangle_scan.specs.Eliminations.{IsStart, IsThrough, IsTurn, head_at};
 
 use crate::column::{Column, Entry};
 use crate::object::Object;
@@ -234,14 +235,7 @@ fn take_way<F: PrimeField>(
         → HasHeadsOf column.old.items column.new.items) }
 {
     element_laws::<F>();
-    let way = Way {
-        opened: turn.opened,
-        from: pairing_at(turn.objects, start.place),
-        over: pairing_at(turn.objects, turn.pivot.tail),
-        to: pairing_at(turn.objects, entry.head),
-        first: start.first,
-        second: entry.terms.as_slice(),
-    };
+    let way = way_over::<F>(turn, start, entry);
     let number = F::of(turn.pivot.number);
     match place_of(column, entry.head) {
         Some(at) => {
@@ -249,6 +243,28 @@ fn take_way<F: PrimeField>(
             Ok(false)
         }
         None => cancel_new(column, entry.head, &way, start.multiple, number),
+    }
+}
+
+/// The way from a start through the pivot and over an entry of its column.
+fn way_over<'a, F: PrimeField>(turn: &Turn<'a>, start: &Start<'a>, entry: &'a Entry) -> Way<'a>
+    requires turn { IsTurn F.P turn.now }
+    requires start { IsStart F.P turn.now start.now }
+    requires entry { IsNext F.P turn.now entry.now }
+    requires alive { is_alive_at turn.now.objects.now entry.now.head ≡ true }
+    ensures through { IsThrough turn.now start.now.place entry.now.head start.now.first.now
+        entry.now.terms.items result }
+    ensures way { IsWay result }
+    ensures maps { HasReducedMaps F.P result }
+    ensures multiple { IfSome start.now.multiple (λ m. IsMultiple m result) }
+{
+    Way {
+        opened: turn.opened,
+        from: pairing_at(turn.objects, start.place),
+        over: pairing_at(turn.objects, turn.pivot.tail),
+        to: pairing_at(turn.objects, entry.head),
+        first: start.first,
+        second: entry.terms.as_slice(),
     }
 }
 

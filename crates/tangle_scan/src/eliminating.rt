@@ -7,7 +7,7 @@ ghost use Rattle.scan_laws.specs.Eliminating.{IsEliminating};
 ghost use Rattle.scan_laws.specs.Steps.{LeadsTo};
 ghost use Rattle.tangle_scan.specs.Held.{HasNoPivot, IsComplexAt, IsFront, IsPivot, scan_at};
 ghost use Rattle.tangle_scan.specs.Eliminations.{AllHaveDots, IsKilled, IsRowed, IsRowedFrom};
-ghost use Rattle.tangle_scan.specs.Eliminations.{column_in};
+ghost use Rattle.tangle_scan.specs.Eliminations.{IsTakenOut, IsTurnOf, column_in};
 
 use crate::clearing::{Turn, clear_all};
 use crate::column::Column;
@@ -27,6 +27,14 @@ use std::mem;
 struct Pass {
     smoothing: u8,
     most_ways: usize,
+}
+
+/// What is taken out with a pivot: the column of its tail, and the columns that the row of its head
+/// names.
+#[derive(Drop)]
+struct Taken {
+    column: Column,
+    named: Vec<usize>,
 }
 
 /// First what changes no other map, then the rest. Objects with the 0-smoothing come first, since most
@@ -176,24 +184,46 @@ fn eliminate<F: PrimeField>(
         (scan_at front.now rowed.complex) (scan_at front.now next.complex)) }
     ensures rowed { IfOk result (IsRowed F.P front.now) }
 {
-    let Rowed { complex, rows } = rowed;
-    let TangleComplex { objects, columns } = complex;
-    let mut objects = objects;
-    let mut columns = columns;
-    let mut rows = rows;
-    kill(&mut objects, pivot.tail);
-    kill(&mut objects, pivot.head);
-    let column = take_column(alloc, &mut columns, pivot.tail);
-    let named = take_row(alloc, &mut rows, pivot.head);
-    let turn = Turn {
+    let mut rowed = rowed;
+    let taken = take_out(alloc, &mut rowed, pivot);
+    let turn = turn_of(front, &rowed.complex.objects, pivot, &taken);
+    let named = taken.named.as_slice();
+    clear_all::<F>(&mut rowed.complex.columns, &mut rowed.rows, &turn, named)?;
+    Ok(rowed)
+}
+
+/// Marks that the objects of a pivot are not there any more, and takes the column of its tail and the
+/// names in the row of its head out.
+fn take_out(alloc: Global, rowed: &mut Rowed, pivot: Pivot) -> Taken
+    requires tail { pivot.tail < length rowed.old.complex.objects.items }
+    requires head { pivot.head < length rowed.old.complex.objects.items }
+    requires columns { length rowed.old.complex.columns.items
+        ≡ length rowed.old.complex.objects.items }
+    requires rows { length rowed.old.rows.items ≡ length rowed.old.complex.objects.items }
+    ensures { IsTakenOut pivot rowed.old rowed.new result }
+{
+    kill(&mut rowed.complex.objects, pivot.tail);
+    kill(&mut rowed.complex.objects, pivot.head);
+    let column = take_column(alloc, &mut rowed.complex.columns, pivot.tail);
+    let named = take_row(alloc, &mut rowed.rows, pivot.head);
+    Taken { column, named }
+}
+
+/// The turn of a pivot that was taken out.
+fn turn_of<'a>(
+    front: &'a Front,
+    objects: &'a Vec<Object>,
+    pivot: Pivot,
+    taken: &'a Taken,
+) -> Turn<'a>
+    ensures { IsTurnOf front.now objects.now.items pivot taken.now result }
+{
+    Turn {
         opened: front.opened.as_slice(),
         objects: objects.as_slice(),
         pivot,
-        column: column.as_slice(),
-    };
-    clear_all::<F>(&mut columns, &mut rows, &turn, named.as_slice())?;
-    let complex = TangleComplex { objects, columns };
-    Ok(Rowed { complex, rows })
+        column: taken.column.as_slice(),
+    }
 }
 
 /// Takes a column out.

@@ -12,6 +12,7 @@ use crate::object::Object;
 use crate::scan::Scan;
 use crate::scan_count::counted_table;
 use crate::table::ScanTable;
+use kh_types::laws::diagrams::diagram_laws;
 use kh_types::{Diagram, NoMemory};
 use prime_field::PrimeField;
 use prime_field::laws::element_laws;
@@ -31,8 +32,7 @@ pub fn table_of_finished<F: PrimeField>(
     ensures { IfOk result (λ made. made ≡ table F.P diagram.now) }
 {
     element_laws::<F>();
-    // (what the type of a diagram keeps)
-    let _ = diagram.crossings();
+    diagram_laws(diagram);
     scans_count_dimensions();
     scan.laws();
     finished_scans_are_last(scan);

@@ -6,6 +6,7 @@ ghost use Rattle.kh_types.specs.declared.limits.TheConstants.{CROSSINGS};
 
 use arrayvec::ArrayVec;
 use cell_complexes::laws::orders::reordered_codes_are_accepted;
+use kh_types::laws::diagrams::diagram_laws;
 use kh_types::{CROSSINGS, Crossing, Diagram, RawCode};
 
 /// The diagram with its crossings in another order.
@@ -14,8 +15,7 @@ pub fn reordered(diagram: &Diagram, crossings: &[Crossing]) -> Diagram
     ensures { result ≡ listed_by diagram.now crossings.now }
 {
     reordered_codes_are_accepted();
-    // (what the type of a diagram keeps)
-    let _ = diagram.crossings();
+    diagram_laws(diagram);
     Diagram::of_accepted(&RawCode {
         crossings: list_of(crossings),
         loops: diagram.loops(),

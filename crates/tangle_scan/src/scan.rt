@@ -15,6 +15,7 @@ use crate::eliminating::eliminate_all;
 use crate::front::Front;
 use crate::object::Object;
 use arrayvec::ArrayVec;
+use kh_types::laws::diagrams::diagram_laws;
 use kh_types::{Diagram, NoMemory};
 use prime_field::PrimeField;
 use prime_field::laws::element_laws;
@@ -48,8 +49,7 @@ impl<F: PrimeField> Scan<F> {
         ensures behind { IfOk result (IsBehind diagram.now 0) }
         ensures none { IfOk result (λ scan. HasNoPivot scan.complex) }
     {
-        // (what the type of a diagram keeps)
-        let _ = diagram.crossings();
+        diagram_laws(diagram);
         let complex = first_complex(alloc)?;
         let front = Front {
             diagram: *diagram,
@@ -109,7 +109,7 @@ impl<F: PrimeField> Scan<F> {
     {
         element_laws::<F>();
         reached_scans();
-        let _ = self.front.diagram.crossings();
+        diagram_laws(&self.front.diagram);
     }
 
     /// The diagram.

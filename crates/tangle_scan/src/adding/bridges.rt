@@ -1,7 +1,7 @@
 //! The bridges of new maps: those from one pairing to another with either smoothing, and those of
 //! saddles. One that has been made is found again by its pairings.
 
-ghost use Rattle.std.specs.Prelude.{◌≡◌, ◌↔◌, ℕ, ◌<◌, length, slice_index_or, true, IfOk, IfSome, OnOk};
+ghost use Rattle.std.specs.Prelude.{◌≡◌, ℕ, ◌<◌, List, length, slice_index_or, IfOk, IfSome, OnOk};
 ghost use Rattle.tangle_scan.specs.AddedBridges.{AreAllBridges, AreBridgesFrom, HasBridgeAt, HasBridgesAt, IsSaddleOf};
 ghost use Rattle.tangle_scan.specs.Additions.{AreLinks, IsChild, IsParent};
 
@@ -33,21 +33,38 @@ pub struct BridgesOf {
 /// The bridges of the pairings of objects, as far as they have been made.
 pub type AllBridges = Vec<BridgesOf>;
 
-/// Whether two pairings have the same partners.
-fn are_alike(one: &Pairing, other: &Pairing) -> bool
-    ensures { (result ≡ true) ↔ (one.now.partners ≡ other.now.partners) }
-{
-    one.partners == other.partners
+/// What is kept with a pairing.
+trait HasPairing {
+    ghost partners_of: { Self → List ℕ };
+
+    fn pairing(&self) -> &Pairing
+        ensures { result.now.partners ≡ partners_of self.now };
 }
 
-/// The place of the bridge to a pairing, if there is one.
-fn place_to(bridges: &[BridgeTo], pairing: &Pairing) -> Option<usize>
-    ensures within { IfSome result (λ place. place < length bridges.now) }
-    ensures found { IfSome result (λ place. (d : BridgeTo)
-        → (slice_index_or bridges.now place d).pairing.partners ≡ pairing.now.partners) }
+impl HasPairing for BridgeTo {
+    ghost partners_of = { λ to. to.pairing.partners };
+
+    fn pairing(&self) -> &Pairing {
+        &self.pairing
+    }
+}
+
+impl HasPairing for BridgesOf {
+    ghost partners_of = { λ bridges. bridges.pairing.partners };
+
+    fn pairing(&self) -> &Pairing {
+        &self.pairing
+    }
+}
+
+/// The place of what is kept of a pairing, if there is any.
+fn place_of<T: HasPairing>(all: &[T], pairing: &Pairing) -> Option<usize>
+    ensures within { IfSome result (λ place. place < length all.now) }
+    ensures found { IfSome result (λ place. (d : T)
+        → T.partners_of (slice_index_or all.now place d) ≡ pairing.now.partners) }
 {
-    'bridges: for place in 0..bridges.len() {
-        if are_alike(&bridges[place].pairing, pairing) {
+    'all: for place in 0..all.len() {
+        if all[place].pairing().partners == pairing.partners {
             return Some(place);
         }
     }
@@ -99,7 +116,7 @@ pub fn bridge_to(
         from.now.side.smoothing from.now.parent head.now.place bridges.new.items place) }
 {
     let pairing = pairing_of(links, head);
-    match place_to(bridges, pairing) {
+    match place_of(bridges, pairing) {
         Some(place) => Ok(place),
         None => push_bridge(bridges, links, from, head),
     }
@@ -114,20 +131,6 @@ fn saddle_of(links: &Links<'_>, parent: &Parent<'_>) -> Bridge
     let from = side_of(links, parent, 0);
     let to = side_of(links, parent, 1);
     saddle_bridge(&links.adding.site, &from, &to)
-}
-
-/// The place of the bridges of a pairing, if there are any.
-fn place_of(all: &[BridgesOf], pairing: &Pairing) -> Option<usize>
-    ensures within { IfSome result (λ place. place < length all.now) }
-    ensures found { IfSome result (λ place. (d : BridgesOf)
-        → (slice_index_or all.now place d).pairing.partners ≡ pairing.now.partners) }
-{
-    'all: for place in 0..all.len() {
-        if are_alike(&all[place].pairing, pairing) {
-            return Some(place);
-        }
-    }
-    None
 }
 
 /// Begins the bridges of an object's pairing, and tells their place.

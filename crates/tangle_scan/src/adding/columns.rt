@@ -127,7 +127,7 @@ fn push_columns_of<'a, F: PrimeField>(
 }
 
 /// The column of a new object, with what comes from maps out of the old one, and with its saddles. It
-/// takes no more memory than it has entries.
+/// has room for few entries more than it has.
 fn column_from<'a, F: PrimeField>(
     links: &'a Links<'a>,
     bridges: &mut Bridges,
@@ -147,12 +147,24 @@ fn column_from<'a, F: PrimeField>(
     ensures bridges { OnOk result (AreBridgesFrom links.now.adding.now
         child.now.side.smoothing child.now.parent bridges.new.items) }
 {
-    let mut column = Vec::new(links.alloc);
     let entries = &links.adding.complex.columns[child.parent];
+    let mut column = Vec::with_capacity(links.alloc, entries.len().saturating_add(2))?;
     push_all::<F>(&mut column, links, bridges, child, entries)?;
     push_saddles::<F>(&mut column, links, saddle, child, parent)?;
-    column.shrink_to_fit();
+    trim(&mut column);
     Ok(column)
+}
+
+/// How many entries a column may have room for beyond those that it has.
+const SPARE: usize = 2;
+
+/// Gives back the memory of a column that is not used, where this is more than SPARE entries.
+fn trim(column: &mut Column)
+    ensures { column.new.items ≡ column.old.items }
+{
+    if column.capacity().saturating_sub(column.len()) > SPARE {
+        column.shrink_to_fit();
+    }
 }
 
 /// Adds the entries of a new object's column along all maps out of the old one.

@@ -4,7 +4,7 @@ use Rattle.kh_types.specs.Classes.{classes_of, is_least}
 use Rattle.tangle_maps.specs.declared.pairing.TheConstants.{POINTS}
 use Rattle.crossing_maps.specs.ListedPlaces.{IsArcs}
 use Rattle.crossing_maps.specs.Sides.{pairs_after, pairs_before}
-use Rattle.crossing_maps.proofs.Composable.{can-label, rims-near, sides-joined, slots-numbered}
+use Rattle.crossing_maps.proofs.Composable.{can-label, closed-within, rims-near, sides-joined, slots-numbered}
 use Rattle.crossing_maps.proofs.SeamPlaces.{bridge_there}
 use Rattle.crossing_maps.proofs.between.bridge_between.Goals as goal
 
@@ -47,8 +47,8 @@ returns-clause-labels c =
     c.bridge_on.result (sides-joined site from to from.smoothing to.smoothing c.requires.sides) c.added_classes-classes.ensures
     (rims-near (is_least (classes_of POINTS (pairs_after site from ++ pairs_after site to))) site c.deref.result.now c.requires.sides.around
     (c.deref.ensures.0 ∙ c.discs_of-rims.ensures.discs))
-    (omega (arith, c.discs_of-rims.ensures.arcs.fits, ap (λ (xs : List ℕ). length xs) c.deref.ensures.0)) c.bridge_on.ensures.bridge.parts
-    c.bridge_on.ensures.bridge.rims c.bridge_on.ensures.circles
+    (omega (arith, c.discs_of-rims.ensures.arcs.fits, ap (λ (xs : List ℕ). length xs) c.deref.ensures.0)) c.bridge_on.ensures.bridge.seam.parts
+    c.bridge_on.ensures.bridge.seam.whole (closed-within c.bridge_on.ensures.bridge) c.bridge_on.ensures.circles
 
 pub returns-clause-bridge : goal.returns-clause-bridge
 returns-clause-bridge c = λ code k place is first second.

@@ -1,5 +1,5 @@
-use Rattle.std.proofs.Common.{ℕ, List, ◌∙◌, sym, subst, ap, arith, length}
-use Rattle.std.proofs.lemmas.List.{length-map}
+use Rattle.std.proofs.Common.{ℕ, List, ◌++◌, ◌∙◌, sym, subst, ap, ap₂, arith, length}
+use Rattle.std.proofs.lemmas.List.{length-append, length-map}
 use Rattle.std.specs.Prelude.{slice_index}
 use Rattle.std.specs.List.{Contains}
 use Rattle.tangle_maps.specs.Pairings.{IsOpened}
@@ -18,17 +18,20 @@ pub returns-clause-bridge : goal.returns-clause-bridge
 returns-clause-bridge c =
     let parts = c.least_names-components.ensures ∙ least-named c.args.classes.now c.args.near.now in
     record {
-      parts = parts;
-      discs = c.named-discs.ensures;
-      rims = c.named-rims.ensures;
-      closed = c.named-closed.ensures;
-      others = c.named-others.ensures;
-      genera = λ k has.
-          c.genera_in-genera.ensures k (subst (λ xs. Contains xs k) (sym (c.deref-7.ensures.0 ∙ parts)) has)
-          ∙ ap (λ at. genus_at at k)
-          (places-same (c.deref.ensures.0 ∙ c.named-rims.ensures) (c.deref-2.ensures.0 ∙ c.named-discs.ensures)
-          (c.deref-3.ensures.0 ∙ c.named-closed.ensures) (c.deref-4.ensures.0 ∙ c.named-others.ensures)
-          (c.deref-5.ensures.0 ∙ c.strips_on-lowers.ensures) (c.deref-6.ensures.0 ∙ c.named-raises.ensures));
+      seam = record {
+        parts = parts;
+        first = c.named-discs.ensures;
+        second = c.appended.ensures
+            ∙ ap₂ (λ (xs : List ℕ) (ys : List ℕ). xs ++ ys) c.named-closed.ensures (c.deref-8.ensures.0 ∙ c.named-others.ensures);
+        whole = c.named-rims.ensures;
+        genera = λ k has.
+            c.genera_in-genera.ensures k (subst (λ xs. Contains xs k) (sym (c.deref-7.ensures.0 ∙ parts)) has)
+            ∙ ap (λ at. genus_at at k)
+            (places-same (c.deref.ensures.0 ∙ c.named-rims.ensures) (c.deref-2.ensures.0 ∙ c.named-discs.ensures)
+            (c.deref-3.ensures.0 ∙ c.named-closed.ensures) (c.deref-4.ensures.0 ∙ c.named-others.ensures)
+            (c.deref-5.ensures.0 ∙ c.strips_on-lowers.ensures) (c.deref-6.ensures.0 ∙ c.named-raises.ensures));
+      };
+      closed = sym (length-map c.args.places.now.closed.now (slice_index c.args.classes.now));
     }
 
 pub returns-clause-circles : goal.returns-clause-circles
@@ -37,8 +40,10 @@ returns-clause-circles c =
     omega (
       arith,
       c.requires.places.both,
+      ap (λ (xs : List ℕ). length xs) c.appended.ensures,
+      length-append c.named-closed.result.items c.deref-8.result.now,
       ap (λ (xs : List ℕ). length xs) c.named-closed.ensures,
-      ap (λ (xs : List ℕ). length xs) c.named-others.ensures,
+      ap (λ (xs : List ℕ). length xs) (c.deref-8.ensures.0 ∙ c.named-others.ensures),
       length-map c.args.places.now.closed.now f,
       length-map c.args.places.now.others.now f,
     )

@@ -11,4 +11,4 @@ returns-clause-terms g c = λ code k smoothing m n are is.
     c.new-made.result.items c.add_map.new.terms.items c.new-made.ensures.items c.of.ensures
     (c.in_ok-add_map.ensures.sum code k smoothing m n labels.before labels.behind are
     (labelled-there code k smoothing smoothing m n (discs (points_at code k) m n) (points_at code k).opened labels.before labels.behind
-    c.args.bridge.now c.labelled-seam.result is c.labelled-seam.ensures.labelled c.labelled-seam.ensures.room))
+    c.marks-marks.result c.args.bridge.now is c.marks-marks.ensures))

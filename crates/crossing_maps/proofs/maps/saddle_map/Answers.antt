@@ -11,5 +11,5 @@ returns-clause-terms g c = λ code k m are is.
     saddle-terms g.F.PrimeField.P (g.F.PrimeField.value_of c.args.sign) code k m labels.before labels.behind c.new-made.result.items
     c.add_saddle.new.terms.items c.new-made.ensures.items
     (c.in_ok-add_saddle.ensures.sum code k m labels.before labels.behind are
-    (labelled-there code k 0 1 m m (map first_end m) (saddle_strips code k) labels.before labels.behind c.args.bridge.now
-    c.labelled-seam.result is c.labelled-seam.ensures.labelled c.labelled-seam.ensures.room))
+    (labelled-there code k 0 1 m m (map first_end m) (saddle_strips code k) labels.before labels.behind c.marks-marks.result
+    c.args.bridge.now is c.marks-marks.ensures))

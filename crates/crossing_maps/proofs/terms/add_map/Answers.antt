@@ -3,20 +3,19 @@ use Rattle.std.proofs.lemmas.Result.{on_ok_weaker}
 use Rattle.dotted_maps.specs.Maps.{scaled}
 use Rattle.tangle_maps.specs.Seams.{seam_listed}
 use Rattle.tangle_maps.specs.Sums.{IsSum}
-use Rattle.crossing_maps.specs.AddedSeams.{all_dots}
 use Rattle.crossing_maps.proofs.NewLemmas.{AreReduced_one, map_made}
 use Rattle.crossing_maps.proofs.terms.add_map.Goals as goal
 
 pub add_all-requires-clause-second : goal.add_all-requires-clause-second
 add_all-requires-clause-second g c =
-    AreReduced_one g.F.PrimeField.P all_dots c.all_marked.result c.element_laws.ensures.field.above_one c.all_marked.ensures
+    AreReduced_one g.F.PrimeField.P c.args.marks c.dotted.result c.element_laws.ensures.field.above_one c.dotted.ensures
 
 pub returns-clause-sum : goal.returns-clause-sum
 returns-clause-sum g c = λ code k smoothing m n label other are is.
     on_ok_weaker c.add_all.result
-    (λ sum. map_made g.F.PrimeField.P (g.F.PrimeField.value_of c.args.factor) code k smoothing m n label other c.args.seam.now c.args.old.now
+    (λ sum. map_made g.F.PrimeField.P (g.F.PrimeField.value_of c.args.factor) code k smoothing m n label other c.args.seam.now c.args.marks c.args.old.now
     c.args.terms.now.items c.add_all.new.terms.items are is
     (subst (λ t. IsSum g.F.PrimeField.P c.args.terms.now.items
     (scaled (g.F.PrimeField.value_of c.args.factor) (seam_listed c.args.seam.now c.args.old.now (t ∷ []))) c.add_all.new.terms.items)
-    c.all_marked.ensures sum))
+    c.dotted.ensures sum))
     c.add_all.ensures.sum

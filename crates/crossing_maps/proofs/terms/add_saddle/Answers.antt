@@ -3,27 +3,26 @@ use Rattle.std.proofs.lemmas.Result.{on_ok_weaker}
 use Rattle.dotted_maps.specs.Maps.{scaled}
 use Rattle.tangle_maps.specs.Seams.{seam_listed}
 use Rattle.tangle_maps.specs.Sums.{IsSum, term_of}
-use Rattle.crossing_maps.specs.AddedSeams.{all_dots}
 use Rattle.crossing_maps.proofs.NewLemmas.{AreReduced_one, saddle_made}
 use Rattle.crossing_maps.proofs.terms.add_saddle.Goals as goal
 
 pub add_all-requires-clause-first : goal.add_all-requires-clause-first
 add_all-requires-clause-first g c =
-    AreReduced_one g.F.PrimeField.P 0 c.bare.result c.element_laws.ensures.field.above_one c.bare.ensures
+    AreReduced_one g.F.PrimeField.P 0 c.dotted-2.result c.element_laws.ensures.field.above_one c.dotted-2.ensures
 
 pub add_all-requires-clause-second : goal.add_all-requires-clause-second
 add_all-requires-clause-second g c =
-    AreReduced_one g.F.PrimeField.P all_dots c.all_marked.result c.element_laws.ensures.field.above_one c.all_marked.ensures
+    AreReduced_one g.F.PrimeField.P c.args.marks c.dotted.result c.element_laws.ensures.field.above_one c.dotted.ensures
 
 pub returns-clause-sum : goal.returns-clause-sum
 returns-clause-sum g c = λ code k m label other are is.
     on_ok_weaker c.add_all.result
-    (λ sum. saddle_made g.F.PrimeField.P (g.F.PrimeField.value_of c.args.sign) code k m label other c.args.seam.now
+    (λ sum. saddle_made g.F.PrimeField.P (g.F.PrimeField.value_of c.args.sign) code k m label other c.args.seam.now c.args.marks
     c.args.terms.now.items c.add_all.new.terms.items are is
     (subst (λ t. IsSum g.F.PrimeField.P c.args.terms.now.items
     (scaled (g.F.PrimeField.value_of c.args.sign) (seam_listed c.args.seam.now (term_of 0 1 ∷ []) (t ∷ []))) c.add_all.new.terms.items)
-    c.all_marked.ensures
+    c.dotted.ensures
     (subst (λ t. IsSum g.F.PrimeField.P c.args.terms.now.items
-    (scaled (g.F.PrimeField.value_of c.args.sign) (seam_listed c.args.seam.now (t ∷ []) (c.all_marked.result ∷ []))) c.add_all.new.terms.items)
-    c.bare.ensures sum)))
+    (scaled (g.F.PrimeField.value_of c.args.sign) (seam_listed c.args.seam.now (t ∷ []) (c.dotted.result ∷ []))) c.add_all.new.terms.items)
+    c.dotted-2.ensures sum)))
     c.add_all.ensures.sum

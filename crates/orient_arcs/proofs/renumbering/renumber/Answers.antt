@@ -1,4 +1,5 @@
-use Rattle.std.proofs.Common.{◌∙◌, ap, map}
+use Rattle.std.proofs.lemmas.Bool.Decides.{nat_tests}
+use Rattle.std.proofs.Common.{arith, ◌∙◌, ap, map}
 use Rattle.kh_types.specs.Code.{Code}
 use Rattle.code_passes.specs.Parts.{Parts, passes_through}
 use Rattle.orient_arcs.specs.Renumbered.{order_of, number_in, renamed_crossing}
@@ -7,15 +8,7 @@ use Rattle.orient_arcs.proofs.OneOrder.{AreInOrder-order}
 use Rattle.orient_arcs.proofs.renumbering.renumber.Goals as goal
 
 pub returns-clause-code : goal.returns-clause-code
-returns-clause-code c =
-    code_is c.args.parts.now c.passes_through-passes.result.items c.order_of-order.result.items c.crossings_in.result.items c.parts.inside.loops
-    c.passes_through-passes.ensures.passes (c.order_of-order.ensures.order ∙ ap order_of c.deref.ensures.0)
-    (c.crossings_in.ensures ∙ ap (λ os. map (renamed_crossing (number_in os)) c.args.parts.now.crossings) c.deref-2.ensures.0)
-    (ap (λ (p : Parts). p.loops) c.parts.view_is)
+returns-clause-code = grind (arith, nat_tests, code_is)
 
 pub returns-clause-order : goal.returns-clause-order
-returns-clause-order c = (
-  order_of (passes_through c.args.parts.now),
-  AreInOrder-order c.args.parts.now c.requires,
-  ap (λ (code : Code). code.crossings) (returns-clause-code c),
-)
+returns-clause-order = grind (arith, nat_tests, AreInOrder-order, returns-clause-code)

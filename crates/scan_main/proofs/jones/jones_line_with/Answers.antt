@@ -14,8 +14,8 @@ use Rattle.scan_main.proofs.jones.jones_line_with.Goals as goal
 pub narrowed-requires-clause-table : goal.narrowed-requires-clause-table
 narrowed-requires-clause-table c =
     subst IsTable (sym c.requires)
-    (IsTable-small c.args.field c.args.diagram.now ((IsAccepted-is c.args.diagram.now).0 c.crossings.ensures.accepted)
-    (subst (λ crossings. length crossings ≤ CROSSINGS) c.crossings.ensures.crossings c.crossings.ensures.few)
+    (IsTable-small c.args.field c.args.diagram.now ((IsAccepted-is c.args.diagram.now).0 c.diagram_laws.ensures.accepted)
+    c.diagram_laws.ensures.few
     (subst IsSmallPrime c.elements.ensures (IsSmallPrime-field_size c.elements.result))
     (subst (λ (rows : List Row). All (λ row. row.dim ≤ GENERATORS) rows) (c.rows.ensures ∙ ap (λ (t : Table). t.rows) c.requires)
     (c.are_small.ensures.0 c.if-are_small.true)))
@@ -26,5 +26,5 @@ returns-in_ok-print_jones c =
     ∙ ap (λ (coefficients : List ℤ). polynomial_text (coefficient_in coefficients)) c.euler.ensures
     ∙ ap (λ (t : Table). polynomial_text (coefficient_in (coefficients_of (euler t)))) (c.in_ok-table.ensures ∙ c.requires)
     ∙ euler-line c.args.field c.args.diagram.now (subst IsSmallPrime c.elements.ensures (IsSmallPrime-field_size c.elements.result))
-    c.crossings.ensures.accepted
-    (subst (λ crossings. length crossings ≤ CROSSINGS) c.crossings.ensures.crossings c.crossings.ensures.few)
+    c.diagram_laws.ensures.accepted
+    c.diagram_laws.ensures.few

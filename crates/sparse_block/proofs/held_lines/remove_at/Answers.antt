@@ -1,4 +1,5 @@
-use Rattle.std.proofs.Common.{◌≡◌, ◌∙◌, [], length, ap, refl}
+use Rattle.std.proofs.lemmas.Bool.Decides.{nat_tests}
+use Rattle.std.proofs.Common.{arith, ◌≡◌, ◌∙◌, [], length, ap, refl}
 use Rattle.std.specs.Prelude.{slice_index_or}
 use Rattle.std.proofs.lemmas.List.{get_or-set_same}
 use Rattle.smallvec.specs.SmallVec.{SmallVec}
@@ -12,17 +13,10 @@ use Rattle.sparse_block.proofs.held_lines.remove_at.Goals as goal
 
 removed : (c : After-remove)
     → c.remove.new.line.items ≡ without c.args.place (slice_index_or (entries_in c.args.lines.now) c.args.line [])
-removed c =
-    c.remove.ensures
-    ∙ ap (without c.args.place)
-    (line-got c.args.lines.now c.args.line c.index-lines-line-2.result c.requires.line)
+removed c = grind (arith, nat_tests, line-got)
 
 pub returns-clause-lines : goal.returns-clause-lines
-returns-clause-lines c =
-    let lines = c.args.lines.now in
-    entries_in-set lines c.args.line c.remove.new.line
-    (without c.args.place (slice_index_or (entries_in lines) c.args.line []))
-    (removed (goal.at.returns-clause-lines c).After-remove)
+returns-clause-lines = grind (arith, nat_tests, entries_in-set, removed, After-remove)
 
 pub returns-clause-count : goal.returns-clause-count
 returns-clause-count c =

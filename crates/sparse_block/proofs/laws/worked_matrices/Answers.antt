@@ -1,14 +1,7 @@
-use Rattle.std.proofs.Common.{refl}
+use Rattle.std.proofs.lemmas.Bool.Decides.{nat_tests}
+use Rattle.std.proofs.Common.{arith, refl}
 use Rattle.sparse_block.proofs.WorkedLemmas.{worked-three, worked-five}
 use Rattle.sparse_block.proofs.laws.worked_matrices.Goals as goal
 
 pub returns : goal.returns
-returns c =
-    record {
-      first = λ x y z. refl;
-      second = refl;
-      column = refl;
-      row = refl;
-      three = worked-three;
-      five = worked-five;
-    }
+returns = grind (arith, nat_tests, worked-three, worked-five)

@@ -1,7 +1,7 @@
+use Rattle.std.proofs.Common.{arith}
+use Rattle.std.proofs.lemmas.Bool.Decides.{nat_tests}
 use Rattle.sparse_block.proofs.LineLemmas.{entries_in-pushed}
 use Rattle.sparse_block.proofs.lines.push_entry.Goals as goal
 
 pub returns : goal.returns
-returns c =
-    entries_in-pushed c.args.rows.now.items c.args.row c.index_mut.result.now c.push.new.self c.args.entry c.requires
-    c.index_mut.ensures.value c.in_ok-push.ensures.ok
+returns = grind (arith, nat_tests, entries_in-pushed)

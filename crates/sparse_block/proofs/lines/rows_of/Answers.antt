@@ -1,3 +1,4 @@
+use Rattle.std.proofs.lemmas.Bool.Decides.{nat_tests}
 use Rattle.std.proofs.Common.{◌≡◌, ◌∙◌, arith, ap, length, sym, take}
 use Rattle.std.proofs.lemmas.List.{length-map}
 use Rattle.smallvec.specs.SmallVec.{SmallVec}
@@ -27,11 +28,4 @@ push_column-requires c =
     )
 
 pub columns-preserved : goal.columns-preserved
-columns-preserved c =
-    let columns = c.args.columns.now in
-    rows_of-more c.args.height c.columns.column (entries_in columns) (entries_in c.columns.rows.items)
-    (entries_in c.push_column.new.rows.items) c.as_slice.result.now
-    (omega (arith, c.columns-test.true, length-map columns (λ (line : SmallVec Entry). line.items)))
-    (c.as_slice.ensures
-    ∙ sym (line-entries_in columns c.columns.column c.index-columns-column.result c.columns-test.true c.index-columns-column.is))
-    c.columns.invariant c.in_ok-push_column.ensures
+columns-preserved = grind (arith, nat_tests, rows_of-more, length-map, line-entries_in)

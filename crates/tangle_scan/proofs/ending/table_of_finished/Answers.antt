@@ -18,7 +18,7 @@ returns g c =
     let same : held.front.diagram ≡ listed_by code crossings =
     ap (λ (loops : ℕ). let listed : Code = record { crossings = crossings; loops = loops } in listed) c.requires.loops in
     let counts : counted_table p code (scan_of held) ≡ table p code =
-    c.scans_count_dimensions.ensures.small p code crossings (scan_of held) c.element_laws.ensures.prime c.crossings.ensures.accepted
+    c.scans_count_dimensions.ensures.small p code crossings (scan_of held) c.element_laws.ensures.prime c.diagram_laws.ensures.accepted
     (record {
       order = c.requires.order;
       reached = subst (λ (listed : Code). IsReached p listed (scan_of held)) same c.laws.ensures.kept.reached;

@@ -1,12 +1,7 @@
-use Rattle.std.proofs.Common.{length, ap, arith}
+use Rattle.std.proofs.Common.{arith}
 use Rattle.tangle_scan.proofs.OrderLemmas.{reordered-length}
 use Rattle.tangle_scan.proofs.reordering.reordered.Goals as goal
 
 pub list_of-requires : goal.list_of-requires
 list_of-requires c =
-    omega (
-      arith,
-      reordered-length c.args.diagram.now.crossings c.args.crossings.now c.requires,
-      c.crossings.ensures.few,
-      ap length c.crossings.ensures.crossings,
-    )
+    omega (arith, reordered-length c.args.diagram.now.crossings c.args.crossings.now c.requires, c.diagram_laws.ensures.few)

@@ -1,6 +1,5 @@
-use Rattle.std.specs.Prelude.{◌≡◌, List}
+use Rattle.std.specs.Prelude.{◌≡◌}
 use Rattle.std.proofs.lemmas.Result.{IfOk-weaker}
-use Rattle.kh_types.specs.Table.{Row}
 use Rattle.tangle_scan.specs.CountedRows.{AreCountedRows, all_rows_by, dims_of}
 use Rattle.tangle_scan.proofs.scan_count.counted_rows.Goals as goal
 

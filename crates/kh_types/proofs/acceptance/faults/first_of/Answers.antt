@@ -1,3 +1,4 @@
+use Rattle.std.proofs.lemmas.Bool.Decides.{nat_tests}
 use Rattle.std.proofs.Common.{◌≡◌, ◌+◌, ◌-◌, ◌∙◌, sym, ap, arith}
 use Rattle.std.specs.List.{range_with_len}
 use Rattle.kh_types.specs.Acceptance.{first_of}
@@ -12,10 +13,4 @@ returns-in-Some g c = λ at same.
     (c.loop-number.invariant at same) (sym (same number _ (omega arith) c.fault_at.ensures) ∙ c.in-Some.is))
 
 pub loop-number-preserved : goal.loop-number-preserved
-loop-number-preserved g c = λ at same.
-    let start = c.args.numbers.start in
-    let number = c.loop-number.number in
-    let more : number + 1 - start ≡ number - start + 1 = omega arith in
-    ap (λ n. first_of at (range_with_len start n)) more
-    ∙ none_of_more at start (number - start) number (omega arith) (c.loop-number.invariant at same)
-    (sym (same number _ (omega arith) c.fault_at.ensures) ∙ c.in_default.is)
+loop-number-preserved = grind (arith, nat_tests, none_of_more)

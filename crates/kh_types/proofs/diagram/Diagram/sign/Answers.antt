@@ -1,13 +1,13 @@
 -- Both signs are read back from eight bits as they are.
-use Rattle.std.proofs.Common.{◌≡◌, refl, ap, ◌∙◌, if◌then◌else◌, ℤ, pos, neg_ℤ, Bool, true, false, to_z, of_z}
+use Rattle.std.proofs.lemmas.Bool.Decides.{nat_tests}
+use Rattle.std.proofs.Common.{arith, ◌≡◌, refl, ap, ◌∙◌, if◌then◌else◌, ℤ, pos, neg_ℤ, Bool, true, false, to_z, of_z}
 use Rattle.std.specs.Prelude.{List, ℕ}
 use mir.Syntax.{w8}
 use Rattle.kh_types.specs.Directions.{is_positive}
 use Rattle.kh_types.proofs.diagram.Diagram.sign.Goals as goal
 
 read_back : (b : Bool) → to_z w8 (of_z w8 (if b then pos 1 else neg_ℤ (pos 1))) ≡ (if b then pos 1 else neg_ℤ (pos 1))
-read_back true = refl
-read_back false = refl
+read_back b = grind (arith, nat_tests)
 
 pub returns : goal.returns
 returns c =

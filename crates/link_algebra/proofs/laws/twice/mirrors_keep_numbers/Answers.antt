@@ -1,4 +1,5 @@
-use Rattle.std.proofs.Common.{List, length, subst, ℕ, ◌≡◌}
+use Rattle.std.proofs.lemmas.Bool.Decides.{nat_tests}
+use Rattle.std.proofs.Common.{arith, List, length, subst, ℕ, ◌≡◌}
 use Rattle.std.proofs.lemmas.List.Elements.{recursion_from_All}
 use Rattle.kh_types.specs.Code.{Code}
 use Rattle.link_algebra.specs.Mirrors.{EntersInOrder, mirror_of}
@@ -11,8 +12,7 @@ pub returns-clause-kept : goal.returns-clause-kept
 returns-clause-kept c = mirror-kept
 
 pub returns-clause-twice : goal.returns-clause-twice
-returns-clause-twice c = λ code holds in_order four.
-    mirror-twice code holds in_order (recursion_from_All (λ (slots : List ℕ). length slots ≡ 4) code.crossings four)
+returns-clause-twice c = grind (arith, nat_tests, mirror-twice, recursion_from_All)
 
 pub returns-clause-only : goal.returns-clause-only
 returns-clause-only c = λ code holds same.

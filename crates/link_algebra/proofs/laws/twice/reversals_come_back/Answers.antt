@@ -1,4 +1,5 @@
-use Rattle.std.proofs.Common.{List, length, refl, ℕ, ◌≡◌}
+use Rattle.std.proofs.lemmas.Bool.Decides.{nat_tests}
+use Rattle.std.proofs.Common.{arith, List, length, refl, ℕ, ◌≡◌}
 use Rattle.std.proofs.lemmas.List.Elements.{recursion_from_All}
 use Rattle.link_algebra.proofs.ReversedNumbers.{reversal-twice}
 use Rattle.link_algebra.proofs.Twice.{reversal-alike, reversal-twice_signs}
@@ -14,5 +15,4 @@ pub returns-clause-signs : goal.returns-clause-signs
 returns-clause-signs c = λ code crossing holds is. reversal-twice_signs code holds crossing is
 
 pub returns-clause-twice : goal.returns-clause-twice
-returns-clause-twice c = λ code holds four.
-    reversal-twice code holds (recursion_from_All (λ (slots : List ℕ). length slots ≡ 4) code.crossings four)
+returns-clause-twice c = grind (arith, nat_tests, reversal-twice, recursion_from_All)

@@ -1,4 +1,5 @@
-use Rattle.std.proofs.Common.{◌∙◌, ◌+◌, ◌*◌, ap, ap₂, sym}
+use Rattle.std.proofs.lemmas.Bool.Decides.{nat_tests}
+use Rattle.std.proofs.Common.{arith, ◌∙◌, ◌+◌, ◌*◌, ap, ap₂, sym}
 use Rattle.kh_types.specs.Classes.{class_count}
 use Rattle.orient_arcs.proofs.AlikeCrossings.{partner_at-alike, faces-alike, pieces-alike, IsCheckerboard-alike}
 use Rattle.orient_arcs.proofs.laws.alike.alike_crossings_have_the_same_faces.Goals as goal
@@ -13,9 +14,7 @@ pub returns-clause-pieces : goal.returns-clause-pieces
 returns-clause-pieces c = pieces-alike
 
 pub returns-clause-planar : goal.returns-clause-planar
-returns-clause-planar c = λ crossings others alike planar.
-    ap class_count (faces-alike crossings others alike) ∙ planar
-    ∙ ap₂ (λ n k. n + 2 * class_count k) (sym alike.size) (sym (pieces-alike crossings others alike))
+returns-clause-planar = grind (arith, nat_tests, faces-alike, pieces-alike)
 
 pub returns-clause-checkerboard : goal.returns-clause-checkerboard
 returns-clause-checkerboard c = IsCheckerboard-alike

@@ -1,3 +1,4 @@
+use Rattle.std.proofs.lemmas.Bool.Decides.{nat_tests}
 use Rattle.std.proofs.Common.{◌-◌, arith, refl, length, false}
 use Rattle.std.proofs.lemmas.List.FromFn.{get_or-map-range_with_len}
 use Rattle.kh_types.specs.Directions.{is_positive}
@@ -8,8 +9,7 @@ use Rattle.orient_arcs.proofs.AcceptedParts.{IsAccepted-renumbered, state_sum-re
 use Rattle.orient_arcs.proofs.laws.renumbered.accepted_codes_are_renumbered.Goals as goal
 
 pub returns-clause-paired : goal.returns-clause-paired
-returns-clause-paired c = λ code holds.
-    ArePaired-directed code (HasNoSingleArcs-accepted code holds).0 (HasNoSingleArcs-accepted code holds).1
+returns-clause-paired c = grind (arith, nat_tests, ArePaired-directed, HasNoSingleArcs-accepted)
 
 pub returns-clause-directed : goal.returns-clause-directed
 returns-clause-directed c = ArePaired-directed

@@ -1,4 +1,5 @@
-use Rattle.std.proofs.Common.{◌≡◌, ℕ, List, length}
+use Rattle.std.proofs.lemmas.Bool.Decides.{nat_tests}
+use Rattle.std.proofs.Common.{arith, ◌≡◌, ℕ, List, length}
 use Rattle.std.proofs.lemmas.List.Elements.{recursion_from_All}
 use Rattle.kh_types.proofs.Heads.{HasNoSingleArcs-accepted}
 use Rattle.orient_arcs.proofs.AscendingNames.{KeepsComponents-ascending}
@@ -11,5 +12,4 @@ returns-clause-crossings c = λ f code parts holds four paired named keeps.
     (recursion_from_All (λ (slots : List ℕ). length slots ≡ 4) code.crossings four)
 
 pub returns-clause-ascending : goal.returns-clause-ascending
-returns-clause-ascending c = λ f code holds ascends.
-    KeepsComponents-ascending f code.crossings (HasNoSingleArcs-accepted code holds).0 ascends
+returns-clause-ascending c = grind (arith, nat_tests, KeepsComponents-ascending, HasNoSingleArcs-accepted)

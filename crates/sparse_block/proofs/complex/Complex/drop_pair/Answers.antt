@@ -1,3 +1,4 @@
+use Rattle.std.proofs.lemmas.Bool.Decides.{nat_tests}
 use Rattle.std.proofs.Common.{◌≡◌, ◌+◌, ◌∙◌, List, [], pos, ◌+ℤ◌, length, ap, sym, subst, arith, rules, Bool}
 use Rattle.std.specs.Prelude.{slice_index_or}
 use Rattle.std.specs.Global.{Vec}
@@ -16,13 +17,10 @@ use Rattle.sparse_block.proofs.complex.Complex.drop_pair.Goals.{After-distance-k
 use Rattle.sparse_block.proofs.complex.Complex.drop_pair.Goals as goal
 
 pub distance-k-requires : goal.distance-k-requires
-distance-k-requires g c =
-    distance-may c.self.inside.low c.args.degree (search rules) (search rules)
-    (pivot-from_low c.self.invariant c.self.view_is (pivot_at c.args.degree c.args.column c.args.row) c.requires.pivot)
+distance-k-requires = grind (arith, nat_tests)
 
 is_distance : (g : Over) (c : After-distance-k g) → c.args.degree ≡ c.self.inside.low +ℤ pos c.distance-k.result
-is_distance g c =
-    distance-from c.self.inside.low c.args.degree c.distance-k.result (search rules) (search rules) c.distance-k.ensures
+is_distance g c = grind (arith, nat_tests)
 
 pub clear_own-requires-clause-row : goal.clear_own-requires-clause-row
 clear_own-requires-clause-row g c =
@@ -62,26 +60,12 @@ own g c =
 now_columns : (g : Over) (c : After-deref_mut-4 g)
     → c.deref_mut-3.result.now
     ≡ emptied c.distance-k.result c.args.column (crossed_out c.distance-k.result c.args.row c.self.inside.columns.items)
-now_columns g c =
-    let k = c.distance-k.result in
-    (c.deref_mut-3.ensures.value
-    ∙ taken-whole c.self.inside.columns.len c.clear_own.new.columns _
-    (omega (arith, c.clear_own.auto.columns, c.deref_mut.ensures.len)))
-    ∙ c.clear_own.ensures.columns
-    ∙ ap (λ (columns : List (List (List Entry))). emptied k c.args.column (crossed_out k c.args.row columns))
-    c.deref_mut.ensures.value
+now_columns g c = grind (arith, nat_tests, taken-whole)
 
 now_rows : (g : Over) (c : After-deref_mut-4 g)
     → c.deref_mut-4.result.now
     ≡ crossed_out c.distance-k.result c.args.column (emptied c.distance-k.result c.args.row c.self.inside.rows.items)
-now_rows g c =
-    let k = c.distance-k.result in
-    (c.deref_mut-4.ensures.value
-    ∙ taken-whole c.self.inside.rows.len c.clear_own.new.rows _
-    (omega (arith, c.clear_own.auto.rows, c.deref_mut-2.ensures.len)))
-    ∙ c.clear_own.ensures.rows
-    ∙ ap (λ (rows : List (List (List Entry))). crossed_out k c.args.column (emptied k c.args.row rows))
-    c.deref_mut-2.ensures.value
+now_rows g c = grind (arith, nat_tests, taken-whole)
 
 pub clear_neighbours-requires-clause-before : goal.clear_neighbours-requires-clause-before
 clear_neighbours-requires-clause-before g c j next =

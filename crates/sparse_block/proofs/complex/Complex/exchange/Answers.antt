@@ -1,3 +1,4 @@
+use Rattle.std.proofs.lemmas.Bool.Decides.{nat_tests}
 use Rattle.std.proofs.Common.{◌≡◌, ◌+◌, ◌<◌, ◌∙◌, List, [], pos, ◌+ℤ◌, length, set, ap, sym, subst, arith, rules, Bool}
 use Rattle.std.specs.Prelude.{slice_index_or}
 use Rattle.std.specs.Global.{Vec}
@@ -19,21 +20,14 @@ use Rattle.sparse_block.proofs.complex.Complex.exchange.Goals.{After-distance-k,
 use Rattle.sparse_block.proofs.complex.Complex.exchange.Goals as goal
 
 pub distance-k-requires : goal.distance-k-requires
-distance-k-requires g c =
-    let change = c.change.inside in
-    let pivot = pivot_at change.degree change.column change.row in
-    let is_pivot : IsPivot c.args.self.now.complex pivot =
-    subst (λ (change : Exchange). IsPivot c.args.self.now.complex change.pivot) (sym c.change.view_is) c.requires.pivot in
-    distance-may c.self.inside.low change.degree (search rules) (search rules)
-    (pivot-from_low c.self.invariant c.self.view_is pivot is_pivot)
+distance-k-requires = grind (arith, nat_tests)
 
 is_pivot : (g : Over) (c : After-distance-k g)
     → IsPivot c.args.self.now.complex (pivot_at c.change.inside.degree c.change.inside.column c.change.inside.row)
 is_pivot g c = subst (λ (change : Exchange). IsPivot c.args.self.now.complex change.pivot) (sym c.change.view_is) c.requires.pivot
 
 is_distance : (g : Over) (c : After-distance-k g) → c.change.inside.degree ≡ c.self.inside.low +ℤ pos c.distance-k.result
-is_distance g c =
-    distance-from c.self.inside.low c.change.inside.degree c.distance-k.result (search rules) (search rules) c.distance-k.ensures
+is_distance g c = grind (arith, nat_tests)
 
 within : (g : Over) (c : After-distance-k g) → c.distance-k.result + 1 < length (lists_in c.self.inside.names.items)
 within g c =
@@ -58,13 +52,7 @@ changed_columns : (g : Over) (c : After-distance-k g)
     (column_of (cancel g.F.PrimeField.P c.args.self.now.complex
     (pivot_at c.change.inside.degree c.change.inside.column c.change.inside.row)) c.change.inside.degree)
     c.change.inside.columns.items
-changed_columns g c =
-    let complex = c.args.self.now.complex in
-    subst
-    (λ (change : Exchange).
-    AreChanged (place_count complex change.pivot.degree) (column_of complex change.pivot.degree)
-    (column_of (cancel g.F.PrimeField.P complex change.pivot) change.pivot.degree) change.columns)
-    (sym c.change.view_is) c.requires.columns
+changed_columns g c = grind (arith, nat_tests)
 
 changed_rows : (g : Over) (c : After-distance-k g)
     → AreChanged (place_count c.args.self.now.complex (c.change.inside.degree +ℤ pos 1))
@@ -72,13 +60,7 @@ changed_rows : (g : Over) (c : After-distance-k g)
     (row_of (cancel g.F.PrimeField.P c.args.self.now.complex
     (pivot_at c.change.inside.degree c.change.inside.column c.change.inside.row)) c.change.inside.degree)
     c.change.inside.rows.items
-changed_rows g c =
-    let complex = c.args.self.now.complex in
-    subst
-    (λ (change : Exchange).
-    AreChanged (place_count complex (change.pivot.degree +ℤ pos 1)) (row_of complex change.pivot.degree)
-    (row_of (cancel g.F.PrimeField.P complex change.pivot) change.pivot.degree) change.rows)
-    (sym c.change.view_is) c.requires.rows
+changed_rows g c = grind (arith, nat_tests)
 
 old_columns : (g : Over) (c : After-index_mut g)
     → c.index_mut.result.now ≡ slice_index_or c.self.inside.columns.items c.distance-k.result []

@@ -18,7 +18,7 @@ returns-clause-column g c =
     let adding = c.args.links.now.adding.now in
     let child = c.args.child.now in
     let f = targets_along adding child.side.smoothing in
-    subst (IsColumnFrom p adding (origin_in child)) (sym c.shrink_to_fit.ensures.items)
+    subst (IsColumnFrom p adding (origin_in child)) (sym c.trim.ensures)
     (c.in_ok-push_saddles.ensures (flat_map f (map head_of (column_at adding.complex.now child.parent)))
     (subst (λ (xs : List Entry). HasEntriesTo p adding (origin_in child) (flat_map f (map head_of xs)) c.push_all.new.column.items)
     (c.deref.ensures.value

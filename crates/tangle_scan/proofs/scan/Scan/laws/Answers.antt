@@ -9,4 +9,4 @@ returns-clause-of g c =
     let held = scanned c.self.inside.front c.self.inside.complex in
     subst (λ (seen : Scanned). IsScanOf seen.front.diagram (scan_of seen)) c.self.view_is
     (c.reached_scans.ensures.of p held.front.diagram (scan_of held)
-    (c.reached_scans.ensures.fields p c.element_laws.ensures.prime) c.crossings.ensures.accepted c.self.invariant.reached)
+    (c.reached_scans.ensures.fields p c.element_laws.ensures.prime) c.diagram_laws.ensures.accepted c.self.invariant.reached)

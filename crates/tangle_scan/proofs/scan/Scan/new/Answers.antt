@@ -1,4 +1,4 @@
-use Rattle.std.proofs.Common.{List, ℕ, length, sym, subst, ap, arith}
+use Rattle.std.proofs.Common.{List, ℕ, sym, subst}
 use Rattle.scan_laws.specs.Steps.{IsReached}
 use Rattle.tangle_scan.specs.Held.{IsComplexBehind, IsOpenAt, scan_behind}
 use Rattle.tangle_scan.proofs.FirstLemmas.{first-complex, first-opened, first-reached}
@@ -11,8 +11,8 @@ invariant_of-result g c =
     let complex = c.in_ok-complex.complex in
     let first = c.in_ok-complex.ensures in
     record {
-      front = subst (λ (opened : List ℕ). IsOpenAt code 0 opened) (sym c.new.ensures) (first-opened code c.crossings.ensures.accepted
-          (omega (arith, c.crossings.ensures.few, ap length c.crossings.ensures.crossings)));
+      front = subst (λ (opened : List ℕ). IsOpenAt code 0 opened) (sym c.new.ensures) (first-opened code c.diagram_laws.ensures.accepted
+          c.diagram_laws.ensures.few);
       complex = subst (λ (opened : List ℕ). IsComplexBehind p 0 opened complex) (sym c.new.ensures) (first-complex complex first p);
       reached = subst (λ (opened : List ℕ). IsReached p code (scan_behind 0 opened complex)) (sym c.new.ensures)
           (first-reached complex first p code);

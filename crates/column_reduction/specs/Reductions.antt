@@ -1,0 +1,114 @@
+-- Column reduction: each column of a matrix less a combination of reduced columns before it, so that no two end at one row (Zomorodian
+-- and Carlsson 2005, section 4; here with columns and rows as in a complex).
+use Rattle.std.specs.Prelude.{◌≡◌, ◌≢◌, ℕ, ◌+◌, ◌*◌, ◌<◌, ◌≤◌, ℤ, pos, ◌-ℤ◌, ◌<ℤ◌, List, [], ◌∷◌, ◌++◌, map, nat_eq, Bool, true, false, slice_index_or}
+use Rattle.std.specs.List.{list_any, AllByRecursion}
+use Rattle.kh_types.specs.Complex.{Complex, Pivot, degree_of, entry_of, pivot_at}
+use Rattle.kh_types.specs.History.{IsLegal, replay}
+use Rattle.kh_types.specs.Residues.{Same}
+use Rattle.sparse_block.specs.Complexes.{place_count}
+
+-- a column after its reduction: its number in the matrix, the row of its last entry, and its numbers at all rows
+pub record ReducedColumn : Type 0 where
+  pub column : ℕ
+  pub row : ℕ
+  pub values : ℕ → ℕ
+
+-- each number of a line is 0
+abbrev pub IsZeroLine : (ℕ → ℕ) → Type 0
+IsZeroLine values = (row : ℕ) → values row ≡ 0
+
+-- each number of a line is below p
+abbrev pub IsLineBelow : ℕ → (ℕ → ℕ) → Type 0
+IsLineBelow p values = (row : ℕ) → values row < p
+
+-- a line ends at a row: it has a number other than 0 there, and 0 at all greater rows
+pub record EndsAt (row : ℕ) (values : ℕ → ℕ) : Type 0 where
+  pub other : values row ≢ 0
+  pub zeros : (greater : ℕ) → row < greater → values greater ≡ 0
+
+-- the numbers of a reduced column are below p, and end at its row
+pub record IsReducedColumn (p : ℕ) (line : ReducedColumn) : Type 0 where
+  pub below : IsLineBelow p line.values
+  pub ends : EndsAt line.row line.values
+
+-- a row is the last one of some reduced column
+abbrev pub is_last_row : ℕ → List ReducedColumn → Bool
+is_last_row row reduced = list_any (λ line. nat_eq row line.row) reduced
+
+-- a place is the column of some reduced column's pivot
+abbrev pub is_pivot_column : ℕ → List ReducedColumn → Bool
+is_pivot_column column reduced = list_any (λ line. nat_eq column line.column) reduced
+
+-- no two end at one row
+abbrev pub EndApart : List ReducedColumn → Type 0
+EndApart [] = Unit {0}
+EndApart (line ∷ lines) = (is_last_row line.row lines ≡ false) × EndApart lines
+
+-- reduced columns, no two of which end at one row
+pub record AreReducedColumns (p : ℕ) (reduced : List ReducedColumn) : Type 0 where
+  pub each : AllByRecursion (IsReducedColumn p) reduced
+  pub apart : EndApart reduced
+
+-- a line is 0 in the last rows of reduced columns
+abbrev pub IsDeadIn : List ReducedColumn → (ℕ → ℕ) → Type 0
+IsDeadIn reduced values = (row : ℕ) → is_last_row row reduced ≡ true → values row ≡ 0
+
+-- the number at a row of a combination of reduced columns, each with a factor that is given by its last row
+abbrev pub combination : (ℕ → ℕ) → List ReducedColumn → ℕ → ℕ
+combination factor [] row = 0
+combination factor (line ∷ lines) row = factor line.row * line.values row + combination factor lines row
+
+-- a line is what is left of another: the other is the line and a combination of reduced columns, modulo p
+pub record IsLeftOf (p : ℕ) (reduced : List ReducedColumn) (whole left : ℕ → ℕ) : Type 0 where
+  pub factor : ℕ → ℕ
+  pub sum : (row : ℕ) → Same p (whole row) (left row + combination factor reduced row)
+
+-- the numbers of a column of the matrix out of degree i
+abbrev pub column_numbers : Complex → ℤ → ℕ → ℕ → ℕ
+column_numbers complex i column row = entry_of complex i row column
+
+-- the pivots of reduced columns of degree i: each at its last row
+abbrev pub pivots_of : ℤ → List ReducedColumn → List Pivot
+pivots_of i reduced = map (λ line. pivot_at i line.column line.row) reduced
+
+-- the first columns of degree i, as many as count, are reduced, and `after` is what the pivots leave: a legal history; its entries
+-- are 0 in the last rows and in these columns; and each later column of `after` is what is left of the one of `before`. Of which columns
+-- the reduced ones are it does not speak: the law of one step, `last_entries_are_pivots`, does
+pub record AreReduced (p : ℕ) (before : Complex) (i : ℤ) (count : ℕ) (reduced : List ReducedColumn) (after : Complex) : Type 0 where
+  pub legal : IsLegal p before (pivots_of i reduced)
+  pub replayed : after ≡ replay p before (pivots_of i reduced)
+  pub columns : AreReducedColumns p reduced
+  pub dead : (column : ℕ) → IsDeadIn reduced (column_numbers after i column)
+  pub cleared : (column : ℕ) → column < count → IsZeroLine (column_numbers after i column)
+  pub left : (column : ℕ) → count ≤ column → IsLeftOf p reduced (column_numbers before i column) (column_numbers after i column)
+
+-- one reduced column more
+abbrev pub with_column : List ReducedColumn → ℕ → ℕ → (ℕ → ℕ) → List ReducedColumn
+with_column reduced column row values = reduced ++ record { column = column; row = row; values = values } ∷ []
+
+-- all columns of degree i are reduced
+abbrev pub IsReducedDegree : ℕ → Complex → ℤ → List ReducedColumn → Complex → Type 0
+IsReducedDegree p before i reduced after = AreReduced p before i (place_count before i) reduced after
+
+-- the matrix out of degree i has only entries 0
+abbrev pub HasNoEntry : Complex → ℤ → Type 0
+HasNoEntry complex i = (column : ℕ) → IsZeroLine (column_numbers complex i column)
+
+-- the matrices out of the degrees above i have only entries 0
+abbrev pub HaveNoEntryAbove : Complex → ℤ → Type 0
+HaveNoEntryAbove complex i = (j : ℤ) → i <ℤ j → HasNoEntry complex j
+
+-- a place of degree i is alive
+abbrev pub is_place_alive : Complex → ℤ → ℕ → Bool
+is_place_alive complex i place = slice_index_or (degree_of complex i).alive place false
+
+-- from degree i down, one degree after another is reduced
+abbrev pub AreReducedDown : ℕ → Complex → ℤ → List (List ReducedColumn) → Complex → Type 0
+AreReducedDown p before i [] after = after ≡ before
+AreReducedDown p before i (reduced ∷ later) after =
+    (between : Complex) × IsReducedDegree p before i reduced between × AreReducedDown p between (i -ℤ pos 1) later after
+
+-- the pivots of reduced degrees, from degree i down
+abbrev pub pivots_down : ℤ → List (List ReducedColumn) → List Pivot
+pivots_down i [] = []
+pivots_down i (reduced ∷ later) = pivots_of i reduced ++ pivots_down (i -ℤ pos 1) later
