@@ -11,7 +11,7 @@ use cancel_step::{Foreign, Pivot, apply, cancel_in_place, copy, find, finish, lo
 use kh_types::NoMemory;
 use prime_field::{F5, PrimeField};
 use smallvec::SmallVec;
-use sparse_block::{Complex, Entry, Generator, INLINE_ENTRIES, build};
+use sparse_block::{ColumnComplex, Complex, Entry, Generator, INLINE_ENTRIES};
 use std::alloc::Global;
 use std::process::Abort;
 use std::test::Fail;
@@ -63,7 +63,7 @@ fn built(alloc: Global, x: u8, y: u8) -> Result<Complex<F5>, NoMemory>
 {
     let names = names(alloc)?;
     let columns = columns(alloc, x, y)?;
-    build(alloc, -2, names, columns)
+    ColumnComplex::new(-2, names, columns).build(alloc)
 }
 
 /// The worked complexes: x is 1, or 2 where `other_x`, and y is 3, or 4 where `other_y`.
