@@ -1,5 +1,6 @@
-use Rattle.std.proofs.Common.{◌≡◌, ℕ, ℤ, pos, neg_ℤ, ◌+ℤ◌, ◌-ℤ◌, ◌≤ℤ◌, ◌+◌, ◌*◌, ◌≤◌, length, subst, arith, to_z, of_z, w16, List}
-use Rattle.std.proofs.lemmas.Int.{ints}
+use Rattle.std.proofs.Common.{◌∙◌, ap, sym, ◌≡◌, ℕ, ℤ, pos, neg_ℤ, ◌+ℤ◌, ◌-ℤ◌, ◌≤ℤ◌, ◌+◌, ◌*◌, ◌≤◌, length, subst, arith, to_z, of_z, w16, List}
+use Rattle.std.proofs.lemmas.Int.{ints, to_z-of_z}
+use Rattle.cube_signs.specs.Chosen.{chosen_block, has_minus}
 use Rattle.std.specs.Global.{Vec}
 use Rattle.std.proofs.lemmas.List.{length-map}
 use Rattle.kh_types.specs.Generators.{Generator}
@@ -35,3 +36,14 @@ new-requires-clause-squares g c =
     (subst (λ (p : ℕ). SquaresToZero p
     (sparse_complex (pos 0 -ℤ pos (length c.args.self.now.crossings)) (lists_in parts.names.items) (lines_in parts.columns.items)).complex)
     c.P.ensures c.in_ok-parts.ensures.squares)
+
+pub returns : goal.returns
+returns g c =
+    let parts = c.in_ok-parts.parts in
+    let names = lists_in parts.names.items in
+    let columns = lines_in parts.columns.items in
+    let low = turned (length c.args.self.now.crossings) c.lowest.result.i
+    (omega (arith, c.crossing_count.ensures.count, c.crossing_count.ensures.few)) c.lowest.ensures.i in
+    c.new.ensures ∙ ap (λ (low : ℤ). sparse_complex low names columns) (sym low) ∙ c.in_ok-parts.ensures.is
+    ∙ ap (λ (p : ℕ). chosen_block (has_minus c.args.circles.now) p c.args.self.now (to_z w16 (of_z w16 c.args.j))) c.P.ensures
+    ∙ ap (chosen_block (has_minus c.args.circles.now) g.F.PrimeField.P c.args.self.now) (to_z-of_z w16 c.args.j c.ranges.j)
