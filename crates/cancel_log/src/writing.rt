@@ -21,6 +21,7 @@ ghost use Rattle.cancel_log.specs.declared.limits.TheConstants.{LOG_BYTES};
 use cancel_step::Pivot;
 use cube_signs::Cube;
 use jones_sum::Table;
+use kh_types::laws::diagrams::diagram_laws;
 use kh_types::{Diagram, NoMemory};
 use pd_code::print_pd;
 use prime_field::PrimeField;
@@ -39,9 +40,8 @@ pub fn write_log<F: PrimeField>(alloc: Global, diagram: &Diagram) -> Result<Vec<
     ensures log { IfOk result (λ text. IsLog F.P diagram.now text.items) }
     ensures few { IfOk result (λ text. length text.items ≤ LOG_BYTES) }
 {
-    // (what the types of a field and a diagram keep)
     element_laws::<F>();
-    let _ = diagram.crossings();
+    diagram_laws(diagram);
     let cube = Cube::new(alloc, diagram)?;
     let degrees = cube.block_degrees(alloc)?;
     let mut text = start_text::<F>(alloc, diagram)?;
@@ -74,9 +74,8 @@ pub fn log_of_blocks<F: PrimeField>(
     ensures log { IfOk result (λ text. IsLog F.P diagram.now text.items) }
     ensures few { IfOk result (λ text. length text.items ≤ LOG_BYTES) }
 {
-    // (what the types of a field and a diagram keep)
     element_laws::<F>();
-    let _ = diagram.crossings();
+    diagram_laws(diagram);
     let mut text = start_text::<F>(alloc, diagram)?;
     'each: for k in 0..blocks.len() {
         block_laws(&blocks[k]);
@@ -95,8 +94,7 @@ fn finished_block<F: PrimeField>(
     requires { Contains (block_degrees cube.now) j }
     ensures { IfOk result (IsFinishedBlock F.P cube.now j) }
 {
-    let mut held = SharedBlock::<F>::of_cube(alloc, cube, j)?;
-    held.finish(alloc)?;
+    let held = SharedBlock::<F>::finished(alloc, cube, j)?;
     block_laws(&held);
     Ok(held)
 }

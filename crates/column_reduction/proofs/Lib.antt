@@ -14,5 +14,6 @@ pub mod FirstReduced
 pub mod Marks
 pub mod ReducedTo
 pub mod SparseColumns
+pub mod ZeroLeft
 pub mod WorkedInputs
 pub mod WorkedLemmas

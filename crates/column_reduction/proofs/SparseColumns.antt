@@ -1,5 +1,5 @@
 -- The complex that names and columns make: its columns, its places, and its reduction by the columns of one degree after another.
-use Rattle.std.proofs.Common.{◌≡◌, ℕ, ◌+◌, ◌<◌, ◌^◌, ◌∙◌, inl, inr, List, [], ◌∷◌, ◌++◌, ℤ, pos, ◌+ℤ◌, ◌≤ℤ◌, length, map, refl, ap, sym, subst, arith, append_assoc, Bool, true}
+use Rattle.std.proofs.Common.{◌≡◌, ℕ, ◌+◌, ◌<◌, ◌^◌, ◌∙◌, inl, inr, List, [], ◌∷◌, ◌++◌, ℤ, pos, ◌+ℤ◌, length, map, refl, ap, sym, subst, arith, append_assoc, Bool, true}
 use Rattle.std.specs.Prelude.{get_or, slice_index_or, All}
 use Rattle.std.specs.Global.{Vec}
 use Rattle.std.proofs.Math.Seq.{get_or-append_seam}
@@ -11,16 +11,16 @@ use Rattle.kh_types.specs.Generators.{Generator}
 use Rattle.kh_types.specs.History.{replay}
 use Rattle.prime_field.specs.Residues.{IsField}
 use Rattle.sparse_block.specs.declared.entry.Entry.{Entry}
-use Rattle.sparse_block.specs.Complexes.{HaveEntries, SquaresToZero, all_alive, degrees_from, matrix_from, place_count, sparse_complex}
+use Rattle.sparse_block.specs.Complexes.{MakeComplex, all_alive, degrees_from, matrix_from, place_count, sparse_complex}
 use Rattle.sparse_block.specs.Entries.{AreEntries, value_at}
-use Rattle.sparse_block.specs.Inside.{entries_in, lines_in, lists_in, row_entries}
+use Rattle.sparse_block.specs.Inside.{entries_in, lines_in, row_entries}
 use Rattle.sparse_block.proofs.AscendingLemmas.{entries-ascend, entries-from_ascend}
 use Rattle.sparse_block.proofs.BuildLemmas.{kept-built, sizes-all_alive}
 use Rattle.sparse_block.proofs.DegreeLemmas.{degree_of-at, length-at, length-degrees_from, length-same}
 use Rattle.sparse_block.proofs.MatrixLemmas.{entry-matrix_from, entry-past_rows, length-matrix_from}
 use Rattle.cancel_step.proofs.EntryValues.{value_at-past}
 use Rattle.cancel_step.proofs.HistoryLemmas.{low-replay, places-replay}
-use Rattle.column_reduction.specs.StoredColumns.{AreFirstReduced, CanReduce, IsReducedTo, StoredColumn, alive_in, stored_pivots, with_pairs}
+use Rattle.column_reduction.specs.StoredColumns.{AreFirstReduced, IsReducedTo, StoredColumn, alive_in, stored_pivots, with_pairs}
 use Rattle.column_reduction.proofs.Marks.{alive-number}
 use Rattle.column_reduction.proofs.ReducedTo.{reduced_to-first, reduced_to-next}
 
@@ -45,14 +45,15 @@ popped-lines all rest front more x whole last =
       subst (λ (n : ℕ). slice_index_or all n [] ≡ entries_in x.items) (length-map front lines) both.1,
     )
 
-module _ (p : ℕ) (low : ℤ) (names : List (List Generator)) (lines : List (List (List Entry))) (can : CanReduce p low names lines) where
+module _ (p : ℕ) (low : ℤ) (names : List (List Generator)) (lines : List (List (List Entry))) (field : IsField p)
+    (can : MakeComplex p low names lines) where
   abbrev complex : Complex
   complex = (sparse_complex low names lines).complex
 
   pub complex-sparse : IsComplex p (sparse_complex low names lines).complex
   complex-sparse =
       (kept-built p low names (all_alive names) lines (map row_entries (degrees_from (all_alive names) lines))
-      (omega (arith, can.field.above_one)) can.some can.end can.counts can.sizes can.have can.squares refl refl).is_complex
+      (omega (arith, field.above_one)) can.some can.end can.counts can.sizes can.entries can.squares refl refl).is_complex
 
   degree_count : length complex.degrees ≡ length names
   degree_count = length-degrees_from (all_alive names) lines ∙ length-map names (λ degree. map (λ name. true) degree)
@@ -88,7 +89,7 @@ module _ (p : ℕ) (low : ℤ) (names : List (List Generator)) (lines : List (Li
         elim (leb_tells (length columns) column) [
           | inl past ↦
               subst (AreEntries p size) (sym (get_or_past columns column [] past.1)) (entries-from_ascend p 0 size [] tt)
-          | inr within ↦ can.have k column [] (omega (arith, within.1))
+          | inr within ↦ can.entries k column [] (omega (arith, within.1))
         ]
 
     -- its entries
@@ -113,7 +114,7 @@ module _ (p : ℕ) (low : ℤ) (names : List (List Generator)) (lines : List (Li
         → AreFirstReduced p (slice_index_or places (k + 1) []) (slice_index_or lines k []) (length (slice_index_or lines k [])) stored
         → IsReducedTo p (sparse_complex low names lines).complex k (with_pairs k places stored) (pivots ++ stored_pivots i stored)
     sparse-next places pivots stored so_far are =
-        reduced_to-next p k complex i places pivots (slice_index_or lines k []) stored can.field complex-sparse so_far here count-sparse
+        reduced_to-next p k complex i places pivots (slice_index_or lines k []) stored field complex-sparse so_far here count-sparse
         entry-sparse are
 
   -- and so, where all this is known by other names
@@ -153,7 +154,7 @@ module _ (p : ℕ) (low : ℤ) (names : List (List Generator)) (lines : List (Li
       → height ≡ length (slice_index_or places (k + 1) []) → All (AreEntries p height) (slice_index_or lines k [])
   sparse-rows k height places pivots so_far is_height =
       let same : height ≡ length (slice_index_or names (k + 1) []) = is_height ∙ rows-alive k places pivots so_far in
-      subst (λ (n : ℕ). All (AreEntries p n) (slice_index_or lines k [])) (sym same) (can.have k)
+      subst (λ (n : ℕ). All (AreEntries p n) (slice_index_or lines k [])) (sym same) (can.entries k)
     where
       rows-alive : (k : ℕ) (places : List (List Bool)) (pivots : List Pivot)
           → IsReducedTo p complex (k + 1) places pivots
@@ -165,27 +166,6 @@ module _ (p : ℕ) (low : ℤ) (names : List (List Generator)) (lines : List (Li
           ∙ places-replay p complex pivots (low +ℤ pos (k + 1))
           ∙ ap (λ (degree : Degree). length degree.alive) (degree_of-at low (low +ℤ pos (k + 1)) (all_alive names) lines (k + 1) refl)
           ∙ length-at (all_alive names) names (k + 1) (sizes-all_alive names)
-
--- the same of names and columns in memory
-pub can-reduce : (p : ℕ) (low other : ℤ) (names : List (Vec Generator)) (columns : List (Vec (SmallVec Entry))) → low ≡ other → IsField p
-    → 0 < length names → (low +ℤ pos (length names)) ≤ℤ pos 32767 → All (λ degree. length degree < 2 ^ 32) (lists_in names)
-    → map length (lines_in columns) ≡ map length (lists_in names) → HaveEntries p (lists_in names) (lines_in columns)
-    → SquaresToZero p (sparse_complex low (lists_in names) (lines_in columns)).complex
-    → CanReduce p other (lists_in names) (lines_in columns)
-can-reduce p low other names columns same field some end counts sizes have squares =
-    let items : Vec Generator → List Generator = λ vector. vector.items in
-    let size : length (lists_in names) ≡ length names = length-map names items in
-    let can : CanReduce p low (lists_in names) (lines_in columns) =
-    record {
-      field = field;
-      some = omega (arith, some, size);
-      end = subst (λ (n : ℕ). (low +ℤ pos n) ≤ℤ pos 32767) (sym size) end;
-      counts = counts;
-      sizes = sizes;
-      have = have;
-      squares = squares;
-    } in
-    subst (λ (low : ℤ). CanReduce p low (lists_in names) (lines_in columns)) same can
 
 -- the columns of the last degree are taken away: they are those of degree number k, and as many degrees are left
 pub record IsPopped (all : List (List (List Entry))) (rest front : List (Vec (SmallVec Entry))) (k : ℕ) (more : List (List (List Entry)))

@@ -1,17 +1,15 @@
 -- What tests reduce are complexes.
-use Rattle.std.proofs.Common.{ℕ, zero, suc, ◌+◌, ◌<◌, ◌^◌, inl, inr, List, [], ◌∷◌, pos, length, refl, arith}
+use Rattle.std.proofs.Common.{ℕ, zero, suc, ◌+◌, ◌<◌, ◌^◌, List, [], ◌∷◌, pos, length, refl, arith}
 use Rattle.std.specs.Prelude.{All, slice_index_or}
 use Rattle.std.specs.List.{AllByRecursion}
 use Rattle.std.proofs.lemmas.Int.{ints}
 use Rattle.std.proofs.lemmas.List.Elements.{All-cons, All-from_recursion, All-nil}
 use Rattle.kh_types.specs.Generators.{Generator}
 use Rattle.kh_types.proofs.ComplexLemmas.{complex-from_test}
-use Rattle.prime_field.specs.SmallFields.{field-small_prime}
 use Rattle.sparse_block.specs.declared.entry.Entry.{Entry}
-use Rattle.sparse_block.specs.Complexes.{HaveEntries, sparse_complex}
+use Rattle.sparse_block.specs.Complexes.{MakeComplex, HaveEntries, sparse_complex}
 use Rattle.sparse_block.specs.Entries.{AreEntries, entry_at}
 use Rattle.sparse_block.proofs.AscendingLemmas.{entries-from_ascend}
-use Rattle.column_reduction.specs.StoredColumns.{CanReduce}
 use Rattle.column_reduction.specs.Worked.{four_names, square_lines, three_lines, void_lines}
 
 few : (names : List (List Generator)) → AllByRecursion (λ degree. length degree < 2 ^ 32) names → All (λ degree. length degree < 2 ^ 32) names
@@ -42,27 +40,25 @@ square-entries p y above positive below (suc (suc (suc zero))) = All-nil (AreEnt
 square-entries p y above positive below (suc (suc (suc (suc k)))) =
     All-nil (AreEntries p (length (slice_index_or (four_names 1 2 1 0) (suc (suc (suc (suc k))) + 1) [])))
 
-pub square-two : CanReduce 2 (pos 0) (four_names 1 2 1 0) (square_lines 1)
+pub square-two : MakeComplex 2 (pos 0) (four_names 1 2 1 0) (square_lines 1)
 square-two =
     record {
-      field = field-small_prime 2 (inl refl);
       some = omega arith;
       end = omega (arith, ints);
       counts = few (four_names 1 2 1 0) (omega arith, (omega arith, (omega arith, (omega arith, tt))));
       sizes = refl;
-      have = square-entries 2 1 (omega arith) (omega arith) (omega arith);
+      entries = square-entries 2 1 (omega arith) (omega arith) (omega arith);
       squares = (complex-from_test 2 (sparse_complex (pos 0) (four_names 1 2 1 0) (square_lines 1)).complex (omega arith) refl).product;
     }
 
-pub square-three : CanReduce 3 (pos 0) (four_names 1 2 1 0) (square_lines 2)
+pub square-three : MakeComplex 3 (pos 0) (four_names 1 2 1 0) (square_lines 2)
 square-three =
     record {
-      field = field-small_prime 3 (inr (inl refl));
       some = omega arith;
       end = omega (arith, ints);
       counts = few (four_names 1 2 1 0) (omega arith, (omega arith, (omega arith, (omega arith, tt))));
       sizes = refl;
-      have = square-entries 3 2 (omega arith) (omega arith) (omega arith);
+      entries = square-entries 3 2 (omega arith) (omega arith) (omega arith);
       squares = (complex-from_test 3 (sparse_complex (pos 0) (four_names 1 2 1 0) (square_lines 2)).complex (omega arith) refl).product;
     }
 
@@ -86,15 +82,14 @@ three-entries (suc (suc (suc zero))) = All-nil (AreEntries 3 0)
 three-entries (suc (suc (suc (suc k)))) =
     All-nil (AreEntries 3 (length (slice_index_or (four_names 4 3 0 0) (suc (suc (suc (suc k))) + 1) [])))
 
-pub three-can : CanReduce 3 (pos 0) (four_names 4 3 0 0) three_lines
+pub three-can : MakeComplex 3 (pos 0) (four_names 4 3 0 0) three_lines
 three-can =
     record {
-      field = field-small_prime 3 (inr (inl refl));
       some = omega arith;
       end = omega (arith, ints);
       counts = few (four_names 4 3 0 0) (omega arith, (omega arith, (omega arith, (omega arith, tt))));
       sizes = refl;
-      have = three-entries;
+      entries = three-entries;
       squares = (complex-from_test 3 (sparse_complex (pos 0) (four_names 4 3 0 0) three_lines).complex (omega arith) refl).product;
     }
 
@@ -106,14 +101,13 @@ void-entries (suc (suc (suc zero))) = All-nil (AreEntries 2 0)
 void-entries (suc (suc (suc (suc k)))) =
     All-nil (AreEntries 2 (length (slice_index_or (four_names 0 0 0 0) (suc (suc (suc (suc k))) + 1) [])))
 
-pub void-can : CanReduce 2 (pos 0) (four_names 0 0 0 0) void_lines
+pub void-can : MakeComplex 2 (pos 0) (four_names 0 0 0 0) void_lines
 void-can =
     record {
-      field = field-small_prime 2 (inl refl);
       some = omega arith;
       end = omega (arith, ints);
       counts = few (four_names 0 0 0 0) (omega arith, (omega arith, (omega arith, (omega arith, tt))));
       sizes = refl;
-      have = void-entries;
+      entries = void-entries;
       squares = (complex-from_test 2 (sparse_complex (pos 0) (four_names 0 0 0 0) void_lines).complex (omega arith) refl).product;
     }

@@ -1,13 +1,11 @@
 -- Reduced columns as they are stored, each with its entries, and what a search among them finds.
-use Rattle.std.specs.Prelude.{◌≡◌, ℕ, ◌+◌, ◌<◌, ℤ, pos, ◌+ℤ◌, ◌<ℤ◌, ◌≤ℤ◌, ◌-ℤ◌, ◌^◌, List, [], ◌∷◌, ◌++◌, length, map, get_or, slice_index_or, Option, Some, None, Bool, false, All, if◌then◌else◌}
+use Rattle.std.specs.Prelude.{◌≡◌, ℕ, ◌+◌, ◌<◌, ℤ, pos, ◌+ℤ◌, ◌<ℤ◌, ◌-ℤ◌, List, [], ◌∷◌, ◌++◌, length, map, get_or, slice_index_or, Option, Some, None, Bool, false, All, if◌then◌else◌}
 use Rattle.std.specs.List.{filter, fold}
 use Rattle.kh_types.specs.Complex.{Complex, IsComplex, Pivot, entry_of}
-use Rattle.kh_types.specs.Generators.{Generator}
-use Rattle.prime_field.specs.Residues.{IsField}
 use Rattle.kh_types.specs.History.{IsLegal, replay}
 use Rattle.sparse_block.specs.declared.entry.Entry.{Entry}
 use Rattle.sparse_block.specs.Clearing.{with_dead}
-use Rattle.sparse_block.specs.Complexes.{HaveEntries, SquaresToZero, place_count, sparse_complex}
+use Rattle.sparse_block.specs.Complexes.{place_count}
 use Rattle.sparse_block.specs.Entries.{AreEntries, value_at}
 use Rattle.column_reduction.specs.Reductions.{AreReduced, AreReducedColumns, EndsAt, HaveNoEntryAbove, IsLeftOf, ReducedColumn, is_last_row, is_place_alive, pivots_of}
 
@@ -106,13 +104,3 @@ pub record IsReducedTo (p : ℕ) (complex : Complex) (k : ℕ) (places : List (L
   pub above : HaveNoEntryAbove (replay p complex pivots) (complex.low +ℤ pos k -ℤ pos 1)
   pub below : (j : ℤ) → j <ℤ (complex.low +ℤ pos k) → (row column : ℕ) → entry_of (replay p complex pivots) j row column
       ≡ (if is_place_alive (replay p complex pivots) (j +ℤ pos 1) row then entry_of complex j row column else 0)
-
--- names and columns that make a complex over a field, with a least degree, some degrees, and places that can be counted
-pub record CanReduce (p : ℕ) (low : ℤ) (names : List (List Generator)) (columns : List (List (List Entry))) : Type 0 where
-  pub field : IsField p
-  pub some : 0 < length names
-  pub end : (low +ℤ pos (length names)) ≤ℤ pos 32767
-  pub counts : All (λ degree. length degree < 2 ^ 32) names
-  pub sizes : map length columns ≡ map length names
-  pub have : HaveEntries p names columns
-  pub squares : SquaresToZero p (sparse_complex low names columns).complex

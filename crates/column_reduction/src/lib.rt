@@ -11,4 +11,4 @@ mod stored_column;
 #[cfg(test)]
 mod tests;
 
-pub use reducing::{Reduction, reduce};
+pub use reducing::{Reduced, reduce};

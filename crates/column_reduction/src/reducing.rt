@@ -1,13 +1,12 @@
 //! Column reduction of a whole complex: degrees from the greatest down, the columns of each in
 //! order, and of each column the last entry.
 
-ghost use Rattle.std.specs.Prelude.{◌≡◌, ◌+◌, ◌<◌, ◌≤◌, ◌^◌, ℕ, [], ◌++◌, true, pos, ◌+ℤ◌, ◌≤ℤ◌};
-ghost use Rattle.std.specs.Prelude.{length, map, All, IfOk, OnOk, slice_index_or};
+ghost use Rattle.std.specs.Prelude.{◌≡◌, ◌<◌, ◌^◌, [], ◌++◌, true, pos, ◌+ℤ◌, ◌≤ℤ◌, IfOk, OnOk};
+ghost use Rattle.std.specs.Prelude.{slice_index_or};
 ghost use Rattle.kh_types.specs.Complex.{is_zero};
 ghost use Rattle.kh_types.specs.History.{IsLegal, replay};
 ghost use Rattle.sparse_block.specs.Clearing.{with_dead};
-ghost use Rattle.sparse_block.specs.Complexes.{HaveEntries, SquaresToZero, all_alive};
-ghost use Rattle.sparse_block.specs.Complexes.{sparse_complex};
+ghost use Rattle.sparse_block.specs.Complexes.{MakeComplex, all_alive, sparse_complex};
 ghost use Rattle.sparse_block.specs.Inside.{lines_in, lists_in};
 ghost use Rattle.column_reduction.specs.StoredColumns.{alive_in, stored_pivots, with_pairs};
 
@@ -19,33 +18,53 @@ use kh_types::NoMemory;
 use prime_field::PrimeField;
 use prime_field::laws::element_laws;
 use smallvec::SmallVec;
-use sparse_block::{Entry, Generator, INLINE_ENTRIES};
+use sparse_block::{ColumnComplex, ColumnParts, Complex, Entry, Generator, INLINE_ENTRIES};
 use std::alloc::Global;
 
-/// What column reduction leaves of a complex.
+/// A complex after column reduction: it has no entry, and it is what the pivots leave of the
+/// complex before, a legal history.
 #[derive(Drop)]
-pub struct Reduction {
-    /// Which places of each degree are alive, by degree from the least on.
-    pub alive: Vec<Vec<bool>>,
-    /// The pivots: a legal history.
+pub struct Reduced<F: PrimeField> {
+    pub complex: Complex<F>,
     pub pivots: Vec<Pivot>,
 }
 
-/// Reduces the columns of a complex, all of whose places are alive, until it is zero: degrees from
-/// the greatest down, the columns of each in order, and of each the last entry.
+/// Reduces the columns of a complex until it is zero: degrees from the greatest down, the columns
+/// of each in order, and of each the last entry.
 pub fn reduce<F: PrimeField>(
+    alloc: Global,
+    complex: ColumnComplex<F>,
+) -> Result<Reduced<F>, NoMemory>
+    ensures legal { IfOk result (λ made. IsLegal F.P complex.complex made.pivots.items) }
+    ensures left { IfOk result (λ made.
+        made.complex.complex ≡ replay F.P complex.complex made.pivots.items) }
+    ensures zero { IfOk result (λ made. is_zero made.complex.complex ≡ true) }
+    ensures names { IfOk result (λ made. made.complex.names ≡ complex.names) }
+{
+    element_laws::<F>();
+    let low = complex.low();
+    let ColumnParts { names, columns } = complex.into_parts();
+    let Reduction { alive, pivots } = reduce_columns::<F>(alloc, low, &names, columns)?;
+    let complex = Complex::zero(alloc, low, names, alive)?;
+    Ok(Reduced { complex, pivots })
+}
+
+/// What column reduction leaves of a complex: which places of each degree are alive, and the
+/// pivots.
+#[derive(Drop)]
+struct Reduction {
+    alive: Vec<Vec<bool>>,
+    pivots: Vec<Pivot>,
+}
+
+/// Reduces the columns of a complex, which has these names and places.
+fn reduce_columns<F: PrimeField>(
     alloc: Global,
     low: i16,
     names: &[Vec<Generator>],
     columns: Vec<Vec<SmallVec<Entry, INLINE_ENTRIES>>>,
 ) -> Result<Reduction, NoMemory>
-    requires some { 0 < length names.now }
-    requires end { (low +ℤ pos (length names.now)) ≤ℤ pos 32767 }
-    requires counts { All (λ degree. length degree < 2 ^ 32) (lists_in names.now) }
-    requires sizes { map length (lines_in columns.items) ≡ map length (lists_in names.now) }
-    requires entries { HaveEntries F.P (lists_in names.now) (lines_in columns.items) }
-    requires squares { SquaresToZero F.P
-        (sparse_complex low (lists_in names.now) (lines_in columns.items)).complex }
+    requires { MakeComplex F.P low (lists_in names.now) (lines_in columns.items) }
     ensures legal { IfOk result (λ made. IsLegal F.P
         (sparse_complex low (lists_in names.now) (lines_in columns.items)).complex
         made.pivots.items) }

@@ -4,16 +4,16 @@
 ghost use Rattle.std.specs.Prelude.{◌≡◌, pos, map, slice_index, IfOk};
 ghost use Rattle.std.specs.List.{range_with_len};
 ghost use Rattle.kh_types.specs.Generators.{generator_of};
+ghost use Rattle.sparse_block.specs.Complexes.{MakeComplex};
 ghost use Rattle.sparse_block.specs.Inside.{entries_in, lines_in, lists_in};
-ghost use Rattle.column_reduction.specs.StoredColumns.{CanReduce};
 ghost use Rattle.column_reduction.specs.Worked.{four_names, square_lines};
 
-use crate::{Reduction, reduce};
+use crate::{Reduced, reduce};
 use cancel_step::Pivot;
 use kh_types::NoMemory;
 use prime_field::{F2, F3, PrimeField};
 use smallvec::SmallVec;
-use sparse_block::{Entry, Generator, INLINE_ENTRIES};
+use sparse_block::{ColumnComplex, Entry, Generator, INLINE_ENTRIES};
 use std::alloc::Global;
 use std::test::Fail;
 
@@ -60,8 +60,8 @@ fn lines<const N: usize>(alloc: Global, columns: &[[Entry; N]]) -> Result<Column
     Ok(made)
 }
 
-fn square<F: PrimeField>(alloc: Global, last: u8) -> Result<Reduction, NoMemory>
-    requires { CanReduce F.P (pos 0) (four_names 1 2 1 0) (square_lines last) }
+fn square<F: PrimeField>(alloc: Global, last: u8) -> Result<Reduced<F>, NoMemory>
+    requires { MakeComplex F.P (pos 0) (four_names 1 2 1 0) (square_lines last) }
 {
     let names = names(alloc, [1, 2, 1, 0])?;
     let first = lines(
@@ -81,18 +81,18 @@ fn square<F: PrimeField>(alloc: Global, last: u8) -> Result<Reduction, NoMemory>
     let third = lines(alloc, &[NONE])?;
     let fourth = Vec::new(alloc);
     let columns = vec![in alloc; first, second, third, fourth]?;
-    reduced::<F>(alloc, names, columns)
+    reduced(alloc, names, columns)
 }
 
-fn square_over_two(alloc: Global) -> Result<Reduction, NoMemory> {
+fn square_over_two(alloc: Global) -> Result<Reduced<F2>, NoMemory> {
     square::<F2>(alloc, 1)
 }
 
-fn square_over_three(alloc: Global) -> Result<Reduction, NoMemory> {
+fn square_over_three(alloc: Global) -> Result<Reduced<F3>, NoMemory> {
     square::<F3>(alloc, 2)
 }
 
-fn three_rows(alloc: Global) -> Result<Reduction, NoMemory> {
+fn three_rows(alloc: Global) -> Result<Reduced<F3>, NoMemory> {
     let names = names(alloc, [4, 3, 0, 0])?;
     let columns = [
         [Entry { place: 0, value: 1 }, Entry { place: 1, value: 1 }],
@@ -105,27 +105,27 @@ fn three_rows(alloc: Global) -> Result<Reduction, NoMemory> {
     let third = Vec::new(alloc);
     let fourth = Vec::new(alloc);
     let columns = vec![in alloc; first, second, third, fourth]?;
-    reduced::<F3>(alloc, names, columns)
+    reduced(alloc, names, columns)
 }
 
-fn void(alloc: Global) -> Result<Reduction, NoMemory> {
+fn void(alloc: Global) -> Result<Reduced<F2>, NoMemory> {
     let names = names(alloc, [0, 0, 0, 0])?;
     let first = Vec::new(alloc);
     let second = Vec::new(alloc);
     let third = Vec::new(alloc);
     let fourth = Vec::new(alloc);
     let columns = vec![in alloc; first, second, third, fourth]?;
-    reduced::<F2>(alloc, names, columns)
+    reduced(alloc, names, columns)
 }
 
 fn reduced<F: PrimeField>(
     alloc: Global,
     names: Vec<Vec<Generator>>,
     columns: Vec<Columns>,
-) -> Result<Reduction, NoMemory>
-    requires { CanReduce F.P (pos 0) (lists_in names.items) (lines_in columns.items) }
+) -> Result<Reduced<F>, NoMemory>
+    requires { MakeComplex F.P (pos 0) (lists_in names.items) (lines_in columns.items) }
 {
-    reduce::<F>(alloc, 0, &names, columns)
+    reduce(alloc, ColumnComplex::new(0, names, columns))
 }
 
 fn pivot(degree: i16, column: u32, row: u32) -> Pivot {
@@ -136,25 +136,30 @@ fn pivot(degree: i16, column: u32, row: u32) -> Pivot {
     }
 }
 
-/// Whether these places are alive, by degree.
-fn has_alive(made: &Reduction, expected: &[&[bool]]) -> bool {
-    if made.alive.len() != expected.len() {
-        return false;
-    }
-    for k in 0..expected.len() {
-        if k >= made.alive.len() || made.alive[k].as_slice() != expected[k] {
-            return false;
-        }
-    }
-    true
+/// Whether so many places are alive, by degree from 0 on.
+fn has_alive<F: PrimeField>(made: &Reduced<F>, expected: [u32; 4]) -> bool {
+    let complex = &made.complex;
+    [
+        complex.alive(0),
+        complex.alive(1),
+        complex.alive(2),
+        complex.alive(3),
+    ] == expected
 }
 
 #[test]
-fn a_square_dies(rt: HostRuntime) -> Result<(), Fail> {
-    for made in [square_over_two(rt.alloc())?, square_over_three(rt.alloc())?] {
-        assert!(rt; made.pivots.as_slice() == [pivot(1, 0, 0), pivot(0, 0, 1)].as_slice());
-        assert!(rt; has_alive(&made, &[&[false], &[false, false], &[false], &[]]));
-    }
+fn a_square_over_two_dies(rt: HostRuntime) -> Result<(), Fail> {
+    let made = square_over_two(rt.alloc())?;
+    assert!(rt; made.pivots.as_slice() == [pivot(1, 0, 0), pivot(0, 0, 1)].as_slice());
+    assert!(rt; has_alive(&made, [0; 4]));
+    Ok(())
+}
+
+#[test]
+fn a_square_over_three_dies(rt: HostRuntime) -> Result<(), Fail> {
+    let made = square_over_three(rt.alloc())?;
+    assert!(rt; made.pivots.as_slice() == [pivot(1, 0, 0), pivot(0, 0, 1)].as_slice());
+    assert!(rt; has_alive(&made, [0; 4]));
     Ok(())
 }
 
@@ -164,17 +169,7 @@ fn three_rows_leave_a_place(rt: HostRuntime) -> Result<(), Fail> {
     assert!(rt;
         made.pivots.as_slice() == [pivot(0, 0, 1), pivot(0, 1, 2), pivot(0, 2, 0)].as_slice()
     );
-    assert!(rt;
-        has_alive(
-            &made,
-            &[
-                &[false, false, false, true],
-                &[false, false, false],
-                &[],
-                &[],
-            ]
-        )
-    );
+    assert!(rt; has_alive(&made, [1, 0, 0, 0]) && made.complex.is_alive(0, 3));
     Ok(())
 }
 
@@ -182,6 +177,6 @@ fn three_rows_leave_a_place(rt: HostRuntime) -> Result<(), Fail> {
 fn nothing_leaves_nothing(rt: HostRuntime) -> Result<(), Fail> {
     let made = void(rt.alloc())?;
     assert!(rt; made.pivots.is_empty());
-    assert!(rt; has_alive(&made, &[&[], &[], &[], &[]]));
+    assert!(rt; has_alive(&made, [0; 4]));
     Ok(())
 }

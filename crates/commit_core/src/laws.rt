@@ -23,6 +23,7 @@ ghost use Rattle.commit_core.specs.declared.answer.Answer.{Answer};
 ghost use Rattle.commit_core.specs.declared.event.Event.{Event};
 
 use crate::Core;
+use kh_types::laws::diagrams::diagram_laws;
 use prime_field::PrimeField;
 use prime_field::laws::element_laws;
 
@@ -40,7 +41,7 @@ pub fn core_laws<F: PrimeField>(core: &Core<F>)
     ensures few { length core.now.workers ≤ WORKERS }
 {
     element_laws::<F>();
-    let _ = core.diagram.crossings();
+    diagram_laws(&core.diagram);
 }
 
 /// The answers of a run from the opening state are a function of its events, one for each: of the

@@ -23,7 +23,7 @@ use crate::outs::{Out, find_outs};
 use kh_types::{Diagram, NoMemory};
 use prime_field::PrimeField;
 use prime_field::laws::element_laws;
-use sparse_block::{Complex, Generator, build};
+use sparse_block::{ColumnComplex, Complex, Generator};
 use std::alloc::Global;
 
 /// The degrees of a block: the least homological degree, and how many there are.
@@ -67,9 +67,25 @@ impl Cube {
         requires { Contains (block_degrees self.now) j }
         ensures { IfOk result (λ made. made ≡ named_block F.P self.now j) }
     {
+        self.opening_block(alloc, j)?.build(alloc)
+    }
+
+    /// The same block by its columns alone.
+    pub fn opening_block<F: PrimeField>(
+        &self,
+        alloc: Global,
+        j: i16,
+    ) -> Result<ColumnComplex<F>, NoMemory>
+        requires { Contains (block_degrees self.now) j }
+        ensures { IfOk result (λ made. made ≡ named_block F.P self.now j) }
+    {
         element_laws::<F>();
         let parts = self.parts(alloc, F::P, j)?;
-        build(alloc, parts.least.i, parts.names, parts.columns)
+        Ok(ColumnComplex::new(
+            parts.least.i,
+            parts.names,
+            parts.columns,
+        ))
     }
 
     /// The parts of the block at a quantum degree.

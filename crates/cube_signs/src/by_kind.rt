@@ -9,6 +9,7 @@ ghost use Rattle.cube_signs.specs.KindShapes.{all_kind_shapes, shapes_of_kind};
 
 use crate::shape::{Shape, Signs, top};
 use circle_smoothing::{COLUMNS, CountedDiagram, KINDS};
+use kh_types::laws::diagrams::diagram_laws;
 use kh_types::NoMemory;
 use std::alloc::Global;
 
@@ -19,8 +20,7 @@ pub fn kind_shapes(alloc: Global, counted: &CountedDiagram) -> Result<Vec<Shape>
     ensures few { length counted.now.crossings ≤ CROSSINGS }
 {
     let diagram = counted.diagram();
-    // (what the type of a diagram keeps)
-    let _ = diagram.crossings();
+    diagram_laws(diagram);
     let signs = Signs::of_diagram(diagram);
     let mut shapes = Vec::new(alloc);
     'kinds: for kind in 0..KINDS {

@@ -20,7 +20,7 @@ use crate::names::Degrees;
 use kh_types::{NoMemory, bit};
 use prime_field::PrimeField;
 use prime_field::laws::element_laws;
-use sparse_block::{Complex, Entry, Generator, build};
+use sparse_block::{ColumnComplex, Complex, Entry, Generator};
 use std::alloc::Global;
 
 /// The chosen generators of two degrees, and for each generator of these degrees how many before it
@@ -58,11 +58,29 @@ impl Cube {
         ensures { IfOk result (λ made.
             made ≡ chosen_block (has_minus circles.now) F.P self.now j) }
     {
+        self.chosen_opening_block(alloc, circles, j)?.build(alloc)
+    }
+
+    /// The same block by its columns alone.
+    pub fn chosen_opening_block<F: PrimeField>(
+        &self,
+        alloc: Global,
+        circles: &[u8],
+        j: i16,
+    ) -> Result<ColumnComplex<F>, NoMemory>
+        requires { IsClosed (has_minus circles.now) F.P self.now }
+        ensures { IfOk result (λ made.
+            made ≡ chosen_block (has_minus circles.now) F.P self.now j) }
+    {
         element_laws::<F>();
         // (the number of crossings is small)
         let _ = self.crossing_count();
         let parts = self.chosen_parts(alloc, F::P, circles, j)?;
-        build(alloc, self.lowest(j).i, parts.names, parts.columns)
+        Ok(ColumnComplex::new(
+            self.lowest(j).i,
+            parts.names,
+            parts.columns,
+        ))
     }
 
     /// The parts of this block.

@@ -17,6 +17,7 @@ use crate::quantum_degrees::block_degrees;
 use crate::shape::{Shape, all_circles, all_shapes};
 use crate::steps::{Steps, all_steps};
 use circle_smoothing::Edge;
+use kh_types::laws::diagrams::diagram_laws;
 use kh_types::{Diagram, NoMemory};
 use std::alloc::Global;
 use std::marker::Model;
@@ -58,8 +59,7 @@ impl Cube {
         requires { generator_count diagram.now ≤ GENERATORS }
         ensures { IfOk result (λ cube. cube ≡ diagram.now) }
     {
-        // (what the type of a diagram keeps)
-        let _ = diagram.crossings();
+        diagram_laws(diagram);
         let circles = all_circles(alloc, diagram)?;
         let shapes = all_shapes(alloc, diagram, &circles)?;
         let rows = all_steps(alloc, diagram, &circles)?;

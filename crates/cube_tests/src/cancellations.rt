@@ -7,11 +7,11 @@ ghost use Rattle.sparse_block.specs.Complexes.{HaveEntries, SquaresToZero};
 ghost use Rattle.sparse_block.specs.Inside.{entries_in, lines_in, lists_in};
 ghost use Rattle.cube_tests.specs.Squares.{square, square_columns, square_names};
 
-use cancel_step::{Foreign, Pivot, apply, cancel_in_place, copy, find, finish, look, patch};
+use cancel_step::{Foreign, Pivot, apply, cancel_in_place, copy, find, look, patch};
 use kh_types::NoMemory;
 use prime_field::{F5, PrimeField};
 use smallvec::SmallVec;
-use sparse_block::{Complex, Entry, Generator, INLINE_ENTRIES, build};
+use sparse_block::{ColumnComplex, Complex, Entry, Generator, INLINE_ENTRIES};
 use std::alloc::Global;
 use std::process::Abort;
 use std::test::Fail;
@@ -63,7 +63,7 @@ fn built(alloc: Global, x: u8, y: u8) -> Result<Complex<F5>, NoMemory>
 {
     let names = names(alloc)?;
     let columns = columns(alloc, x, y)?;
-    build(alloc, -2, names, columns)
+    ColumnComplex::new(-2, names, columns).build(alloc)
 }
 
 /// The worked complexes: x is 1, or 2 where `other_x`, and y is 3, or 4 where `other_y`.
@@ -153,8 +153,8 @@ fn a_cancellation_in_place_is_the_same(rt: HostRuntime) -> Result<(), Fail> {
     Ok(())
 }
 
-/// Each row is the complex, and how many places `finish` leaves alive at each degree. The
-/// determinant is 4x + 2y.
+/// Each row is the complex, and how many places are left alive at each degree, once no pivot is found
+/// any more; there are three at most. The determinant is 4x + 2y.
 #[test]
 fn all_pivots_are_cancelled(rt: HostRuntime) -> Result<(), Fail> {
     let alloc = rt.alloc();
@@ -165,7 +165,11 @@ fn all_pivots_are_cancelled(rt: HostRuntime) -> Result<(), Fail> {
         (true, true, 0),
     ] {
         let mut complex = square(alloc, other_x, other_y)?;
-        finish(alloc, &mut complex)?;
+        for _ in 0..3 {
+            if let Some(found) = look(&complex, 0) {
+                cancel_in_place(alloc, &mut complex, found)?;
+            }
+        }
         assert!(rt; complex.is_zero() && look(&complex, 0).is_none());
         assert!(rt; complex.alive(-2) == alive && complex.alive(-1) == alive);
         check_lines(&rt, &complex, [[0; 3]; 3]);

@@ -12,7 +12,7 @@ ghost use Rattle.sparse_block.specs.Worked.{worked_columns, worked_complex, work
 use kh_types::NoMemory;
 use prime_field::{F3, F5, PrimeField};
 use smallvec::SmallVec;
-use sparse_block::{Complex, Entry, Generator, INLINE_ENTRIES, build};
+use sparse_block::{ColumnComplex, Complex, Entry, Generator, INLINE_ENTRIES};
 use std::alloc::Global;
 use std::test::Fail;
 
@@ -95,7 +95,7 @@ fn worked<F: PrimeField>(alloc: Global, last: [u8; 3]) -> Result<Complex<F>, NoM
 {
     let names = names(alloc)?;
     let columns = columns(alloc, last)?;
-    build(alloc, -1, names, columns)
+    ColumnComplex::new(-1, names, columns).build(alloc)
 }
 
 fn over_three(alloc: Global) -> Result<Complex<F3>, NoMemory>
@@ -114,7 +114,7 @@ fn over_five(alloc: Global) -> Result<Complex<F5>, NoMemory>
 fn point(alloc: Global) -> Result<Complex<F3>, NoMemory> {
     let names = vec![in alloc; vec![in alloc; name(0, 0)]?]?;
     let columns = vec![in alloc; lines(alloc, &[NONE])?]?;
-    build(alloc, 7, names, columns)
+    ColumnComplex::new(7, names, columns).build(alloc)
 }
 
 fn column_at<F: PrimeField>(complex: &Complex<F>, i: i16, place: u32) -> Option<&[Entry]> {

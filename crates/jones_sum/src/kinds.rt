@@ -9,6 +9,7 @@ ghost use Rattle.circle_smoothing.specs.declared.kinds.TheConstants.{KINDS};
 ghost use Rattle.jones_sum.specs.Kinds.{counted_sum, kind_term};
 
 use circle_smoothing::{COLUMNS, CountedDiagram, KINDS};
+use kh_types::laws::diagrams::diagram_laws;
 
 /// The number of states of each kind. So the state sum is the sum of the terms of all kinds, each
 /// as often as it is counted.
@@ -19,8 +20,7 @@ pub fn state_counts(counted: &CountedDiagram) -> [u32; KINDS]
     ensures all { sum result ≤ 2 ^ CROSSINGS }
     ensures kinds { length result ≡ KINDS }
 {
-    // (what the type of a diagram keeps)
-    let _ = counted.diagram().crossings();
+    diagram_laws(counted.diagram());
     let mut counts = [0; KINDS];
     'kinds: for kind in 0..KINDS {
         counts[kind] = counted.count(kind / COLUMNS, kind % COLUMNS);

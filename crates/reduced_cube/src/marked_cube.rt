@@ -11,13 +11,14 @@ ghost use Rattle.reduced_cube.specs.Reduced.{reduced_table};
 
 use crate::degrees::reduced_degrees;
 use crate::marks::marked_circles;
-use cancel_step::finish;
+use column_reduction::reduce;
 use cube_signs::Cube;
 use jones_sum::{Row, Table, push_rows};
+use kh_types::laws::diagrams::diagram_laws;
 use kh_types::{Diagram, NoMemory};
 use prime_field::PrimeField;
 use prime_field::laws::element_laws;
-use sparse_block::Complex;
+use sparse_block::{ColumnComplex, Complex};
 use std::alloc::Global;
 use std::marker::Model;
 
@@ -67,10 +68,22 @@ impl MarkedCube {
         requires { Contains (reduced_degrees self.now.code self.now.mark) j }
         ensures { IfOk result (λ made. made ≡ reduced_block F.P self.now.code self.now.mark j) }
     {
+        self.opening_block(alloc, j)?.build(alloc)
+    }
+
+    /// The same block by its columns alone.
+    fn opening_block<F: PrimeField>(
+        &self,
+        alloc: Global,
+        j: i16,
+    ) -> Result<ColumnComplex<F>, NoMemory>
+        requires { Contains (reduced_degrees self.now.code self.now.mark) j }
+        ensures { IfOk result (λ made. made ≡ reduced_block F.P self.now.code self.now.mark j) }
+    {
         element_laws::<F>();
-        // (what the type of a diagram keeps)
-        let _ = self.cube.diagram().crossings();
-        self.cube.chosen_block(alloc, &self.circles, j - 1)
+        diagram_laws(self.cube.diagram());
+        self.cube
+            .chosen_opening_block(alloc, &self.circles, j - 1)
     }
 
     /// Adds the rows of the block at a reduced quantum degree, which is made, cancelled to zero and
@@ -86,10 +99,9 @@ impl MarkedCube {
             ≡ rows.old.items ++ reduced_rows F.P self.now.code self.now.mark j) }
     {
         element_laws::<F>();
-        let mut block = self.block::<F>(alloc, j)?;
-        finish(alloc, &mut block)?;
+        let reduced = reduce(alloc, self.opening_block::<F>(alloc, j)?)?;
         let reach = self.cube.diagram().crossings().len();
-        push_rows(rows, &block, j, reach)?;
+        push_rows(rows, &reduced.complex, j, reach)?;
         Ok(())
     }
 
@@ -101,8 +113,7 @@ impl MarkedCube {
         ensures { result ≡ reduced_table F.P self.now.code self.now.mark }
     {
         element_laws::<F>();
-        // (what the type of a diagram keeps)
-        let _ = self.cube.diagram().crossings();
+        diagram_laws(self.cube.diagram());
         Table::of_rows(F::P, rows)
     }
 }

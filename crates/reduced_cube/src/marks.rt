@@ -7,6 +7,7 @@ ghost use Rattle.reduced_cube.specs.Marks.{marked_circles};
 ghost use Rattle.reduced_cube.specs.Reduced.{is_mark};
 
 use circle_smoothing::{Circles, Smoothings};
+use kh_types::laws::diagrams::diagram_laws;
 use kh_types::{Diagram, NoMemory};
 use std::alloc::Global;
 
@@ -28,7 +29,7 @@ pub(crate) fn marked_circles(
     ensures { IfOk result (λ circles. circles.items ≡ marked_circles diagram.now mark) }
 {
     // (the number of crossings is small)
-    let _ = diagram.crossings();
+    diagram_laws(diagram);
     let smoothings = Smoothings::new(diagram);
     let count = 1u32 << diagram.count();
     let mut circles = Vec::with_capacity(alloc, count as usize)?;
@@ -44,8 +45,7 @@ fn circle_of(diagram: &Diagram, circles: &Circles, mark: u8) -> u8
     requires mark { IsName diagram.now mark }
     ensures { result ≡ circle_number diagram.now circles.now.state mark }
 {
-    // (what the type of a diagram keeps)
-    let _ = diagram.crossings();
+    diagram_laws(diagram);
     let arcs = 2 * diagram.count();
     if mark <= arcs {
         circles.of_arc(mark)

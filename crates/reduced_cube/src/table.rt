@@ -13,6 +13,7 @@ use crate::marks::is_mark;
 use crate::stop::ReducedStop;
 use cube_signs::check_size;
 use jones_sum::Table;
+use kh_types::laws::diagrams::diagram_laws;
 use kh_types::{Diagram, NoMemory};
 use prime_field::PrimeField;
 use prime_field::laws::element_laws;
@@ -33,8 +34,7 @@ pub fn reduced_table<F: PrimeField>(
     ensures stop { IfErr result (IsReducedStop diagram.now mark) }
 {
     element_laws::<F>();
-    // (what the type of a diagram keeps)
-    let _ = diagram.crossings();
+    diagram_laws(diagram);
     if !is_mark(diagram, mark) {
         return Err(ReducedStop::Mark { arc: mark });
     }

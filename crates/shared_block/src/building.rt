@@ -6,10 +6,13 @@ ghost use Rattle.circle_smoothing.specs.GeneratorCounts.{generator_count};
 ghost use Rattle.circle_smoothing.specs.declared.limits.TheConstants.{GENERATORS};
 ghost use Rattle.cube_signs.specs.Blocks.{block_degrees};
 ghost use Rattle.cancel_step.specs.RankSums.{live_places};
+ghost use Rattle.shared_block.specs.AllBlocks.{IsFinished};
 ghost use Rattle.shared_block.specs.BlockHistories.{block_with};
 
 use crate::SharedBlock;
+use column_reduction::{Reduced, reduce};
 use cube_signs::Cube;
+use kh_types::laws::diagrams::diagram_laws;
 use kh_types::{Diagram, NoMemory};
 use prime_field::PrimeField;
 use prime_field::laws::element_laws;
@@ -35,9 +38,30 @@ impl<F: PrimeField> SharedBlock<F> {
     {
         element_laws::<F>();
         let diagram = *cube.diagram();
-        let _ = diagram.crossings();
+        diagram_laws(&diagram);
         let complex = cube.block::<F>(alloc, j)?;
         let history = Vec::with_capacity(alloc, live_places(&complex) / 2)?;
+        Ok(SharedBlock {
+            diagram,
+            degree: j,
+            history,
+            complex,
+        })
+    }
+
+    /// The block of a cube at a quantum degree, cancelled to zero by column reduction.
+    pub fn finished(alloc: Global, cube: &Cube, j: i16) -> Result<SharedBlock<F>, NoMemory>
+        requires { Contains (block_degrees cube.now) j }
+        ensures diagram { IfOk result (λ made. made.diagram ≡ cube.now) }
+        ensures degree { IfOk result (λ made. made.degree ≡ j) }
+        ensures zero { IfOk result (IsFinished F.P) }
+    {
+        element_laws::<F>();
+        let diagram = *cube.diagram();
+        diagram_laws(&diagram);
+        let Reduced { complex, pivots } = reduce(alloc, cube.opening_block::<F>(alloc, j)?)?;
+        let mut history = pivots;
+        history.reserve(live_places(&complex) / 2)?;
         Ok(SharedBlock {
             diagram,
             degree: j,

@@ -11,6 +11,7 @@ ghost use Rattle.prime_field.specs.Residues.{IsField};
 ghost use Rattle.shared_block.specs.BlockHistories.{HasLegalHistory};
 
 use crate::SharedBlock;
+use kh_types::laws::diagrams::diagram_laws;
 use prime_field::PrimeField;
 
 /// What the type of a block keeps. It does nothing: a function calls it, and its proof then has
@@ -21,7 +22,7 @@ pub fn block_laws<F: PrimeField>(block: &SharedBlock<F>)
     ensures legal { HasLegalHistory F.P block.now }
     ensures short { length block.now.history < 2 ^ 63 }
 {
-    let _ = block.diagram.crossings();
+    diagram_laws(&block.diagram);
 }
 
 /// A block has the homology dimensions of its code at every degree, also outside of its own.

@@ -12,6 +12,7 @@ use crate::SharedBlock;
 use crate::rows::push_rows;
 use cube_signs::Cube;
 use jones_sum::{Row, Table};
+use kh_types::laws::diagrams::diagram_laws;
 use kh_types::{Diagram, NoMemory};
 use prime_field::PrimeField;
 use prime_field::laws::element_laws;
@@ -41,8 +42,7 @@ fn push_block<F: PrimeField>(
     requires { Contains (block_degrees cube.now) j }
     ensures { OnOk result (rows.new.items ≡ rows.old.items ++ rows_at F.P cube.now j) }
 {
-    let mut block = SharedBlock::<F>::of_cube(alloc, cube, j)?;
-    block.finish(alloc)?;
+    let block = SharedBlock::<F>::finished(alloc, cube, j)?;
     push_rows(rows, &block)
 }
 
@@ -71,7 +71,6 @@ pub fn whole_table<F: PrimeField>(diagram: &Diagram, rows: Vec<Row>) -> Table
     ensures { result ≡ table F.P diagram.now }
 {
     element_laws::<F>();
-    // (what the type of a diagram keeps)
-    let _ = diagram.crossings();
+    diagram_laws(diagram);
     Table::of_rows(F::P, rows)
 }

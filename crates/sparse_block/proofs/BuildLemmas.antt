@@ -1,6 +1,6 @@
 -- The complex that names and columns make.
 use Rattle.std.proofs.lemmas.Bool.Decides.{nat_tests}
-use Rattle.std.proofs.Common.{◌≡◌, ℕ, zero, suc, ◌+◌, ◌<◌, ◌^◌, ◌∙◌, inl, inr, List, [], ◌∷◌, ◌++◌, ℤ, pos, negsuc, ◌+ℤ◌, ◌-ℤ◌, ◌≤ℤ◌, length, map, get_or, take, replicate, ap, sym, subst, arith, refl, Bool, true}
+use Rattle.std.proofs.Common.{◌≡◌, ℕ, zero, suc, ◌+◌, ◌<◌, ◌^◌, ◌∙◌, inl, inr, List, [], ◌∷◌, ◌++◌, ℤ, pos, negsuc, ◌+ℤ◌, ◌-ℤ◌, ◌≤ℤ◌, length, map, get_or, take, replicate, ap, sym, subst, arith, refl, Bool, true, false}
 use Rattle.std.specs.Prelude.{slice_index_or, All}
 use Rattle.std.specs.List.{range_with_len}
 use Rattle.std.proofs.Math.ListN as plain
@@ -9,7 +9,7 @@ use Rattle.std.proofs.lemmas.Bool.Decides.{leb_tells}
 use Rattle.std.proofs.lemmas.List.{length-map, get_or_past, map_more, map_push}
 use Rattle.std.proofs.lemmas.List.FromFn.{fill_by_all, map-range_with_len_more}
 use Rattle.std.proofs.lemmas.Simd.{map-map}
-use Rattle.kh_types.specs.Complex.{Degree, IsComplex, degree_number, degree_from, entry_in}
+use Rattle.kh_types.specs.Complex.{Degree, IsComplex, degree_number, degree_from, degree_of, entry_in, entry_of}
 use Rattle.kh_types.specs.Generators.{Generator}
 use Rattle.sparse_block.specs.declared.entry.Entry.{Entry}
 use Rattle.sparse_block.specs.Entries.{entries_of, value_at, AreEntries}
@@ -47,61 +47,56 @@ alive-always names k place =
     ap (λ (bs : List Bool). slice_index_or bs place true) (plain.get_or-map all_true names k [])
     ∙ always_true (slice_index_or names k []) place
 
-module _ (p : ℕ) (names : List (List Generator)) (columns : List (List (List Entry)))
-    (sizes : map length columns ≡ map length names) (have : HaveEntries p names columns) where
-  height-at : (k : ℕ) → length (slice_index_or (all_alive names) k []) ≡ length (slice_index_or names k [])
-  height-at k = length-at (all_alive names) names k (sizes-all_alive names)
+-- the complex with these places alive, where columns have entries at places of the next degree
 
-  width-at : (k : ℕ) → length (slice_index_or columns k []) ≡ length (slice_index_or (all_alive names) k [])
-  width-at k = length-at columns names k sizes ∙ sym (height-at k)
+module _ (p : ℕ) (alive : List (List Bool)) (columns : List (List (List Entry))) (sizes : map length columns ≡ map length alive)
+    (have : (k : ℕ) → All (AreEntries p (length (slice_index_or alive (k + 1) []))) (slice_index_or columns k [])) where
+  width-at : (k : ℕ) → length (slice_index_or columns k []) ≡ length (slice_index_or alive k [])
+  width-at k = length-at columns alive k sizes
 
   have-at : (k column : ℕ) → column < length (slice_index_or columns k [])
-      → AreEntries p (length (slice_index_or (all_alive names) (k + 1) [])) (slice_index_or (slice_index_or columns k []) column [])
-  have-at k column within =
-      subst (λ (height : ℕ). AreEntries p height (slice_index_or (slice_index_or columns k []) column [])) (sym (height-at (k + 1)))
-      (have k column [] within)
+      → AreEntries p (length (slice_index_or alive (k + 1) [])) (slice_index_or (slice_index_or columns k []) column [])
+  have-at k column within = have k column [] within
 
   -- the columns in memory are the entries of the matrices
 
-  column-built : (k column : ℕ) → column < length (slice_index_or (all_alive names) k [])
+  column-built : (k column : ℕ) → column < length (slice_index_or alive k [])
       → slice_index_or (slice_index_or columns k []) column []
-      ≡ entries_of (column_in (degree_from_lists (all_alive names) columns k).matrix column)
+      ≡ entries_of (column_in (degree_from_lists alive columns k).matrix column)
   column-built k column within =
-      let height = length (slice_index_or (all_alive names) (k + 1) []) in
+      let height = length (slice_index_or alive (k + 1) []) in
       let entries : List Entry = slice_index_or (slice_index_or columns k []) column [] in
       sym (
       ap entries_of (column_in-matrix_from height column (slice_index_or columns k []))
       ∙ entries_of-line_of p height entries (have-at k column (omega (arith, within, width-at k)))
       )
 
-  pub columns-built : columns ≡ map column_entries (degrees_from (all_alive names) columns)
+  pub columns-built : columns ≡ map column_entries (degrees_from alive columns)
   columns-built =
-      let degree : ℕ → Degree = degree_from_lists (all_alive names) columns in
-      fill_by_all (λ (k : ℕ). column_entries (degree k)) columns (length (all_alive names)) []
-      (length-same columns names sizes ∙ sym (length-same (all_alive names) names (sizes-all_alive names)))
+      let degree : ℕ → Degree = degree_from_lists alive columns in
+      fill_by_all (λ (k : ℕ). column_entries (degree k)) columns (length alive) [] (length-same columns alive sizes)
       (λ k within.
       fill_by_all (λ (column : ℕ). entries_of (column_in (degree k).matrix column)) (slice_index_or columns k [])
-      (length (slice_index_or (all_alive names) k [])) [] (width-at k) (column-built k))
-      ∙ sym (map-map column_entries degree (range_with_len 0 (length (all_alive names))))
+      (length (slice_index_or alive k [])) [] (width-at k) (column-built k))
+      ∙ sym (map-map column_entries degree (range_with_len 0 (length alive)))
 
   -- the sizes of the matrices, and their entries
 
   rows-sized : (low : ℤ) (k : ℕ)
-      → length (degree_number (complex_from low (all_alive names) columns) k).matrix
-      ≡ length (degree_number (complex_from low (all_alive names) columns) (k + 1)).alive
+      → length (degree_number (complex_from low alive columns) k).matrix
+      ≡ length (degree_number (complex_from low alive columns) (k + 1)).alive
   rows-sized low k =
-      ap (λ (degree : Degree). length degree.matrix) (degree_number-from low (all_alive names) columns k)
-      ∙ length-matrix_from (length (slice_index_or (all_alive names) (k + 1) [])) (slice_index_or columns k [])
-      ∙ ap (λ (degree : Degree). length degree.alive) (sym (degree_number-from low (all_alive names) columns (k + 1)))
+      ap (λ (degree : Degree). length degree.matrix) (degree_number-from low alive columns k)
+      ∙ length-matrix_from (length (slice_index_or alive (k + 1) [])) (slice_index_or columns k [])
+      ∙ ap (λ (degree : Degree). length degree.alive) (sym (degree_number-from low alive columns (k + 1)))
 
-  row-sized : (k row : ℕ) → row < length (degree_from_lists (all_alive names) columns k).matrix
-      → length (slice_index_or (degree_from_lists (all_alive names) columns k).matrix row [])
-      ≡ length (degree_from_lists (all_alive names) columns k).alive
+  row-sized : (k row : ℕ) → row < length (degree_from_lists alive columns k).matrix
+      → length (slice_index_or (degree_from_lists alive columns k).matrix row []) ≡ length (degree_from_lists alive columns k).alive
   row-sized k row within = grind (arith, nat_tests, row-matrix_from, length-matrix_from, length-map, width-at)
 
   number-below : (k row column : ℕ) → 0 < p → value_at (slice_index_or (slice_index_or columns k []) column []) row < p
   number-below k row column positive =
-      let height = length (slice_index_or (all_alive names) (k + 1) []) in
+      let height = length (slice_index_or alive (k + 1) []) in
       let lists : List (List Entry) = slice_index_or columns k [] in
       elim (leb_tells (length lists) column) [
         | inl past ↦
@@ -111,16 +106,48 @@ module _ (p : ℕ) (names : List (List Generator)) (columns : List (List (List E
             (entries-ascend p height (slice_index_or lists column []) (have-at k column has.1))
       ]
 
-  entry-below : (k row column : ℕ) → 0 < p → entry_in (degree_from_lists (all_alive names) columns k).matrix row column < p
+  entry-below : (k row column : ℕ) → 0 < p → entry_in (degree_from_lists alive columns k).matrix row column < p
   entry-below k row column positive =
       grind (arith, nat_tests, leb_tells, entry-past_rows, length-matrix_from, entry-matrix_from, number-below)
 
   entry-below-from : (low distance : ℤ) (row column : ℕ) → 0 < p
-      → entry_in (degree_from (complex_from low (all_alive names) columns) distance).matrix row column < p
+      → entry_in (degree_from (complex_from low alive columns) distance).matrix row column < p
   entry-below-from low (pos k) row column positive =
-      subst (λ (degree : Degree). entry_in degree.matrix row column < p) (sym (degree_number-from low (all_alive names) columns k))
+      subst (λ (degree : Degree). entry_in degree.matrix row column < p) (sym (degree_number-from low alive columns k))
       (entry-below k row column positive)
   entry-below-from low (negsuc k) row column positive = positive
+
+  -- a complex, if places that are dead have no entry, and products are 0
+  pub complex-built : (low : ℤ) → 0 < p
+      → ((i : ℤ) (row column : ℕ) → slice_index_or (degree_of (complex_from low alive columns) i).alive column true ≡ false
+      → entry_of (complex_from low alive columns) i row column ≡ 0)
+      → ((i : ℤ) (row column : ℕ) → slice_index_or (degree_of (complex_from low alive columns) (i +ℤ pos 1)).alive row true ≡ false
+      → entry_of (complex_from low alive columns) i row column ≡ 0)
+      → SquaresToZero p (complex_from low alive columns) → IsComplex p (complex_from low alive columns)
+  complex-built low positive dead_column dead_row squares =
+      record {
+        rows = λ k within. rows-sized low k;
+        columns = λ k row within.
+            let is_degree = degree_number-from low alive columns k in
+            subst (λ (degree : Degree). length (slice_index_or degree.matrix row []) ≡ length degree.alive) (sym is_degree)
+            (row-sized k row (subst (λ (degree : Degree). row < length degree.matrix) is_degree within));
+        below = λ i row column. entry-below-from low (i -ℤ low) row column positive;
+        dead_column = dead_column;
+        dead_row = dead_row;
+        product = squares;
+      }
+
+-- all places are alive
+
+module _ (p : ℕ) (names : List (List Generator)) (columns : List (List (List Entry)))
+    (sizes : map length columns ≡ map length names) (have : HaveEntries p names columns) where
+  pub sizes-alive : map length columns ≡ map length (all_alive names)
+  sizes-alive = sizes ∙ sym (sizes-all_alive names)
+
+  pub have-alive : (k : ℕ) → All (AreEntries p (length (slice_index_or (all_alive names) (k + 1) []))) (slice_index_or columns k [])
+  have-alive k =
+      subst (λ (height : ℕ). All (AreEntries p height) (slice_index_or columns k []))
+      (sym (length-at (all_alive names) names (k + 1) (sizes-all_alive names))) (have k)
 
   never-dead : (low distance : ℤ) (place : ℕ)
       → slice_index_or (degree_from (complex_from low (all_alive names) columns) distance).alive place true ≡ true
@@ -129,21 +156,12 @@ module _ (p : ℕ) (names : List (List Generator)) (columns : List (List (List E
       ∙ alive-always names k place
   never-dead low (negsuc k) place = refl
 
-  pub complex-built : (low : ℤ) → 0 < p → SquaresToZero p (complex_from low (all_alive names) columns)
+  pub complex-all_alive : (low : ℤ) → 0 < p → SquaresToZero p (complex_from low (all_alive names) columns)
       → IsComplex p (complex_from low (all_alive names) columns)
-  complex-built low positive squares =
-      let complex = complex_from low (all_alive names) columns in
-      record {
-        rows = λ k within. rows-sized low k;
-        columns = λ k row within.
-            let is_degree = degree_number-from low (all_alive names) columns k in
-            subst (λ (degree : Degree). length (slice_index_or degree.matrix row []) ≡ length degree.alive) (sym is_degree)
-            (row-sized k row (subst (λ (degree : Degree). row < length degree.matrix) is_degree within));
-        below = λ i row column. entry-below-from low (i -ℤ low) row column positive;
-        dead_column = λ i row column dead. absurd (false≢true (sym dead ∙ never-dead low (i -ℤ low) column));
-        dead_row = λ i row column dead. absurd (false≢true (sym dead ∙ never-dead low (i +ℤ pos 1 -ℤ low) row));
-        product = squares;
-      }
+  complex-all_alive low positive =
+      complex-built p (all_alive names) columns sizes-alive have-alive low positive
+      (λ i row column dead. absurd (false≢true (sym dead ∙ never-dead low (i -ℤ low) column)))
+      (λ i row column dead. absurd (false≢true (sym dead ∙ never-dead low (i +ℤ pos 1 -ℤ low) row)))
 
 -- what build keeps
 pub kept-built : (p : ℕ) (low : ℤ) (names : List (List Generator)) (alive : List (List Bool))
@@ -158,8 +176,8 @@ kept-built p low names alive columns rows positive some end counts sizes have sq
       end = end;
       counts = counts;
       sizes = sizes-all_alive names;
-      is_complex = complex-built p names columns sizes have low positive squares;
-      are_columns = columns-built p names columns sizes have;
+      is_complex = complex-all_alive p names columns sizes have low positive squares;
+      are_columns = columns-built p (all_alive names) columns (sizes-alive p names columns sizes have) (have-alive p names columns sizes have);
       are_rows = are_rows;
     })
 

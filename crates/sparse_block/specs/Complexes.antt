@@ -1,5 +1,5 @@
 -- Complexes whose places have names, and what lists of entries for columns denote (this project's rule).
-use Rattle.std.specs.Prelude.{◌≡◌, ℕ, ◌+◌, ℤ, pos, negsuc, ◌+ℤ◌, ◌-ℤ◌, List, [], length, map, Bool, true, slice_index, slice_index_or, All}
+use Rattle.std.specs.Prelude.{◌≡◌, ℕ, ◌+◌, ◌<◌, ◌^◌, ℤ, pos, negsuc, ◌+ℤ◌, ◌-ℤ◌, ◌≤ℤ◌, List, [], length, map, Bool, true, slice_index, slice_index_or, All}
 use Rattle.std.specs.List.{range_with_len}
 use Rattle.kh_types.specs.Complex.{Complex, Degree, degree_of, product_entry}
 use Rattle.kh_types.specs.Generators.{Generator, generator_of}
@@ -76,3 +76,21 @@ HaveEntries p names columns =
 -- neighbouring matrices have the product 0, modulo p
 abbrev pub SquaresToZero : ℕ → Complex → Type 0
 SquaresToZero p complex = (i : ℤ) (row column : ℕ) → product_entry p complex i row column ≡ 0
+
+-- names and columns that make a complex: there is a degree, one more than the greatest is at most 32,767, the places of a degree can
+-- be counted, each has a column, the entries are at places of the next degree, and products are 0
+pub record MakeComplex (p : ℕ) (low : ℤ) (names : List (List Generator)) (columns : List (List (List Entry))) : Type 0 where
+  pub some : 0 < length names
+  pub end : (low +ℤ pos (length names)) ≤ℤ pos 32767
+  pub counts : All (λ degree. length degree < 2 ^ 32) names
+  pub sizes : map length columns ≡ map length names
+  pub entries : HaveEntries p names columns
+  pub squares : SquaresToZero p (sparse_complex low names columns).complex
+
+-- a column without entries for each place
+abbrev pub no_columns : List (List Bool) → List (List (List Entry))
+no_columns alive = map (λ degree. map (λ place. []) degree) alive
+
+-- the complex with these names and these places alive, all of whose entries are 0
+abbrev pub zero_complex : ℤ → List (List Generator) → List (List Bool) → NamedComplex
+zero_complex low names alive = record { complex = complex_from low alive (no_columns alive); names = names }

@@ -2,10 +2,11 @@
 
 ghost use Rattle.std.specs.Prelude.{◌≡◌, ℕ, ◌<◌, ◌^◌, pos, ◌+ℤ◌, ◌≤ℤ◌, length, map, IfOk, All};
 ghost use Rattle.sparse_block.specs.Complexes.{all_alive, degree_from_lists, degrees_from};
-ghost use Rattle.sparse_block.specs.Complexes.{sparse_complex, HaveEntries, SquaresToZero};
+ghost use Rattle.sparse_block.specs.Complexes.{no_columns, sparse_complex, zero_complex};
+ghost use Rattle.sparse_block.specs.Complexes.{HaveEntries, SquaresToZero};
 ghost use Rattle.sparse_block.specs.Inside.{entries_in, lines_in, lists_in, row_entries};
 
-use crate::counts::name_count;
+use crate::counts::{name_count, place_count};
 use crate::held_lines::HeldLines;
 use crate::lines::rows_of;
 use crate::{Complex, Entry, Generator, INLINE_ENTRIES};
@@ -18,7 +19,7 @@ use std::marker::PhantomData;
 
 /// The complex with these names of places, by degree from `low` on, and the entries of these
 /// columns, all places alive.
-pub fn build<F: PrimeField>(
+pub(crate) fn build<F: PrimeField>(
     alloc: Global,
     low: i16,
     names: Vec<Vec<Generator>>,
@@ -46,6 +47,59 @@ pub fn build<F: PrimeField>(
         rows,
         field: PhantomData,
     })
+}
+
+impl<F: PrimeField> Complex<F> {
+    /// The complex with these names of places, by degree from `low` on, and these places alive, all
+    /// of whose entries are zero.
+    pub fn zero(
+        alloc: Global,
+        low: i16,
+        names: Vec<Vec<Generator>>,
+        alive: Vec<Vec<bool>>,
+    ) -> Result<Complex<F>, NoMemory>
+        requires some { 0 < length names.items }
+        requires end { (low +ℤ pos (length names.items)) ≤ℤ pos 32767 }
+        requires counts { All (λ degree. length degree < 2 ^ 32) (lists_in names.items) }
+        requires sizes { map length (lists_in alive.items) ≡ map length (lists_in names.items) }
+        ensures { IfOk result (λ made.
+            made ≡ zero_complex low (lists_in names.items) (lists_in alive.items)) }
+    {
+        element_laws::<F>();
+        let columns = empty_columns(alloc, &alive)?;
+        let rows = empty_rows(alloc, &alive)?;
+        Ok(Complex {
+            low,
+            names,
+            alive,
+            columns,
+            rows,
+            field: PhantomData,
+        })
+    }
+}
+
+/// For each place a column without entries.
+fn empty_columns(alloc: Global, alive: &[Vec<bool>]) -> Result<Vec<HeldLines>, NoMemory>
+    ensures { IfOk result (λ made. made.items ≡ no_columns (lists_in alive.now)) }
+{
+    let mut made = Vec::with_capacity(alloc, alive.len())?;
+    'degrees: for degree in alive {
+        made.push(HeldLines::empty_lines(alloc, degree.len()))?;
+    }
+    Ok(made)
+}
+
+/// For each place a row without entries, in the degree before its own.
+fn empty_rows(alloc: Global, alive: &[Vec<bool>]) -> Result<Vec<HeldLines>, NoMemory>
+    ensures { IfOk result (λ made. made.items
+        ≡ map row_entries (degrees_from (lists_in alive.now) (no_columns (lists_in alive.now)))) }
+{
+    let mut made = Vec::with_capacity(alloc, alive.len())?;
+    'degrees: for k in 0..alive.len() {
+        made.push(HeldLines::empty_lines(alloc, place_count(alive, k + 1)))?;
+    }
+    Ok(made)
 }
 
 /// Marks every place alive.

@@ -17,6 +17,13 @@ pub(crate) fn name_count(names: &[Vec<Generator>], k: usize) -> u32
     }
 }
 
+/// How many places degree number `k` has, none past the last degree.
+pub(crate) fn place_count(alive: &[Vec<bool>], k: usize) -> usize
+    ensures { result ≡ length (slice_index_or (lists_in alive.now) k []) }
+{
+    alive.get(k).map_or(0, |degree| degree.len())
+}
+
 /// How many places of degree number `k` are alive, none past the last degree.
 pub(crate) fn alive_count(alive: &[Vec<bool>], k: usize) -> u32
     requires { All (λ degree. length degree < 2 ^ 32) (lists_in alive.now) }

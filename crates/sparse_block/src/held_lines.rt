@@ -2,7 +2,7 @@
 //! none has, all of them may be let go, and they are empty still.
 
 ghost use Rattle.std.specs.Prelude.{◌≡◌, ◌+◌, ◌<◌, ◌≤◌, ℕ, [], length, slice_index_or, slice_set};
-ghost use Rattle.std.specs.Prelude.{false, min, All};
+ghost use Rattle.std.specs.Prelude.{false, min, replicate, All};
 ghost use Rattle.sparse_block.specs.declared.held_lines.TheConstants.{MOST_LINES};
 ghost use Rattle.sparse_block.specs.Clearing.{AreExchanged, without};
 ghost use Rattle.sparse_block.specs.Entries.{AreEntries};
@@ -13,6 +13,7 @@ use crate::change::Line;
 use crate::clearing::remove;
 use crate::{Entry, INLINE_ENTRIES};
 use smallvec::SmallVec;
+use std::alloc::Global;
 use std::marker::Model;
 
 pub(crate) type Entries = SmallVec<Entry, INLINE_ENTRIES>;
@@ -49,6 +50,17 @@ impl HeldLines {
         let size = lines.len();
         let count = count_filled(&lines);
         HeldLines { size, lines, count }
+    }
+
+    /// So many lines without entries.
+    pub(crate) fn empty_lines(alloc: Global, size: usize) -> HeldLines
+        ensures { result ≡ replicate size [] }
+    {
+        HeldLines {
+            size,
+            lines: Vec::new(alloc),
+            count: 0,
+        }
     }
 
     /// The entries of a line, none past the last one.

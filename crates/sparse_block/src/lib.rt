@@ -5,6 +5,7 @@ mod building;
 mod cancelling;
 mod change;
 mod clearing;
+mod column_complex;
 mod complex;
 mod counts;
 mod entry;
@@ -14,8 +15,8 @@ pub mod laws;
 mod lines;
 mod reading;
 
-pub use building::build;
 pub use change::{Change, Line};
+pub use column_complex::{ColumnComplex, ColumnParts};
 pub use complex::Complex;
 pub use entry::{Entry, INLINE_ENTRIES};
 pub use generator::Generator;

@@ -31,11 +31,8 @@ done_more p before after one done is are_all are_counts = record {
 }
 
 -- one count more that is 0
-pub none_more : (code : Code) (j : ℤ) (held : BlockHistory) (counts all : List ℕ) (count : ℕ) → All (λ n. n ≡ 0) counts → held ≡ block_with code j []
-    → count ≡ length held.history → all ≡ counts ++ count ∷ [] → All (λ n. n ≡ 0) all
-none_more code j held counts all count none opening is more =
-    let one : count ≡ 0 = is ∙ ap (λ (block : BlockHistory). length block.history) opening in
-    rw more (All-push (λ n. n ≡ 0) counts count none one)
+pub none_more : (counts all : List ℕ) (count : ℕ) → All (λ n. n ≡ 0) counts → count ≡ 0 → all ≡ counts ++ count ∷ [] → All (λ n. n ≡ 0) all
+none_more counts all count none one more = rw more (All-push (λ n. n ≡ 0) counts count none one)
 
 -- counts that stay 0
 pub none_stay : (counts all : List ℕ) → All (λ n. n ≡ 0) counts → all ≡ counts → All (λ n. n ≡ 0) all

@@ -1,8 +1,10 @@
 //! Blocks that are cancelled to zero.
 
-ghost use Rattle.std.specs.Prelude.{◌≡◌, ◌∷◌, ◌++◌, [], IfOk, OnOk, length, map};
-ghost use Rattle.worker_pool.specs.Outcomes.{AreDone, IsDone, origin_of};
+ghost use Rattle.std.specs.Prelude.{◌≡◌, ◌<◌, ◌∷◌, ◌++◌, [], IfOk, OnOk, length, map, pos};
+ghost use Rattle.std.specs.Prelude.{slice_index_or};
+ghost use Rattle.worker_pool.specs.Outcomes.{AreDegreesOf, AreDone, IsDone, origin_of};
 
+use cube_signs::Cube;
 use kh_types::NoMemory;
 use prime_field::PrimeField;
 use shared_block::SharedBlock;
@@ -30,6 +32,27 @@ pub(crate) fn finished_one<F: PrimeField>(
     let committed = block.version();
     block.finish(alloc)?;
     Ok(DoneBlock { block, committed })
+}
+
+/// The block at one place of the quantum degrees, which the caller cancels alone.
+pub(crate) fn done_alone<F: PrimeField>(
+    alloc: Global,
+    cube: &Cube,
+    degrees: &[i16],
+    place: usize,
+) -> Result<DoneBlock<F>, NoMemory>
+    requires degrees { AreDegreesOf cube.now degrees.now }
+    requires place { place < length degrees.now }
+    ensures origin { IfOk result (λ one.
+        origin_of one.block ≡ (cube.now, slice_index_or degrees.now place (pos 0))) }
+    ensures done { IfOk result (IsDone F.P) }
+    ensures count { IfOk result (λ one. one.committed ≡ 0) }
+{
+    let block = SharedBlock::finished(alloc, cube, degrees[place])?;
+    Ok(DoneBlock {
+        block,
+        committed: 0,
+    })
 }
 
 /// Blocks that are cancelled to zero, as they come one after another, and the count of each.

@@ -7,10 +7,10 @@ ghost use Rattle.kh_types.specs.declared.limits.TheConstants.{WORKERS};
 ghost use Rattle.worker_pool.specs.Outcomes.{AreBlocksAt, AreDegreesOf, AreDone};
 ghost use Rattle.worker_pool.specs.Slots.{AreDoneSlots};
 
-use crate::building::{blocks_at, build_one};
+use crate::building::blocks_at;
 use crate::crew::Crew;
 use crate::done_slots::{DoneSlots, in_order, put};
-use crate::finished::{Finished, finished_one};
+use crate::finished::{Finished, done_alone, finished_one};
 use crate::gate::Gate;
 use crate::rows::{Pool, opened, take_last};
 use crate::sharing::{Course, work_rows};
@@ -41,7 +41,7 @@ pub(crate) fn finished_alone<F: PrimeField>(
 {
     let mut done = Finished::new(alloc, degrees.len())?;
     'places: for k in 0..degrees.len() {
-        done.push(finished_one(alloc, build_one(alloc, cube, degrees, k)?)?)?;
+        done.push(done_alone(alloc, cube, degrees, k)?)?;
     }
     Ok(done)
 }

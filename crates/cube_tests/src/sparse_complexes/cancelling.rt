@@ -10,7 +10,7 @@ use super::{Columns, NONE, column_at, entry, labels, lines, over_five, over_thre
 use kh_types::NoMemory;
 use prime_field::{F3, F5, PrimeField};
 use smallvec::SmallVec;
-use sparse_block::{Change, Complex, Entry, Generator, Line, build};
+use sparse_block::{Change, ColumnComplex, Complex, Entry, Generator, Line};
 use std::alloc::Global;
 use std::process::Abort;
 use std::test::Fail;
@@ -75,7 +75,7 @@ fn middle(alloc: Global) -> Result<Complex<F5>, NoMemory>
 {
     let names = middle_labels(alloc)?;
     let columns = middle_lines(alloc)?;
-    build(alloc, -1, names, columns)
+    ColumnComplex::new(-1, names, columns).build(alloc)
 }
 
 fn change_of_middle(alloc: Global) -> Result<Change, NoMemory>

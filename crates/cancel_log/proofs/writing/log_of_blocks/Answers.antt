@@ -18,7 +18,7 @@ returns-clause-log g c =
     let p = g.F.PrimeField.P in
     let blocks = c.args.blocks.now in
     log-of_blocks p c.args.diagram.now blocks c.push_table.new.text.items c.element_laws.ensures.prime c.element_laws.ensures.field
-    c.crossings.ensures.accepted (omega (arith, c.crossings.ensures.few, ap length c.crossings.ensures.crossings)) c.requires.loops
+    c.diagram_laws.ensures.accepted c.diagram_laws.ensures.few c.requires.loops
     c.requires.size c.in_ok-text.ensures.reads c.requires.blocks
     (subst (All (HasLegalHistory p)) (take_all c.each.k blocks (omega (arith, c.each-test.false))) c.each.invariant.1) c.requires.zero
     (returns-clause-text g c)
@@ -28,7 +28,7 @@ returns-clause-few g c =
     let p = g.F.PrimeField.P in
     let blocks = c.args.blocks.now in
     few-of_blocks p c.args.diagram.now blocks c.push_table.new.text.items c.element_laws.ensures.prime c.element_laws.ensures.field
-    c.crossings.ensures.accepted (omega (arith, c.crossings.ensures.few, ap length c.crossings.ensures.crossings)) c.requires.loops
+    c.diagram_laws.ensures.accepted c.diagram_laws.ensures.few c.requires.loops
     c.requires.size c.requires.blocks
     (subst (All (HasLegalHistory p)) (take_all c.each.k blocks (omega (arith, c.each-test.false))) c.each.invariant.1)
     (returns-clause-text g c)

@@ -21,8 +21,8 @@ pub returns-clause-log : goal.returns-clause-log
 returns-clause-log g c =
     IsWritten-all g.F.PrimeField.P c.args.diagram.now c.in_ok-degrees.degrees.items c.degrees.k c.degrees.text.items
     c.push_table.new.text.items (table_text c.whole_table-homology.result) c.degrees.rows.items c.element_laws.ensures.prime
-    c.element_laws.ensures.field c.crossings.ensures.accepted
-    (omega (arith, c.crossings.ensures.few, ap length c.crossings.ensures.crossings)) c.requires.loops c.requires.size
+    c.element_laws.ensures.field c.diagram_laws.ensures.accepted
+    c.diagram_laws.ensures.few c.requires.loops c.requires.size
     c.in_ok-text.ensures.reads c.degrees.invariant (omega (arith, c.degrees-test.false, c.len-k-end.ensures))
     (c.in_ok-degrees.ensures ∙ ap block_degrees c.in_ok-cube.ensures) (ap table_text c.whole_table-homology.ensures)
     c.in_ok-push_table.ensures
@@ -31,8 +31,8 @@ pub returns-clause-few : goal.returns-clause-few
 returns-clause-few g c =
     few-all g.F.PrimeField.P c.args.diagram.now c.in_ok-degrees.degrees.items c.degrees.k c.degrees.text.items
     c.push_table.new.text.items (table_text c.whole_table-homology.result) c.degrees.rows.items c.element_laws.ensures.prime
-    c.element_laws.ensures.field c.crossings.ensures.accepted
-    (omega (arith, c.crossings.ensures.few, ap length c.crossings.ensures.crossings)) c.requires.loops c.requires.size
+    c.element_laws.ensures.field c.diagram_laws.ensures.accepted
+    c.diagram_laws.ensures.few c.requires.loops c.requires.size
     c.degrees.invariant (omega (arith, c.degrees-test.false, c.len-k-end.ensures))
     (c.in_ok-degrees.ensures ∙ ap block_degrees c.in_ok-cube.ensures) (ap table_text c.whole_table-homology.ensures)
     c.in_ok-push_table.ensures

@@ -2,7 +2,7 @@ use Rattle.std.proofs.Common.{[], ◌∷◌, ap, pos, sym, subst₂}
 use Rattle.sparse_block.specs.Entries.{entry_at}
 use Rattle.sparse_block.specs.Inside.{entries_in}
 use Rattle.sparse_block.proofs.WorkedLemmas.{columns-made}
-use Rattle.column_reduction.specs.StoredColumns.{CanReduce}
+use Rattle.sparse_block.specs.Complexes.{MakeComplex}
 use Rattle.column_reduction.proofs.tests.square.Goals as goal
 
 pub reduced-requires : goal.reduced-requires
@@ -12,4 +12,4 @@ reduced-requires g c =
     ((entry_at (0, 1) ∷ []) ∷ (entry_at (0, c.args.last) ∷ []) ∷ []) ([] ∷ []) [] c.in_ok-first.first c.in_ok-second.second
     c.in_ok-third.third c.new-fourth.result c.in_ok-columns.columns.items c.in_ok-columns.ensures.items c.in_ok-first.ensures
     c.in_ok-second.ensures c.in_ok-third.ensures (ap entries_in c.new-fourth.ensures.items) in
-    subst₂ (CanReduce g.F.PrimeField.P (pos 0)) (sym c.in_ok-names.ensures) (sym made) c.requires
+    subst₂ (MakeComplex g.F.PrimeField.P (pos 0)) (sym c.in_ok-names.ensures) (sym made) c.requires

@@ -6,4 +6,4 @@ pub returns-clause-dimensions : goal.returns-clause-dimensions
 returns-clause-dimensions g c =
     let inside = c.core.inside in
     dimensions-kept g.F.PrimeField.P (state_of inside.diagram inside.blocks.items inside.workers.items) c.args.core.now
-    c.element_laws.ensures.field c.core.view_is c.crossings.ensures.accepted c.core.invariant.0
+    c.element_laws.ensures.field c.core.view_is c.diagram_laws.ensures.accepted c.core.invariant.0

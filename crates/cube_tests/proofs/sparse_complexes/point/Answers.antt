@@ -5,8 +5,8 @@ use Rattle.sparse_block.specs.Inside.{lists_in, lines_in}
 use Rattle.sparse_block.proofs.WorkedLemmas.{point-build}
 use Rattle.cube_tests.proofs.sparse_complexes.point.Goals as goal
 
-pub build-requires-clause-counts : goal.build-requires-clause-counts
-build-requires-clause-counts c =
+pub new-requires-clause-counts : goal.new-requires-clause-counts
+new-requires-clause-counts c =
     let can =
     point-build (lists_in c.in_ok-names.names.items) (lines_in c.in_ok-columns.columns.items)
     (ap lists_in c.in_ok-names.ensures.items
@@ -16,8 +16,8 @@ build-requires-clause-counts c =
     ∙ ap (λ (lines : List (List Entry)). lines ∷ []) c.in_ok-lines.ensures) in
     can.counts
 
-pub build-requires-clause-sizes : goal.build-requires-clause-sizes
-build-requires-clause-sizes c =
+pub new-requires-clause-sizes : goal.new-requires-clause-sizes
+new-requires-clause-sizes c =
     let can =
     point-build (lists_in c.in_ok-names.names.items) (lines_in c.in_ok-columns.columns.items)
     (ap lists_in c.in_ok-names.ensures.items
@@ -27,8 +27,8 @@ build-requires-clause-sizes c =
     ∙ ap (λ (lines : List (List Entry)). lines ∷ []) c.in_ok-lines.ensures) in
     can.sizes
 
-pub build-requires-clause-entries : goal.build-requires-clause-entries
-build-requires-clause-entries c =
+pub new-requires-clause-entries : goal.new-requires-clause-entries
+new-requires-clause-entries c =
     let can =
     point-build (lists_in c.in_ok-names.names.items) (lines_in c.in_ok-columns.columns.items)
     (ap lists_in c.in_ok-names.ensures.items
@@ -38,8 +38,8 @@ build-requires-clause-entries c =
     ∙ ap (λ (lines : List (List Entry)). lines ∷ []) c.in_ok-lines.ensures) in
     can.entries
 
-pub build-requires-clause-squares : goal.build-requires-clause-squares
-build-requires-clause-squares c =
+pub new-requires-clause-squares : goal.new-requires-clause-squares
+new-requires-clause-squares c =
     let can =
     point-build (lists_in c.in_ok-names.names.items) (lines_in c.in_ok-columns.columns.items)
     (ap lists_in c.in_ok-names.ensures.items

@@ -14,11 +14,10 @@ pub returns-clause-sums : goal.returns-clause-sums
 returns-clause-sums c = λ exponent.
     let code = c.args.counted.now in
     counted_sum-state_sum code c.kinds.counts exponent
-    (accepted_too code c.diagram.result.now c.diagram.ensures c.crossings.ensures.accepted)
+    (accepted_too code c.diagram.result.now c.diagram.ensures c.diagram_laws.ensures.accepted)
     (omega (
       arith,
-      c.crossings.ensures.few,
-      ap length c.crossings.ensures.crossings,
+      c.diagram_laws.ensures.few,
       ap (λ (d : Code). length d.crossings) c.diagram.ensures,
     ))
     c.kinds.invariant.size (λ kind below. c.kinds.invariant.counts kind (omega (arith, below, c.kinds-test.false)))
@@ -26,11 +25,10 @@ returns-clause-sums c = λ exponent.
 pub returns-clause-all : goal.returns-clause-all
 returns-clause-all c =
     let code = c.args.counted.now in
-    sum-counts code c.kinds.counts (accepted_too code c.diagram.result.now c.diagram.ensures c.crossings.ensures.accepted)
+    sum-counts code c.kinds.counts (accepted_too code c.diagram.result.now c.diagram.ensures c.diagram_laws.ensures.accepted)
     (omega (
       arith,
-      c.crossings.ensures.few,
-      ap length c.crossings.ensures.crossings,
+      c.diagram_laws.ensures.few,
       ap (λ (d : Code). length d.crossings) c.diagram.ensures,
     ))
     c.kinds.invariant.size (λ kind below. c.kinds.invariant.counts kind (omega (arith, below, c.kinds-test.false)))

@@ -11,7 +11,7 @@ overflow_sub-result c =
     omega (
       arith,
       counted,
-      loop-number c.args.diagram.now state c.args.mark c.crossings.ensures.accepted c.requires.mark
+      loop-number c.args.diagram.now state c.args.mark c.diagram_laws.ensures.accepted c.requires.mark
           (omega (arith, c.if-mark-arcs.false, c.count-arcs.ensures.count)),
     )
 
@@ -24,7 +24,7 @@ overflow_sub-result-else-mark-arcs-2 c =
       counted,
       c.count-arcs.ensures.count,
       c.loops.ensures.loops,
-      loop-number c.args.diagram.now state c.args.mark c.crossings.ensures.accepted c.requires.mark
+      loop-number c.args.diagram.now state c.args.mark c.diagram_laws.ensures.accepted c.requires.mark
           (omega (arith, c.if-mark-arcs.false, c.count-arcs.ensures.count)),
     )
 
@@ -37,6 +37,6 @@ returns-else-mark-arcs c =
       counted,
       c.count-arcs.ensures.count,
       c.loops.ensures.loops,
-      loop-number c.args.diagram.now state c.args.mark c.crossings.ensures.accepted c.requires.mark
+      loop-number c.args.diagram.now state c.args.mark c.diagram_laws.ensures.accepted c.requires.mark
           (omega (arith, c.if-mark-arcs.false, c.count-arcs.ensures.count)),
     )

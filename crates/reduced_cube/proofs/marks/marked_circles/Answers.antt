@@ -17,7 +17,7 @@ pub returns : goal.returns
 returns c =
     let code = c.args.diagram.now in
     let few : length code.crossings ≤ CROSSINGS =
-    omega (arith, c.crossings.ensures.few, ap length c.crossings.ensures.crossings) in
+    c.diagram_laws.ensures.few in
     let power : 2 ^ length code.crossings ≤ 2 ^ CROSSINGS = pow_mono few in
     circles-all c.args.diagram.now c.args.mark c.states.circles.items c.states.state c.states.invariant
     (omega (arith, c.states-test.false, c.states.auto.state-end, ap (λ n. 2 ^ n) c.count.ensures.count, power))

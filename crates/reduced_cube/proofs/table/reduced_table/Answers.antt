@@ -11,5 +11,5 @@ returns-in-Ok-clause-euler g c e =
     let code = c.args.diagram.now in
     let passes : is_mark code c.args.mark ≡ true = search rules in
     ap (λ (table : Table). euler table (e -ℤ pos 1) +ℤ euler table (e +ℤ pos 1)) c.in-Ok.ensures
-    ∙ euler-product g.F.PrimeField.P code c.args.mark e c.element_laws.ensures.field c.crossings.ensures.accepted
-    (omega (arith, c.crossings.ensures.few, ap length c.crossings.ensures.crossings)) (IsName-mark code c.args.mark passes)
+    ∙ euler-product g.F.PrimeField.P code c.args.mark e c.element_laws.ensures.field c.diagram_laws.ensures.accepted
+    c.diagram_laws.ensures.few (IsName-mark code c.args.mark passes)

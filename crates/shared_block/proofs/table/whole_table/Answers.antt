@@ -10,7 +10,7 @@ of_rows-requires g c =
     let p = g.F.PrimeField.P in
     let code = c.args.diagram.now in
     subst (λ (made : Table). IsTable made) (sym (table-all p c.P.result code c.args.rows.items c.P.ensures c.requires.rows))
-    (IsTable-table p code (omega (arith, c.crossings.ensures.few, ap length c.crossings.ensures.crossings)) c.requires.size
+    (IsTable-table p code c.diagram_laws.ensures.few c.requires.size
     c.element_laws.ensures.prime)
 
 pub returns : goal.returns

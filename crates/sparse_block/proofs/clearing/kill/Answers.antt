@@ -1,10 +1,6 @@
 use Rattle.std.proofs.lemmas.Bool.Decides.{nat_tests}
-use Rattle.std.proofs.Common.{◌∙◌, ◌+◌, arith, set, ap, false, Bool, List}
-use Rattle.std.specs.Prelude.{slice_index_or}
-use Rattle.std.specs.Global.{Vec}
-use Rattle.std.specs.Vec.{with_item}
+use Rattle.std.proofs.Common.{arith}
 use Rattle.std.proofs.lemmas.List.{length-set}
-use Rattle.sparse_block.specs.Clearing.{with_dead}
 use Rattle.sparse_block.proofs.ClearingLemmas.{lists_in-dead}
 use Rattle.sparse_block.proofs.clearing.kill.Goals as goal
 

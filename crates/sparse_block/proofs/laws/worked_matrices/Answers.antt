@@ -1,5 +1,5 @@
 use Rattle.std.proofs.lemmas.Bool.Decides.{nat_tests}
-use Rattle.std.proofs.Common.{arith, refl}
+use Rattle.std.proofs.Common.{arith}
 use Rattle.sparse_block.proofs.WorkedLemmas.{worked-three, worked-five}
 use Rattle.sparse_block.proofs.laws.worked_matrices.Goals as goal
 

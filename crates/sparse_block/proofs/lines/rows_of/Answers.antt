@@ -1,5 +1,5 @@
 use Rattle.std.proofs.lemmas.Bool.Decides.{nat_tests}
-use Rattle.std.proofs.Common.{◌≡◌, ◌∙◌, arith, ap, length, sym, take}
+use Rattle.std.proofs.Common.{◌≡◌, ◌∙◌, arith, ap, length, take}
 use Rattle.std.proofs.lemmas.List.{length-map}
 use Rattle.smallvec.specs.SmallVec.{SmallVec}
 use Rattle.sparse_block.specs.declared.entry.Entry.{Entry}

@@ -1,7 +1,6 @@
 use Rattle.std.proofs.lemmas.Bool.Decides.{nat_tests}
-use Rattle.std.proofs.Common.{◌≡◌, ap, sym, arith, to_z, of_z, w16}
+use Rattle.std.proofs.Common.{arith}
 use Rattle.std.proofs.lemmas.Int.{ints}
-use Rattle.sparse_block.specs.Complexes.{place_count}
 use Rattle.sparse_block.proofs.PastLemmas.{column-past}
 use Rattle.sparse_block.proofs.reading.column_at.Goals as goal
 

@@ -1,7 +1,6 @@
 use Rattle.std.proofs.lemmas.Bool.Decides.{nat_tests}
-use Rattle.std.proofs.Common.{◌≡◌, pos, ◌+ℤ◌, ap, sym, arith, to_z, of_z, w16}
+use Rattle.std.proofs.Common.{arith}
 use Rattle.std.proofs.lemmas.Int.{ints}
-use Rattle.sparse_block.specs.Complexes.{place_count}
 use Rattle.sparse_block.proofs.PastLemmas.{places-outside, row-outside, row-past}
 use Rattle.sparse_block.proofs.reading.row_at.Goals as goal
 use Rattle.sparse_block.proofs.reading.row_at.Goals.{then-i-low-via-then-i-low, then-i-low-via-else-i-low+then-high-i}

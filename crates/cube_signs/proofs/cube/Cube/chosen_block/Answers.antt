@@ -1,37 +1,13 @@
-use Rattle.std.proofs.Common.{◌≡◌, ℕ, ℤ, pos, neg_ℤ, ◌+ℤ◌, ◌-ℤ◌, ◌≤ℤ◌, ◌+◌, ◌*◌, ◌≤◌, length, subst, arith, to_z, of_z, w16, List}
-use Rattle.std.proofs.lemmas.Int.{ints}
-use Rattle.std.specs.Global.{Vec}
-use Rattle.std.proofs.lemmas.List.{length-map}
-use Rattle.kh_types.specs.Generators.{Generator}
-use Rattle.sparse_block.specs.Complexes.{HaveEntries, SquaresToZero, sparse_complex}
-use Rattle.sparse_block.specs.Inside.{lines_in, lists_in}
+use Rattle.std.proofs.Common.{◌≡◌, ◌∙◌, ap, w16}
+use Rattle.std.proofs.lemmas.Int.{to_z-of_z}
+use Rattle.std.proofs.lemmas.Result.{IfOk-weaker}
+use Rattle.sparse_block.specs.Complexes.{NamedComplex}
+use Rattle.cube_signs.specs.Chosen.{chosen_block, has_minus}
 use Rattle.cube_signs.proofs.cube.Cube.chosen_block.Goals as goal
 
-fits : (n : ℕ) (low : ℤ) (names : List (Vec Generator)) → n ≤ 20 → low ≡ neg_ℤ (pos n) → length (lists_in names) ≡ 2 * n + 1
-    → (to_z w16 (of_z w16 low) +ℤ pos (length names)) ≤ℤ pos 32767
-fits n low names few is size = omega (arith, ints, length-map names (λ (degree : Vec Generator). degree.items))
-
-turned : (n : ℕ) (low : ℤ) → n ≤ 20 → low ≡ neg_ℤ (pos n) → pos 0 -ℤ pos n ≡ to_z w16 (of_z w16 low)
-turned n low few is = omega (arith, ints)
-
-pub build-requires-clause-end : goal.build-requires-clause-end
-build-requires-clause-end g c =
-    fits (length c.args.self.now.crossings) c.lowest.result.i c.in_ok-parts.parts.names.items
-    (omega (arith, c.crossing_count.ensures.count, c.crossing_count.ensures.few)) c.lowest.ensures.i c.in_ok-parts.ensures.size
-
-pub build-requires-clause-entries : goal.build-requires-clause-entries
-build-requires-clause-entries g c =
-    let parts = c.in_ok-parts.parts in
-    subst (λ (p : ℕ). HaveEntries p (lists_in parts.names.items) (lines_in parts.columns.items)) c.P.ensures
-    c.in_ok-parts.ensures.entries
-
-pub build-requires-clause-squares : goal.build-requires-clause-squares
-build-requires-clause-squares g c =
-    let parts = c.in_ok-parts.parts in
-    let low = turned (length c.args.self.now.crossings) c.lowest.result.i
-    (omega (arith, c.crossing_count.ensures.count, c.crossing_count.ensures.few)) c.lowest.ensures.i in
-    subst (λ (low : ℤ). SquaresToZero g.F.PrimeField.P (sparse_complex low (lists_in parts.names.items) (lines_in parts.columns.items)).complex)
-    low
-    (subst (λ (p : ℕ). SquaresToZero p
-    (sparse_complex (pos 0 -ℤ pos (length c.args.self.now.crossings)) (lists_in parts.names.items) (lines_in parts.columns.items)).complex)
-    c.P.ensures c.in_ok-parts.ensures.squares)
+pub returns : goal.returns
+returns g c =
+    let chosen = chosen_block (has_minus c.args.circles.now) g.F.PrimeField.P c.args.self.now in
+    IfOk-weaker c.build.result (λ (made : NamedComplex). made ≡ c.in_ok-chosen_opening_block.field-0)
+    (λ (made : NamedComplex). made ≡ chosen c.args.j)
+    (λ made is. is ∙ c.in_ok-chosen_opening_block.ensures ∙ ap chosen (to_z-of_z w16 c.args.j c.ranges.j)) c.build.ensures

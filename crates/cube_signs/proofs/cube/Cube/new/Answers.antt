@@ -23,8 +23,8 @@ ranks_of-requires c =
 pub invariant_of-result : goal.invariant_of-result
 invariant_of-result c =
     record {
-      is_code = c.crossings.ensures.accepted;
-      few = omega (arith, ap length c.crossings.ensures.crossings, c.crossings.ensures.few);
+      is_code = c.diagram_laws.ensures.accepted;
+      few = c.diagram_laws.ensures.few;
       size = c.requires;
       are_minus = c.minus.ensures;
       are_shapes = c.in_ok-shapes.ensures;

@@ -7,29 +7,29 @@ use Rattle.sparse_block.specs.Inside.{lists_in, lines_in}
 use Rattle.sparse_block.proofs.WorkedLemmas.{middle-build}
 use Rattle.cube_tests.proofs.sparse_complexes.cancelling.middle.Goals as goal
 
-pub build-requires-clause-counts : goal.build-requires-clause-counts
-build-requires-clause-counts c =
+pub new-requires-clause-counts : goal.new-requires-clause-counts
+new-requires-clause-counts c =
     let can =
     middle-build (lists_in c.in_ok-names.names.items) (lines_in c.in_ok-columns.columns.items) c.in_ok-names.ensures
     c.in_ok-columns.ensures in
     can.counts
 
-pub build-requires-clause-sizes : goal.build-requires-clause-sizes
-build-requires-clause-sizes c =
+pub new-requires-clause-sizes : goal.new-requires-clause-sizes
+new-requires-clause-sizes c =
     let can =
     middle-build (lists_in c.in_ok-names.names.items) (lines_in c.in_ok-columns.columns.items) c.in_ok-names.ensures
     c.in_ok-columns.ensures in
     can.sizes
 
-pub build-requires-clause-entries : goal.build-requires-clause-entries
-build-requires-clause-entries c =
+pub new-requires-clause-entries : goal.new-requires-clause-entries
+new-requires-clause-entries c =
     let can =
     middle-build (lists_in c.in_ok-names.names.items) (lines_in c.in_ok-columns.columns.items) c.in_ok-names.ensures
     c.in_ok-columns.ensures in
     can.entries
 
-pub build-requires-clause-squares : goal.build-requires-clause-squares
-build-requires-clause-squares c =
+pub new-requires-clause-squares : goal.new-requires-clause-squares
+new-requires-clause-squares c =
     let can =
     middle-build (lists_in c.in_ok-names.names.items) (lines_in c.in_ok-columns.columns.items) c.in_ok-names.ensures
     c.in_ok-columns.ensures in

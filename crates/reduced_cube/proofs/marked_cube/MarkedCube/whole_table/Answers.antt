@@ -14,8 +14,7 @@ of_rows-requires g c =
     (IsTable-reduced p marked.code marked.mark
     (omega (
       arith,
-      c.crossings.ensures.few,
-      ap length c.crossings.ensures.crossings,
+      c.diagram_laws.ensures.few,
       ap (λ code. length code.crossings) c.diagram.ensures,
       ap (λ (marked : Marked). length marked.code.crossings) c.self.view_is,
     ))

@@ -1,5 +1,5 @@
 use Rattle.std.proofs.lemmas.Bool.Decides.{nat_tests}
-use Rattle.std.proofs.Common.{◌≡◌, ◌+◌, ◌∙◌, List, [], pos, ◌+ℤ◌, length, ap, sym, subst, arith, rules, Bool}
+use Rattle.std.proofs.Common.{◌≡◌, ◌+◌, ◌∙◌, List, [], pos, ◌+ℤ◌, length, ap, sym, subst, arith, Bool}
 use Rattle.std.specs.Prelude.{slice_index_or}
 use Rattle.std.specs.Global.{Vec}
 use Rattle.std.proofs.lemmas.List.{length-map}
@@ -7,10 +7,9 @@ use Rattle.kh_types.specs.Complex.{pivot_at}
 use Rattle.sparse_block.specs.declared.entry.Entry.{Entry}
 use Rattle.sparse_block.specs.Clearing.{CanClear, crossed_out, crossed_out_before, emptied, emptied_before, with_dead}
 use Rattle.sparse_block.specs.Inside.{lists_in}
-use Rattle.sparse_block.proofs.CancelledLists.{HaveOwn, alive-within, column-alive, row-alive, clear-after, clear-before, clear-own_column, clear-own_row, pivot-from_low}
+use Rattle.sparse_block.proofs.CancelledLists.{HaveOwn, alive-within, column-alive, row-alive, clear-after, clear-before, clear-own_column, clear-own_row}
 use Rattle.sparse_block.proofs.CancelledHeld.{held-written}
 use Rattle.sparse_block.proofs.ClearingLemmas.{places, taken-whole}
-use Rattle.sparse_block.proofs.KeptLemmas.{distance-from, distance-may}
 use Rattle.sparse_block.proofs.OwnLines.{alone-from_entries, own-cleared}
 use Rattle.sparse_block.proofs.complex.Complex.drop_pair.Given.{Over}
 use Rattle.sparse_block.proofs.complex.Complex.drop_pair.Goals.{After-distance-k, After-deref_mut-2, After-deref_mut-4}

@@ -1,5 +1,5 @@
 use Rattle.std.proofs.lemmas.Bool.Decides.{nat_tests}
-use Rattle.std.proofs.Common.{◌≡◌, ◌∙◌, ℤ, arith, subst, to_z, of_z, w16}
+use Rattle.std.proofs.Common.{◌≡◌, ℤ, arith, subst, to_z, of_z, w16}
 use Rattle.std.proofs.lemmas.Int.{ints}
 use Rattle.sparse_block.specs.Complexes.{column_of}
 use Rattle.sparse_block.specs.Entries.{entries_of}

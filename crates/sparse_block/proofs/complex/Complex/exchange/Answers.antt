@@ -1,5 +1,5 @@
 use Rattle.std.proofs.lemmas.Bool.Decides.{nat_tests}
-use Rattle.std.proofs.Common.{◌≡◌, ◌+◌, ◌<◌, ◌∙◌, List, [], pos, ◌+ℤ◌, length, set, ap, sym, subst, arith, rules, Bool}
+use Rattle.std.proofs.Common.{◌≡◌, ◌+◌, ◌<◌, ◌∙◌, List, [], pos, ◌+ℤ◌, length, set, ap, sym, subst, arith, Bool}
 use Rattle.std.specs.Prelude.{slice_index_or}
 use Rattle.std.specs.Global.{Vec}
 use Rattle.std.proofs.lemmas.List.{get_or_default, length-map}
@@ -10,10 +10,10 @@ use Rattle.sparse_block.specs.Clearing.{AreExchanged, CanClear, crossed_out, cro
 use Rattle.sparse_block.specs.Complexes.{column_of, place_count, row_of}
 use Rattle.sparse_block.specs.Held.{no_entries}
 use Rattle.sparse_block.specs.Inside.{lists_in}
-use Rattle.sparse_block.proofs.CancelledLists.{HaveOwn, alive-within, column-alive, row-alive, clear-after, clear-before, k-within, pivot-from_low, some-columns, some-rows}
+use Rattle.sparse_block.proofs.CancelledLists.{HaveOwn, alive-within, column-alive, row-alive, clear-after, clear-before, k-within, some-columns, some-rows}
 use Rattle.sparse_block.proofs.CancelledHeld.{held-written}
 use Rattle.sparse_block.proofs.ClearingLemmas.{places}
-use Rattle.sparse_block.proofs.KeptLemmas.{distance-from, distance-may, length-column, length-columns, length-row, length-rows}
+use Rattle.sparse_block.proofs.KeptLemmas.{length-column, length-columns, length-row, length-rows}
 use Rattle.sparse_block.proofs.OwnLines.{own-exchanged}
 use Rattle.sparse_block.proofs.complex.Complex.exchange.Given.{Over}
 use Rattle.sparse_block.proofs.complex.Complex.exchange.Goals.{After-distance-k, After-deref_mut-2, After-index_mut, After-index_mut-2}

@@ -1,8 +1,5 @@
 use Rattle.std.proofs.lemmas.Bool.Decides.{nat_tests}
-use Rattle.std.proofs.Common.{arith, ◌∙◌, List, ap}
-use Rattle.std.specs.List.{list_all}
-use Rattle.sparse_block.specs.declared.entry.Entry.{Entry}
-use Rattle.sparse_block.specs.Held.{no_entries}
+use Rattle.std.proofs.Common.{arith}
 use Rattle.sparse_block.proofs.KeptLemmas.{zero-from_rows}
 use Rattle.sparse_block.proofs.complex.Complex.is_zero.Goals as goal
 

@@ -3,7 +3,7 @@ use Rattle.sparse_block.specs.declared.entry.Entry.{Entry}
 use Rattle.sparse_block.specs.Complexes.{sparse_complex}
 use Rattle.sparse_block.specs.Inside.{lines_in, lists_in}
 use Rattle.column_reduction.specs.StoredColumns.{IsReducedTo}
-use Rattle.column_reduction.proofs.reducing.reduce.Given as goal
+use Rattle.column_reduction.proofs.reducing.reduce_columns.Given as goal
 
 -- the columns that are left, and those of the degrees from there on, which are reduced
 abbrev pub invariant-degrees : goal.invariant-degrees

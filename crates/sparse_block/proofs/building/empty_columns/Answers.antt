@@ -1,0 +1,9 @@
+use Rattle.std.proofs.lemmas.Bool.Decides.{nat_tests}
+use Rattle.std.proofs.Common.{arith}
+use Rattle.std.proofs.lemmas.List.{length-map, map_push}
+use Rattle.sparse_block.proofs.LineLemmas.{list-lists_in}
+use Rattle.sparse_block.proofs.ZeroComplexes.{no_columns-more}
+use Rattle.sparse_block.proofs.building.empty_columns.Goals as goal
+
+pub degrees-preserved : goal.degrees-preserved
+degrees-preserved = grind (arith, nat_tests, map_push, no_columns-more, length-map, list-lists_in)
