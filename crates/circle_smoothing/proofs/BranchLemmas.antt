@@ -1,5 +1,6 @@
 -- States on a branch: how many are counted at a place, and what is counted where the branch parts in two.
-use Rattle.std.proofs.Common.{◌≡◌, ℕ, zero, suc, ◌+◌, ◌-◌, ◌*◌, ◌/◌, ◌%◌, ◌^◌, ◌<◌, ◌≤◌, ◌∙◌, List, [], ◌∷◌, ◌++◌, map, length, get_or, ap, ap₂, sym, subst, refl, arith, Bool, true, false, cond, inl, inr, eq-eqb}
+use Rattle.std.proofs.lemmas.Bool.Decides.{nat_tests}
+use Rattle.std.proofs.Common.{◌≡◌, ℕ, zero, suc, ◌+◌, ◌-◌, ◌*◌, ◌^◌, ◌<◌, ◌≤◌, ◌∙◌, List, [], ◌∷◌, ◌++◌, map, length, get_or, ap, ap₂, sym, subst, refl, arith, Bool, cond, inl, inr, eq-eqb}
 use Rattle.std.proofs.lemmas.Bool.{ne_eqb}
 use Rattle.std.specs.Prelude.{nat_eq, slice_index}
 use Rattle.std.specs.List.{count_by, enumerate_from, flat_map, fold, range_with_len, sum_by}
@@ -25,11 +26,7 @@ bit-doubled_first : (state b : ℕ) → b ≤ 1 → bit (2 * state + b) 0 ≡ b
 bit-doubled_first state b few = omega (arith, few)
 
 bit-doubled_later : (state b place : ℕ) → b ≤ 1 → bit (2 * state + b) (place + 1) ≡ bit state place
-bit-doubled_later state b place few =
-    let power : 2 ^ (place + 1) ≡ 2 * 2 ^ place = grind (arith, pow-add 2 place 1) in
-    let half : (2 * state + b) / 2 ≡ state = omega (arith, few) in
-    ap (λ p. (2 * state + b) / p % 2) power ∙ ap (λ q. q % 2) (sym (div-div-eq-div-mul (2 * state + b) 2 (2 ^ place)))
-    ∙ ap (λ q. q / 2 ^ place % 2) half
+bit-doubled_later state b place few = grind (arith, nat_tests, pow-add 2 place 1, div-div-eq-div-mul (2 * state + b) 2 (2 ^ place))
 
 ones-doubled_later : (state b from count : ℕ) → b ≤ 1
     → sum_by (bit (2 * state + b)) (range_with_len (from + 1) count) ≡ sum_by (bit state) (range_with_len from count)
@@ -49,27 +46,19 @@ smoothings-doubled_later : (state b place : ℕ) (crossings : List (List ℕ)) �
     ≡ flat_map (λ at. smoothing_of (bit state at.0) at.1) (enumerate_from place crossings)
 smoothings-doubled_later state b place [] few = refl
 smoothings-doubled_later state b place (slots ∷ crossings) few =
-    ap₂ (λ smoothing later. smoothing_of smoothing slots ++ later) (bit-doubled_later state b place few)
-    (smoothings-doubled_later state b (place + 1) crossings few)
+    grind (arith, nat_tests, bit-doubled_later, smoothings-doubled_later state b (place + 1) crossings few)
 
 -- the smoothings of the first crossing and of the others
 smoothings_of-doubled : (state b : ℕ) (first : List ℕ) (rest : List (List ℕ)) → b ≤ 1
     → smoothings_of (first ∷ rest) (2 * state + b) ≡ smoothing_of b first ++ smoothings_of rest state
 smoothings_of-doubled state b first rest few =
-    ap₂ (λ smoothing later. smoothing_of smoothing first ++ later) (bit-doubled_first state b few)
-    (smoothings-doubled_later state b 0 rest few)
+    grind (arith, nat_tests, bit-doubled_first state b few, smoothings-doubled_later state b 0 rest few)
 
 -- so the states that have the smoothing b at the first crossing go on the branch on which it has this smoothing
 place_on_branch-doubled : (first : List ℕ) (rest : List (List ℕ)) (taken : ℕ) (classes : List ℕ) (state b : ℕ) → b ≤ 1
     → place_on_branch (first ∷ rest) taken classes (2 * state + b)
     ≡ place_on_branch rest (taken + b) (fold joined classes (smoothing_of b first)) state
-place_on_branch-doubled first rest taken classes state b few =
-    let n = length rest in
-    let ones_same : taken + ones (suc n) (2 * state + b) ≡ taken + b + ones n state =
-    omega (arith, ones-doubled state b n few) in
-    ap₂ count_place ones_same
-    (ap (λ (pairs : List (ℕ × ℕ)). MEMBERS - class_count (fold joined classes pairs)) (smoothings_of-doubled state b first rest few)
-    ∙ ap (λ (after : List ℕ). MEMBERS - class_count after) (fold-append joined classes (smoothing_of b first) (smoothings_of rest state)))
+place_on_branch-doubled first rest taken classes state b few = grind (arith, nat_tests, ones-doubled, smoothings_of-doubled, fold-append)
 
 one_if : Bool → ℕ
 one_if holds = cond holds 1 0
@@ -116,13 +105,7 @@ branch_count-parted first rest taken classes place =
 
 pub branch_count-le : (crossings : List (List ℕ)) (taken : ℕ) (classes : List ℕ) (place : ℕ)
     → branch_count crossings taken classes place ≤ 2 ^ length crossings
-branch_count-le crossings taken classes place =
-    omega (
-      arith,
-      count_by-le-length (λ state. nat_eq (place_on_branch crossings taken classes state) place)
-          (range_with_len 0 (2 ^ length crossings)),
-      length-range_with_len 0 (2 ^ length crossings),
-    )
+branch_count-le crossings taken classes place = grind (arith, nat_tests, count_by-le-length, length-range_with_len)
 
 -- where it ends
 branch_count-end : (taken joins : ℕ) (classes : List ℕ) (place : ℕ) → class_count classes + joins ≡ MEMBERS
@@ -162,32 +145,13 @@ pairs_by slots is_zero =
 -- what a smoothing joins are arcs at the crossing
 pub pair-below : (n smoothing : ℕ) (slots : List ℕ) (pairs : List (ℕ × ℕ)) (k : ℕ) → pairs ≡ smoothing_of smoothing slots
     → HasArcsBelow n slots → k < 2 → ((get_or pairs k (0, 0)).0 < n) × ((get_or pairs k (0, 0)).1 < n)
-pair-below n smoothing slots pairs k is below few =
-    subst (λ (all : List (ℕ × ℕ)). ((get_or all k (0, 0)).0 < n) × ((get_or all k (0, 0)).1 < n)) (sym is)
-    (by_smoothing (nat_eq smoothing 0) k few)
-  where
-    by_smoothing : (is_zero : Bool) (k : ℕ) → k < 2
-        → ((get_or (pairs_by slots is_zero) k (0, 0)).0 < n) × ((get_or (pairs_by slots is_zero) k (0, 0)).1 < n)
-    by_smoothing true zero few = (below 0 (omega arith), below 1 (omega arith))
-    by_smoothing true (suc zero) few = (below 2 (omega arith), below 3 (omega arith))
-    by_smoothing false zero few = (below 0 (omega arith), below 3 (omega arith))
-    by_smoothing false (suc zero) few = (below 1 (omega arith), below 2 (omega arith))
-    by_smoothing is_zero (suc (suc k)) few = absurd (omega (arith, few))
+pair-below n smoothing slots pairs k is below few = grind (arith, nat_tests)
 
 -- two joins, one after the other
 pub fold-smoothing : (classes between after : List ℕ) (smoothing : ℕ) (slots : List ℕ) (pairs : List (ℕ × ℕ))
     → pairs ≡ smoothing_of smoothing slots → between ≡ joined classes (get_or pairs 0 (0, 0))
     → after ≡ joined between (get_or pairs 1 (0, 0)) → after ≡ fold joined classes (smoothing_of smoothing slots)
-fold-smoothing classes between after smoothing slots pairs is first second =
-    second ∙ ap (λ (b : List ℕ). joined b (get_or pairs 1 (0, 0))) first
-    ∙ ap (λ (all : List (ℕ × ℕ)). joined (joined classes (get_or all 0 (0, 0))) (get_or all 1 (0, 0))) is
-    ∙ by_smoothing (nat_eq smoothing 0)
-  where
-    by_smoothing : (is_zero : Bool)
-        → joined (joined classes (get_or (pairs_by slots is_zero) 0 (0, 0))) (get_or (pairs_by slots is_zero) 1 (0, 0))
-        ≡ fold joined classes (pairs_by slots is_zero)
-    by_smoothing true = refl
-    by_smoothing false = refl
+fold-smoothing classes between after smoothing slots pairs is first second = grind (arith, nat_tests)
 
 -- what is left behind the first crossing
 pub HaveArcsBelow-rest : (n : ℕ) (crossings : List (List ℕ)) (first : List ℕ) (rest : List (List ℕ)) → crossings ≡ first ∷ rest
@@ -196,8 +160,7 @@ HaveArcsBelow-rest n crossings first rest is below = subst (λ (all : List (List
 
 pub LeavesCrossings-less : (branch after : Branch) (more rest : ℕ) → LeavesCrossings branch more → rest + 1 ≡ more → after.ones ≤ branch.ones + 1
     → after.joins ≤ branch.joins + 2 → LeavesCrossings after rest
-LeavesCrossings-less branch after more rest leaves less ones_few joins_few =
-    record { ones = omega (arith, leaves.ones, less, ones_few); joins = omega (arith, leaves.joins, less, joins_few) }
+LeavesCrossings-less branch after more rest leaves less ones_few joins_few = omega arith
 
 pub pow-parted : (more rest : ℕ) → rest + 1 ≡ more → 2 ^ more ≡ 2 ^ rest + 2 ^ rest
 pow-parted more rest less = let e : more ≡ suc rest = omega (arith, less) in ap (λ m. 2 ^ m) e ∙ two-pow-succ rest

@@ -1,12 +1,12 @@
 -- Walks along the circles of a state: from a dart across the smoothing and on to the other end of the arc, so always on darts of one
 -- colour, of which each arc has one.
+use Rattle.std.proofs.lemmas.Bool.Decides.{nat_tests}
 use Rattle.std.proofs.Common.{◌≡◌, ◌≢◌, ℕ, zero, suc, inl, inr, ◌+◌, ◌-◌, ◌*◌, ◌<◌, ◌∙◌, List, refl, sym, ap, subst, length, arith, IsTrue, not}
 use Rattle.std.specs.Prelude.{nat_eq, slice_index}
 use Rattle.std.specs.List.{count_by, range_with_len}
 use Rattle.std.proofs.Math.ListN.{set}
 use Rattle.std.proofs.lemmas.Bool.{cases_eq}
 use Rattle.kh_types.specs.Acceptance.{accepted}
-use Rattle.kh_types.specs.Classes.{IsNamed}
 use Rattle.kh_types.specs.Code.{Code, IsArc, arc_count}
 use Rattle.kh_types.specs.Circles.{circles_of}
 use Rattle.kh_types.specs.Colours.{IsColoured}
@@ -131,9 +131,7 @@ IsOnCircle-more code state initial classes least place arc next next_arc is is_a
 pub IsOnCircle-fewer : (code : Code) (state : ℕ) (initial classes : List ℕ) (least place arc : ℕ) → arc ≢ least
     → IsOnCircle code state initial classes least place arc
     → count_by (λ class. not (nat_eq class least)) (set classes arc least) < count_by (λ class. not (nat_eq class least)) classes
-IsOnCircle-fewer code state initial classes least place arc apart on =
-    unvisited-fewer classes least arc (omega (arith, on.walk.size, on.walk.below))
-    (elim on.walk.fresh [ inl same ↦ absurd (apart same) | inr other ↦ other ])
+IsOnCircle-fewer code state initial classes least place arc apart on = grind (arith, nat_tests, unvisited-fewer)
 
 pub IsOnCircle-last : (code : Code) (state : ℕ) (initial classes : List ℕ) (least place arc : ℕ) → IsTrue (accepted code)
     → IsWalked (circles_of code state) initial least → IsOnCircle code state initial classes least place arc → arc ≡ least
@@ -149,9 +147,7 @@ IsOnCircle-last code state initial classes least place arc is walked on back_at 
 -- an arc that is not the least of its circle begins no walk
 pub IsWalked-other : (code : Code) (state : ℕ) (classes : List ℕ) (arc : ℕ) → IsTrue (accepted code) → IsArc code.crossings arc
     → IsWalked (circles_of code state) classes arc → slice_index classes arc ≢ arc → IsWalked (circles_of code state) classes (arc + 1)
-IsWalked-other code state classes arc is is_arc walked =
-    IsWalked-skip (arc_count code.crossings + code.loops + 1) (circles_of code state) classes arc (IsNamed-circles code state is)
-    (name-below code arc is_arc) walked
+IsWalked-other code state classes arc is is_arc walked has7 = grind (arith, nat_tests, IsWalked-skip, IsNamed-circles, name-below)
 
 -- what is no arc is a circle of its own
 alone : (code : Code) (state : ℕ) (classes : List ℕ) (name : ℕ) → IsTrue (accepted code) → (IsArc code.crossings name → ⊥)
@@ -176,9 +172,7 @@ alone_from : (count : ℕ) (code : Code) (state : ℕ) (classes : List ℕ) (nam
     → 2 * length code.crossings < name → name + count ≡ arc_count code.crossings + code.loops + 1
     → IsWalked (circles_of code state) classes name
     → IsWalked (circles_of code state) classes (arc_count code.crossings + code.loops + 1)
-alone_from zero code state classes name is above sum walked =
-    let all : name ≡ arc_count code.crossings + code.loops + 1 = omega (arith, sum) in
-    subst (λ (p : ℕ). IsWalked (circles_of code state) classes p) all walked
+alone_from zero code state classes name is above sum walked = grind (arith, nat_tests)
 alone_from (suc count) code state classes name is above sum walked =
     alone_from count code state classes (name + 1) is (omega (arith, above)) (omega (arith, sum))
     (alone code state classes name is (λ is_arc. omega (arith, is_arc.within, above)) (omega (arith, sum)) walked)
@@ -203,21 +197,11 @@ walked-circles code state classes is walked =
 pub IsWalked-all : (code : Code) (state : ℕ) (classes : List ℕ) (place : ℕ) → place ≡ 2 * length code.crossings
     → IsWalked (circles_of code state) classes (place + 1)
     → IsWalked (circles_of code state) classes (2 * length code.crossings + 1)
-IsWalked-all code state classes place all walked =
-    subst (λ (p : ℕ). IsWalked (circles_of code state) classes (p + 1)) all walked
+IsWalked-all code state classes place all walked = omega arith
 
 -- the circles of a state as a list: each is named by its least number, and the number 0 stands alone
 pub AreCircles-walked : (code : Code) (state : ℕ) (classes : List ℕ) → IsTrue (accepted code) → classes ≡ circles_of code state
     → AreCircles classes
-AreCircles-walked code state classes is are =
-    let m = arc_count code.crossings + code.loops + 1 in
-    let named = IsNamed-circles code state is in
-    let size = named.size in
-    subst (λ (cs : List ℕ). AreCircles cs) (sym are)
-    (record {
-      named = subst (λ (n : ℕ). IsNamed n (circles_of code state)) (sym size) named;
-      some = omega (arith, size);
-      positive = λ name from below. circle-positive code state name is from (omega (arith, size, below));
-    })
+AreCircles-walked code state classes is are = grind (arith, nat_tests, IsNamed-circles, circle-positive)
 
 pub ruleset walks = (IsWalked-other)

@@ -1,18 +1,16 @@
 -- What an edge does, found from the numbers of the circles at the slots 0 and 2 of its crossing.
+use Rattle.std.proofs.lemmas.Bool.Decides.{nat_tests}
 use Rattle.std.proofs.Common.{◌≡◌, ◌≢◌, ℕ, ◌⊎◌, inl, inr, ◌<◌, ◌∙◌, refl, sym, ap, subst, arith, IsTrue}
-use Rattle.std.specs.Prelude.{min, max, slice_index}
+use Rattle.std.specs.Prelude.{min, max}
 use Rattle.kh_types.specs.Acceptance.{accepted}
 use Rattle.kh_types.specs.Bits.{bit}
 use Rattle.kh_types.specs.Code.{Code, IsCrossing, place_of}
-use Rattle.kh_types.specs.Circles.{circles_of}
-use Rattle.kh_types.proofs.ClassLemmas.{slice_index-joined}
 use Rattle.kh_types.specs.CircleNumbers.{circle_number, number_of}
 use Rattle.circle_smoothing.specs.Edges.{HasNumbersBelow, HaveMerged, IsEdge}
 use Rattle.kh_types.specs.Edges.{arc_at_slot, state_behind}
 use Rattle.circle_smoothing.specs.declared.change.Edge.{Edge}
 use Rattle.circle_smoothing.specs.declared.change.Edge.TheVariants.{Merge, Split}
-use Rattle.kh_types.proofs.CircleCycles.{IsNamed-circles}
-use Rattle.kh_types.proofs.EdgeNames.{IsArc-slot, IsJoin, IsJoin-edge, becomes_least, circle_at}
+use Rattle.kh_types.proofs.EdgeNames.{IsJoin, IsJoin-edge, circle_at}
 use Rattle.circle_smoothing.proofs.EdgeNumbers.{HaveMerged-join, IsCircle-slot, gone_of, kept_of, number-kept}
 use Rattle.kh_types.proofs.CircleNumbers.{number_of-max, number_of-min, number_of-one}
 
@@ -28,18 +26,7 @@ is_number_at_slot code other state there arc crossing slot number is is_code is_
 -- afterwards the arc at slot 0 or 2 is on the circle that is kept
 circle-after : (code : Code) (before after crossing slot : ℕ) → IsTrue (accepted code) → IsCrossing code.crossings crossing
     → IsJoin code before after crossing → (slot ≡ 0) ⊎ (slot ≡ 2) → circle_at code after crossing slot ≡ kept_of code before crossing
-circle-after code before after crossing slot is is_crossing join either =
-    let circles = circles_of code before in
-    let pair : ℕ × ℕ = (arc_at_slot code crossing 0, arc_at_slot code crossing 2) in
-    let slot_below : slot < 4 = elim either [ inl zero ↦ omega (arith, zero) | inr two ↦ omega (arith, two) ] in
-    let within = (IsArc-slot code crossing slot is is_crossing slot_below).within in
-    ap (λ cs. slice_index cs (arc_at_slot code crossing slot)) join.join.one
-    ∙ slice_index-joined circles pair (arc_at_slot code crossing slot) (omega (arith, (IsNamed-circles code before is).size, within))
-    ∙ becomes_least (circle_at code before crossing 0) (circle_at code before crossing 2) (circle_at code before crossing slot)
-    (elim either [
-      | inl zero ↦ inl (ap (circle_at code before crossing) zero)
-      | inr two ↦ inr (ap (circle_at code before crossing) two)
-    ])
+circle-after code before after crossing slot is is_crossing join either = grind (arith, nat_tests)
 
 -- so its number is that of the kept circle, before and after
 number-after : (code : Code) (before after crossing slot : ℕ) → IsTrue (accepted code) → IsCrossing code.crossings crossing
@@ -60,9 +47,7 @@ numbers-apart code before after crossing is is_crossing join same =
 
 numbers-together : (code : Code) (before after crossing : ℕ) → IsTrue (accepted code) → IsCrossing code.crossings crossing
     → IsJoin code before after crossing → number_at_slot code after crossing 0 ≡ number_at_slot code after crossing 2
-numbers-together code before after crossing is is_crossing join =
-    number-after code before after crossing 0 is is_crossing join (inl (omega arith))
-    ∙ sym (number-after code before after crossing 2 is is_crossing join (inr (omega arith)))
+numbers-together code before after crossing is is_crossing join = grind (arith, nat_tests)
 
 -- what the numbers at the two slots say of a merge
 HaveMerged-slots : (code : Code) (before after crossing : ℕ) → IsTrue (accepted code) → IsCrossing code.crossings crossing

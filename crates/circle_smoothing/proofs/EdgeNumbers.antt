@@ -1,6 +1,6 @@
 -- The numbers of circles along an edge: the two that become one keep the lesser number, and the numbers above the greater go down by
 -- one.
-use Rattle.std.proofs.Common.{◌≡◌, ◌≢◌, ℕ, inl, inr, ◌+◌, ◌-◌, ◌<◌, ◌≤◌, ◌∙◌, [], ◌∷◌, refl, sym, ap, subst, length, map, arith, Bool, true, false, ◌&&◌, not, IsTrue}
+use Rattle.std.proofs.Common.{◌≡◌, ◌≢◌, ℕ, inl, inr, ◌+◌, ◌-◌, ◌<◌, ◌≤◌, ◌∙◌, [], ◌∷◌, refl, sym, ap, subst, length, map, arith, Bool, false, ◌&&◌, not, IsTrue}
 use Rattle.std.specs.Prelude.{nat_eq, min, max, slice_index}
 use Rattle.std.specs.List.{filter, range_with_len}
 use Rattle.std.proofs.lemmas.Bool.{cases_eq, eq-eqb}
@@ -14,7 +14,7 @@ use Rattle.kh_types.proofs.ClassLemmas.{slice_index-joined}
 use Rattle.kh_types.proofs.Lists.{HasMore-filter_range, filter-range_agree, length-HasMore}
 use Rattle.kh_types.specs.CircleNumbers.{number_of}
 use Rattle.circle_smoothing.specs.Edges.{AreRenumbered, HaveMerged, IsEdge, Renumbers, renumbered}
-use Rattle.kh_types.specs.Edges.{arc_at_slot, state_behind}
+use Rattle.kh_types.specs.Edges.{state_behind}
 use Rattle.circle_smoothing.specs.declared.change.Edge.{Edge}
 use Rattle.circle_smoothing.specs.declared.change.Edge.TheVariants.{Merge, Split}
 use Rattle.kh_types.proofs.CircleCycles.{IsNamed-circles}
@@ -25,9 +25,7 @@ use Rattle.kh_types.proofs.EdgeBits.{lower_or_higher}
 -- the circle of the arc at a slot
 pub IsCircle-slot : (code : Code) (state crossing slot : ℕ) → IsTrue (accepted code) → IsCrossing code.crossings crossing → slot < 4
     → IsCircle code state (circle_at code state crossing slot)
-IsCircle-slot code state crossing slot is is_crossing below =
-    IsCircle-of code state (arc_at_slot code crossing slot) is
-    (IsName-arc code (arc_at_slot code crossing slot) (IsArc-slot code crossing slot is is_crossing below))
+IsCircle-slot code state crossing slot is is_crossing below = grind (arith, nat_tests, IsCircle-of, IsName-arc, IsArc-slot)
 
 -- the two circles that become one: which is kept and which is gone
 abbrev pub kept_of : Code → ℕ → ℕ → ℕ
@@ -38,41 +36,24 @@ gone_of code state crossing = max (circle_at code state crossing 0) (circle_at c
 
 IsCircle-kept : (code : Code) (state crossing : ℕ) → IsTrue (accepted code) → IsCrossing code.crossings crossing
     → IsCircle code state (kept_of code state crossing)
-IsCircle-kept code state crossing is is_crossing =
-    IsCircle-min code state (circle_at code state crossing 0) (circle_at code state crossing 2)
-    (IsCircle-slot code state crossing 0 is is_crossing (omega arith)) (IsCircle-slot code state crossing 2 is is_crossing (omega arith))
+IsCircle-kept code state crossing is is_crossing = grind (arith, nat_tests, IsCircle-min, circle_at, IsCircle-slot)
 
 IsCircle-gone : (code : Code) (state crossing : ℕ) → IsTrue (accepted code) → IsCrossing code.crossings crossing
     → IsCircle code state (gone_of code state crossing)
-IsCircle-gone code state crossing is is_crossing =
-    IsCircle-max code state (circle_at code state crossing 0) (circle_at code state crossing 2)
-    (IsCircle-slot code state crossing 0 is is_crossing (omega arith)) (IsCircle-slot code state crossing 2 is is_crossing (omega arith))
+IsCircle-gone code state crossing is is_crossing = grind (arith, nat_tests, IsCircle-max, circle_at, IsCircle-slot)
 
 -- whether a name is still the least of its circle afterwards
 is_least-after : (code : Code) (before after crossing z : ℕ) → IsTrue (accepted code) → IsCrossing code.crossings crossing
     → IsJoin code before after crossing → z < arc_count code.crossings + code.loops + 1
     → is_least (circles_of code after) z ≡ (is_least (circles_of code before) z && not (nat_eq z (gone_of code before crossing)))
 is_least-after code before after crossing z is is_crossing join below =
-    let circles = circles_of code before in
-    let first = arc_at_slot code crossing 0 in
-    let third = arc_at_slot code crossing 2 in
-    let p = circle_at code before crossing 0 in
-    let q = circle_at code before crossing 2 in
-    let size = (IsNamed-circles code before is).size in
-    let now : slice_index (circles_of code after) z ≡ merged p q (slice_index circles z) =
-    ap (λ cs. slice_index cs z) join.join.one ∙ slice_index-joined circles (first, third) z (omega (arith, size, below)) in
-    ap (λ c. nat_eq c z) now
-    ∙ stays_least p q (slice_index circles z) z join.join.apart
-    (λ is_gone. ap (λ x. slice_index circles x) is_gone ∙ (IsCircle-gone code before crossing is is_crossing).own ∙ sym is_gone)
-    (λ is_kept. ap (λ x. slice_index circles x) is_kept ∙ (IsCircle-kept code before crossing is is_crossing).own ∙ sym is_kept)
+    grind (arith, nat_tests, circle_at, IsNamed-circles, slice_index-joined, stays_least, IsCircle-gone, IsCircle-kept)
 
 and_other : (b : Bool) (z gone : ℕ) → z ≢ gone → (b && not (nat_eq z gone)) ≡ b
-and_other true z gone other = grind (arith, nat_tests)
-and_other false z gone other = refl
+and_other b z gone other = grind (arith, nat_tests)
 
 and_same : (b : Bool) (z gone : ℕ) → z ≡ gone → (b && not (nat_eq z gone)) ≡ false
-and_same true z gone same = grind (arith, nat_tests)
-and_same false z gone same = refl
+and_same b z gone same = grind (arith, nat_tests)
 
 -- as many names are lesser than one that is not above the name that is gone
 lesser-low : (code : Code) (before after crossing x : ℕ) → IsTrue (accepted code) → IsCrossing code.crossings crossing
@@ -191,17 +172,12 @@ HaveMerged-join code before after crossing is is_crossing join = record {
 -- a merge has one answer
 HaveMerged-same : (code : Code) (before after crossing a b to c d into : ℕ) → HaveMerged code before after crossing a b to
     → HaveMerged code before after crossing c d into → (a ≡ c) × (b ≡ d) × (to ≡ into)
-HaveMerged-same code before after crossing a b to c d into is too = (
-  ap (λ xs. slice_index xs 0) (sym is.two ∙ too.two),
-  ap (λ xs. slice_index xs 1) (sym is.two ∙ too.two),
-  ap (λ xs. slice_index xs 0) (sym is.one ∙ too.one),
-)
+HaveMerged-same code before after crossing a b to c d into is too = grind (arith, nat_tests)
 
 -- a merge is no merge backwards
 HaveMerged-once : (code : Code) (before after crossing a b to c d into : ℕ) → HaveMerged code before after crossing a b to
     → HaveMerged code after before crossing c d into → ⊥
-HaveMerged-once code before after crossing a b to c d into is back =
-    let sizes : length (a ∷ b ∷ []) ≡ length (into ∷ []) = ap length (sym is.two ∙ back.one) in absurd (omega (arith, sizes))
+HaveMerged-once code before after crossing a b to c d into is back = grind (arith, nat_tests)
 
 -- so what an edge does renumbers the circles
 renumbers-merge : (code : Code) (before after crossing a b to : ℕ) → IsTrue (accepted code) → IsCrossing code.crossings crossing
@@ -252,13 +228,4 @@ some_edge code state crossing is is_crossing zero =
 
 pub one_edge : (code : Code) (state crossing : ℕ) (change other : Edge) → IsEdge code state crossing change
     → IsEdge code state crossing other → change ≡ other
-one_edge code state crossing (Merge a b to) (Merge c d into) does does_too =
-    let same = HaveMerged-same code state (state_behind state crossing) crossing a b to c d into does does_too in
-    ap (λ x. Merge x b to) same.0 ∙ ap (λ x. Merge c x to) same.1 ∙ ap (λ x. Merge c d x) same.2
-one_edge code state crossing (Merge a b to) (Split from c d) does does_too =
-    absurd (HaveMerged-once code state (state_behind state crossing) crossing a b to c d from does does_too)
-one_edge code state crossing (Split from a b) (Merge c d to) does does_too =
-    absurd (HaveMerged-once code (state_behind state crossing) state crossing a b from c d to does does_too)
-one_edge code state crossing (Split from a b) (Split into c d) does does_too =
-    let same = HaveMerged-same code (state_behind state crossing) state crossing a b from c d into does does_too in
-    ap (λ x. Split from x b) same.0 ∙ ap (λ x. Split from c x) same.1 ∙ ap (λ x. Split x c d) same.2
+one_edge code state crossing change other does does_too = grind (arith, nat_tests)

@@ -1,4 +1,5 @@
 -- The number of generators, state by state and kind by kind.
+use Rattle.std.proofs.lemmas.Bool.Decides.{nat_tests}
 use Rattle.std.proofs.Common.{◌≡◌, ℕ, zero, suc, ◌+◌, ◌*◌, ◌^◌, ◌<◌, ◌≤◌, ◌∙◌, List, [], ◌∷◌, ap, ap₂, sym, refl, length, arith, Bool, cond, inl, inr, eq-eqb}
 use Rattle.std.specs.Prelude.{nat_eq}
 use Rattle.std.specs.List.{count_by, range_with_len, sum_by}
@@ -13,7 +14,7 @@ use Rattle.std.proofs.lemmas.List.Sums.{sum_by-cons}
 use Rattle.kh_types.specs.Accepted.{IsAccepted}
 use Rattle.kh_types.specs.Circles.{circle_count}
 use Rattle.kh_types.specs.Code.{Code}
-use Rattle.kh_types.specs.Generators.{generator_of, generators, generators_of, one_count, states}
+use Rattle.kh_types.specs.Generators.{generators, generators_of, one_count, states}
 use Rattle.kh_types.specs.declared.limits.TheConstants.{CIRCLES, CROSSINGS}
 use Rattle.kh_types.proofs.CircleBound.{circle_count-within}
 use Rattle.kh_types.proofs.QuantumDegrees.{one_count-le}
@@ -25,8 +26,7 @@ use Rattle.circle_smoothing.proofs.KindLemmas.{kind_circles-kind_of, kind_count-
 
 -- the generators of a state are as many as its labels
 length-generators_of : (code : Code) (state : ℕ) → length (generators_of code state) ≡ label_count code state
-length-generators_of code state =
-    length-map (range_with_len 0 (label_count code state)) (generator_of state) ∙ length-range_with_len 0 (label_count code state)
+length-generators_of code state = grind (arith, nat_tests, length-map, length-range_with_len)
 
 -- so all generators are as many as they count to
 pub length-generators : (code : Code) → length (generators code) ≡ generator_count code
@@ -109,8 +109,7 @@ one_more kind_of_number value x xs kind =
 pub sum_by-kinds : (kind_of_number value : ℕ → ℕ) (xs : List ℕ) (kinds : ℕ) → ((x : ℕ) → kind_of_number x < kinds)
     → sum_by (λ kind. counted kind_of_number xs kind * value kind) (range_with_len 0 kinds)
     ≡ sum_by (λ x. value (kind_of_number x)) xs
-sum_by-kinds kind_of_number value [] kinds below =
-    sum_by-none (λ kind. counted kind_of_number [] kind * value kind) (range_with_len 0 kinds) (λ kind. omega arith)
+sum_by-kinds kind_of_number value [] kinds below = grind (arith, nat_tests, sum_by-none)
 sum_by-kinds kind_of_number value (x ∷ xs) kinds below =
     ap (λ (f : ℕ → ℕ). sum_by f (range_with_len 0 kinds)) (fun_ext (one_more kind_of_number value x xs))
     ∙ sum_by-both (only_when value (kind_of_number x)) (λ kind. counted kind_of_number xs kind * value kind) (range_with_len 0 kinds)
@@ -120,8 +119,7 @@ sum_by-kinds kind_of_number value (x ∷ xs) kinds below =
 
 -- the kind of a state of an accepted code
 pub state_kind-below : (code : Code) (state : ℕ) → IsAccepted code → length code.crossings ≤ CROSSINGS → state_kind code state < KINDS
-state_kind-below code state is few =
-    omega (arith, few, one_count-le code state, circle_count-within code state is few)
+state_kind-below code state is few = grind (arith, nat_tests, one_count-le code state, circle_count-within code state is few)
 
 -- the generators, kind by kind
 pub generators-by_kinds : (code : Code) → IsAccepted code → length code.crossings ≤ CROSSINGS

@@ -1,7 +1,8 @@
 -- The numbers of circles that are kept, against the definitions.
-use Rattle.std.proofs.Common.{◌≡◌, ℕ, zero, suc, ◌+◌, ◌-◌, ◌<◌, ◌≤◌, ◌∙◌, List, ◌∷◌, ap, length, map, arith, IsTrue}
-use Rattle.std.specs.Prelude.{nat_eq, slice_index}
-use Rattle.std.specs.List.{position_or_len, range_with_len}
+use Rattle.std.proofs.lemmas.Bool.Decides.{nat_tests}
+use Rattle.std.proofs.Common.{◌≡◌, ℕ, zero, suc, ◌+◌, ◌-◌, ◌<◌, ◌≤◌, ◌∙◌, List, ap, length, arith, IsTrue}
+use Rattle.std.specs.Prelude.{slice_index}
+use Rattle.std.specs.List.{range_with_len}
 use Rattle.std.proofs.lemmas.List.{get_or-map, length-map}
 use Rattle.std.proofs.lemmas.List.FromFn.{get_or-range_with_len, length-range_with_len}
 use Rattle.kh_types.specs.Acceptance.{accepted}
@@ -24,17 +25,11 @@ last-name code state is = omega (arith, (IsNamed-circles code state is).size)
 -- what is counted and numbered in a list of circles is so in the state
 pub count-listed : (code : Code) (state : ℕ) (circles : List ℕ) → IsTrue (accepted code) → circles ≡ circles_of code state
     → length (names_to circles (length circles - 1)) ≡ circle_count code state
-count-listed code state circles is are =
-    ap (λ cs. length (names_to cs (length cs - 1))) are
-    ∙ ap (λ last. length (names_to (circles_of code state) last)) (last-name code state is)
+count-listed code state circles is are = grind (arith, nat_tests, last-name code state is)
 
 pub numbers-listed : (code : Code) (state : ℕ) (circles : List ℕ) → IsTrue (accepted code) → circles ≡ circles_of code state
     → numbers_to circles (length circles - 1) ≡ circle_numbers code state
-numbers-listed code state circles is are =
-    ap (λ cs. numbers_to cs (length cs - 1)) are
-    ∙ ap (λ last. 0
-    ∷ map (λ name. position_or_len (nat_eq (slice_index (circles_of code state) name)) (names_to (circles_of code state) last))
-    (range_with_len 1 last)) (last-name code state is)
+numbers-listed code state circles is are = grind (arith, nat_tests, last-name)
 
 pub count-within : (code : Code) (state : ℕ) → IsTrue (accepted code) → length code.crossings ≤ CROSSINGS
     → circle_count code state ≤ CIRCLES
@@ -43,14 +38,11 @@ count-within code state is few = circle_count-within code state ((IsAccepted-is 
 -- the number that is kept for an arc
 
 length-circle_numbers : (code : Code) (state : ℕ) → length (circle_numbers code state) ≡ arc_count code.crossings + code.loops + 1
-length-circle_numbers code state =
-    let most = arc_count code.crossings + code.loops in
-    omega (arith, length-map (range_with_len 1 most) (circle_number code state), length-range_with_len 1 most)
+length-circle_numbers code state = grind (arith, nat_tests, length-map, length-range_with_len)
 
 pub arc-kept : (code : Code) (state arc : ℕ) (numbers : List ℕ) → numbers ≡ circle_numbers code state → IsArc code.crossings arc
     → arc < length numbers
-arc-kept code state arc numbers are is =
-    omega (arith, ap length are, length-circle_numbers code state, is.within)
+arc-kept code state arc numbers are is = grind (arith, nat_tests, length-circle_numbers)
 
 slice_index-kept : (code : Code) (state name : ℕ) → 1 ≤ name → name ≤ arc_count code.crossings + code.loops
     → slice_index (circle_numbers code state) name ≡ circle_number code state name
@@ -63,8 +55,7 @@ slice_index-kept code state (suc k) positive within =
 
 pub number-kept : (code : Code) (state arc : ℕ) (numbers : List ℕ) → numbers ≡ circle_numbers code state → IsArc code.crossings arc
     → slice_index numbers arc ≡ circle_number code state arc
-number-kept code state arc numbers are is =
-    ap (λ xs. slice_index xs arc) are ∙ slice_index-kept code state arc is.positive (omega (arith, is.within))
+number-kept code state arc numbers are is = grind (arith, nat_tests, slice_index-kept)
 
 pub number-below : (code : Code) (state arc : ℕ) (numbers : List ℕ) → IsTrue (accepted code) → numbers ≡ circle_numbers code state
     → IsArc code.crossings arc → slice_index numbers arc < circle_count code state

@@ -1,10 +1,11 @@
 -- Kinds of states: what a walk over the branches has counted, and sums over states by their kinds.
-use Rattle.std.proofs.Common.{◌≡◌, ℕ, zero, suc, ◌+◌, ◌-◌, ◌*◌, ◌/◌, ◌%◌, ◌^◌, ◌<◌, ◌≤◌, ◌∙◌, List, [], ◌∷◌, length, get_or, ap, ap₂, sym, subst, refl, arith, Bool, true, false, cond, inl, inr, eq-eqb}
+use Rattle.std.proofs.lemmas.Bool.Decides.{nat_tests}
+use Rattle.std.proofs.Common.{◌≡◌, ℕ, zero, suc, ◌+◌, ◌-◌, ◌*◌, ◌/◌, ◌%◌, ◌^◌, ◌<◌, ◌≤◌, ◌∙◌, List, [], ◌∷◌, length, get_or, ap, ap₂, sym, refl, arith, Bool, true, false, cond, eq-eqb}
 use Rattle.std.specs.Prelude.{nat_eq, ◌&&◌, slice_index, replicate, IsTrue}
 use Rattle.std.specs.List.{count_by, enumerate_from, flat_map, range_with_len}
 use Rattle.std.proofs.Math.Path.{fun_ext}
 use Rattle.std.proofs.Math.Pow.{pow_mono}
-use Rattle.std.proofs.lemmas.Bool.{cases_eq, eqb-true, false≢true, ne_eqb}
+use Rattle.std.proofs.lemmas.Bool.{eqb-true}
 use Rattle.std.proofs.lemmas.List.{length-append}
 use Rattle.std.proofs.lemmas.List.FromFn.{length-range_with_len}
 use Rattle.std.proofs.lemmas.List.Sums.{count_by-le-length, length-filter, sum_by-cons}
@@ -13,9 +14,9 @@ use Rattle.kh_types.specs.Acceptance.{accepted}
 use Rattle.kh_types.specs.Accepted.{IsAccepted}
 use Rattle.kh_types.proofs.AcceptedLemmas.{IsAccepted-is}
 use Rattle.kh_types.specs.Bits.{bit, ones}
-use Rattle.kh_types.specs.Circles.{circle_count, circles_of, smoothing_of, smoothings_of}
-use Rattle.kh_types.specs.Classes.{class_count, classes_of, is_least}
-use Rattle.kh_types.specs.Code.{Code, arc_count, arc_in, arcs_and_loops}
+use Rattle.kh_types.specs.Circles.{circle_count, smoothing_of, smoothings_of}
+use Rattle.kh_types.specs.Classes.{class_count, classes_of}
+use Rattle.kh_types.specs.Code.{Code, arc_count}
 use Rattle.kh_types.specs.Generators.{one_count, states}
 use Rattle.kh_types.specs.declared.limits.TheConstants.{CIRCLES, CROSSINGS}
 use Rattle.kh_types.proofs.CircleBound.{ArcsBelow-slots, circle_count-within, smoothings_of-below}
@@ -29,9 +30,7 @@ use Rattle.circle_smoothing.specs.declared.kinds.CountedDiagram.TheInside.{Insid
 -- the arcs of an accepted code are numbers that are put into classes
 pub HaveArcsBelow-accepted : (code : Code) (crossings : List (List ℕ)) → crossings ≡ code.crossings → IsAccepted code
     → length crossings ≤ CROSSINGS → HaveArcsBelow MEMBERS crossings
-HaveArcsBelow-accepted code crossings same is few =
-    subst (λ (all : List (List ℕ)). HaveArcsBelow MEMBERS all) (sym same)
-    (ArcsBelow-slots MEMBERS code.crossings is.directed.slots (omega (arith, few, ap length same)))
+HaveArcsBelow-accepted code crossings same is few = grind (arith, nat_tests, ArcsBelow-slots)
 
 -- the classes of arcs among the numbers below MEMBERS, among the arcs and loops, and among the arcs alone
 count-among : (code : Code) (state wide : ℕ) → IsAccepted code → arc_count code.crossings + 1 ≤ wide
@@ -56,14 +55,7 @@ count-among code state wide is fits =
     )
 
 circle_count-le-names : (code : Code) (state : ℕ) → circle_count code state ≤ arc_and_loop_count code
-circle_count-le-names code state =
-    let least = is_least (circles_of code state) in
-    omega (
-      arith,
-      length-filter least (arcs_and_loops code),
-      count_by-le-length least (arcs_and_loops code),
-      length-range_with_len 1 (arc_count code.crossings + code.loops),
-    )
+circle_count-le-names code state = grind (arith, nat_tests, length-filter, count_by-le-length, length-range_with_len)
 
 -- each join makes one class fewer
 joins_of-state : (code : Code) (state : ℕ) → IsAccepted code → length code.crossings ≤ CROSSINGS
@@ -72,25 +64,16 @@ joins_of-state code state is few =
     omega (arith, count-among code state MEMBERS is (omega (arith, few)), circle_count-le-names code state)
 
 length-either : (b : Bool) (one other : List (ℕ × ℕ)) (n : ℕ) → length one ≡ n → length other ≡ n → length (cond b one other) ≡ n
-length-either true one other n of_one of_other = of_one
-length-either false one other n of_one of_other = of_other
+length-either b one other n of_one of_other = grind (arith, nat_tests)
 
 length-smoothing_of : (slots : List ℕ) (smoothing : ℕ) → length (smoothing_of smoothing slots) ≡ 2
-length-smoothing_of slots smoothing =
-    length-either (nat_eq smoothing 0) ((arc_in slots 0, arc_in slots 1) ∷ (arc_in slots 2, arc_in slots 3) ∷ [])
-    ((arc_in slots 0, arc_in slots 3) ∷ (arc_in slots 1, arc_in slots 2) ∷ []) 2 refl refl
+length-smoothing_of slots smoothing = grind (arith, nat_tests)
 
 length-smoothings_from : (state place : ℕ) (crossings : List (List ℕ))
     → length (flat_map (λ at. smoothing_of (bit state at.0) at.1) (enumerate_from place crossings)) ≡ 2 * length crossings
 length-smoothings_from state place [] = refl
 length-smoothings_from state place (slots ∷ crossings) =
-    omega (
-      arith,
-      length-append (smoothing_of (bit state place) slots)
-          (flat_map (λ at. smoothing_of (bit state at.0) at.1) (enumerate_from (place + 1) crossings)),
-      length-smoothing_of slots (bit state place),
-      length-smoothings_from state (place + 1) crossings,
-    )
+    grind (arith, nat_tests, length-append, length-smoothing_of, length-smoothings_from state (place + 1) crossings)
 
 -- so there are at most two for each crossing
 joins-few : (code : Code) (state : ℕ) → IsAccepted code → length code.crossings ≤ CROSSINGS
@@ -116,12 +99,7 @@ joins-few code state is few =
 pub branch_count-states : (code : Code) (place : ℕ) → IsAccepted code → length code.crossings ≤ CROSSINGS
     → branch_count code.crossings 0 (range_with_len 0 MEMBERS) place
     ≡ count_by (λ state. nat_eq (state_place code state) place) (states code)
-branch_count-states code place is few =
-    ap (λ (p : ℕ → Bool). count_by p (states code))
-    (fun_ext
-    (λ state.
-    let all : 0 + ones (length code.crossings) state ≡ one_count code state = omega arith in
-    ap (λ k. nat_eq k place) (ap₂ count_place all (joins_of-state code state is few))))
+branch_count-states code place is few = grind (arith, nat_tests, fun_ext, joins_of-state)
 
 -- a place in a table is that of its row and its column
 same_place : (width row column wanted_row wanted_column : ℕ) → column < width → wanted_column < width
@@ -132,10 +110,7 @@ same_place width row column wanted_row wanted_column within wanted_within same =
 )
 
 tests-agree : (a b c : Bool) → (a ≡ true → (b ≡ true) × (c ≡ true)) → (b ≡ true → c ≡ true → a ≡ true) → a ≡ (b && c)
-tests-agree true b c there back = sym (ap₂ (λ x y. x && y) (there refl).0 (there refl).1)
-tests-agree false true true there back = back refl refl
-tests-agree false true false there back = refl
-tests-agree false false c there back = refl
+tests-agree a b c there back = grind (arith, nat_tests)
 
 -- the test of a place is that of the row and the column
 place_test : (width row column wanted_row wanted_column : ℕ) → column < width → wanted_column < width
@@ -152,11 +127,7 @@ place_test width row column wanted_row wanted_column within wanted_within =
     (ap₂ (λ r c. r * width + c) (eqb-true row wanted_row same_row) (eqb-true column wanted_column same_column)))
 
 less-test : (all less wanted : ℕ) → less ≤ all → wanted ≤ all → nat_eq (all - less) (all - wanted) ≡ nat_eq less wanted
-less-test all less wanted few wanted_few = elim (cases_eq less wanted) [
-  | inl same ↦ ap (λ w. nat_eq (all - less) (all - w)) (sym same) ∙ eq-eqb (all - less) (all - less) refl ∙ sym (eq-eqb less wanted same)
-  | inr other ↦
-      ne_eqb (all - less) (all - wanted) (λ same. other (omega (arith, same, few, wanted_few))) ∙ sym (ne_eqb less wanted other)
-]
+less-test all less wanted few wanted_few = grind (arith, nat_tests)
 
 -- states of a kind are those that are counted at its place
 pub is_of_kind-place : (code : Code) (state ones circles : ℕ) → IsAccepted code → length code.crossings ≤ CROSSINGS
@@ -179,19 +150,11 @@ kind_count-place code ones circles is few within joins_within =
 -- there are no states of a kind with more ones, more circles or more joins than a state has
 is_of_kind-holds : (code : Code) (state ones circles : ℕ) → is_of_kind code ones circles state ≡ true
     → (one_count code state ≡ ones) × (circle_count code state ≡ circles)
-is_of_kind-holds code state ones circles holds =
-    let both = and_true (nat_eq (one_count code state) ones) (nat_eq (circle_count code state) circles) holds in
-    (eqb-true (one_count code state) ones both.0, eqb-true (circle_count code state) circles both.1)
-  where
-    and_true : (a b : Bool) → (a && b) ≡ true → (a ≡ true) × (b ≡ true)
-    and_true true true holds = (refl, refl)
-    and_true true false holds = (refl, holds)
-    and_true false b holds = absurd (false≢true holds)
+is_of_kind-holds code state ones circles holds = grind (arith, nat_tests)
 
 count_by-none : (p : ℕ → Bool) (xs : List ℕ) → ((x : ℕ) → p x ≡ false) → count_by p xs ≡ 0
 count_by-none p [] none = refl
-count_by-none p (x ∷ xs) none =
-    sum_by-cons (λ y. cond (p y) 1 0) x xs ∙ ap₂ (λ b rest. cond b 1 0 + rest) (none x) (count_by-none p xs none)
+count_by-none p (x ∷ xs) none = grind (arith, nat_tests, sum_by-cons, count_by-none p xs none)
 
 pub kind_count-none : (code : Code) (ones circles : ℕ) → IsAccepted code → length code.crossings ≤ CROSSINGS
     → (ones ≤ CROSSINGS → circles ≤ arc_and_loop_count code → arc_and_loop_count code - circles ≤ JOINS → ⊥) → kind_count code ones circles ≡ 0
@@ -207,14 +170,7 @@ kind_count-none code ones circles is few none =
     by_test false never = refl
 
 pub kind_count-le : (code : Code) (ones circles : ℕ) → length code.crossings ≤ CROSSINGS → kind_count code ones circles ≤ 2 ^ CROSSINGS
-kind_count-le code ones circles few =
-    let power : 2 ^ length code.crossings ≤ 2 ^ CROSSINGS = pow_mono few in
-    omega (
-      arith,
-      power,
-      count_by-le-length (is_of_kind code ones circles) (states code),
-      length-range_with_len 0 (2 ^ length code.crossings),
-    )
+kind_count-le code ones circles few = grind (arith, nat_tests, pow_mono, count_by-le-length, length-range_with_len)
 
 pub kind_count-nothing : (code : Code) (taken circles : ℕ) → IsAccepted code → length code.crossings ≤ CROSSINGS
     → (taken ≤ CROSSINGS → circles ≤ arc_and_loop_count code → arc_and_loop_count code - circles ≤ JOINS → ⊥) → 0 ≡ kind_count code taken circles
@@ -281,5 +237,4 @@ state_kind-test code kind state is few =
 
 pub kind_count-states : (code : Code) (kind : ℕ) → IsAccepted code → length code.crossings ≤ CROSSINGS
     → count_by (λ state. nat_eq (state_kind code state) kind) (states code) ≡ kind_count code (kind_ones kind) (kind_circles kind)
-kind_count-states code kind is few =
-    ap (λ (p : ℕ → Bool). count_by p (states code)) (fun_ext (λ state. state_kind-test code kind state is few))
+kind_count-states code kind is few = grind (arith, nat_tests, fun_ext, state_kind-test)

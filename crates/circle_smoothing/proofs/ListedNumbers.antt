@@ -1,8 +1,9 @@
 -- The numbers of circles in a list, one after the other.
-use Rattle.std.proofs.Common.{◌≡◌, ◌≢◌, ℕ, zero, suc, ◌+◌, ◌-◌, ◌<◌, ◌≤◌, ◌∙◌, List, [], ◌∷◌, ◌++◌, refl, sym, ap, length, arith, Bool, true, false, cond}
-use Rattle.std.specs.Prelude.{nat_eq, slice_index}
-use Rattle.std.specs.List.{position_or_len, range_with_len}
-use Rattle.std.proofs.lemmas.Bool.{both_ways, eq-eqb, eqb-true}
+use Rattle.std.proofs.lemmas.Bool.Decides.{nat_tests}
+use Rattle.std.proofs.Common.{◌≡◌, ℕ, zero, suc, ◌+◌, ◌<◌, ◌≤◌, ◌∙◌, List, [], ◌∷◌, ◌++◌, refl, ap, length, arith, Bool, true, false, cond}
+use Rattle.std.specs.Prelude.{slice_index}
+use Rattle.std.specs.List.{range_with_len}
+use Rattle.std.proofs.lemmas.Bool.{eqb-true}
 use Rattle.std.proofs.lemmas.List.{get_or-map, length-append}
 use Rattle.std.proofs.lemmas.List.Sums.{count_by-le-length, length-filter}
 use Rattle.std.proofs.lemmas.List.FromFn.{get_or-range_with_len, length-map-range_with_len, length-range_with_len}
@@ -15,21 +16,12 @@ use Rattle.kh_types.proofs.CircleNumbers.{position-counted}
 -- the least name of a circle has the next number
 pub number-least : (circles : List ℕ) (place : ℕ) → AreCircles circles → place + 1 < length circles
     → is_least circles (place + 1) ≡ true → circle_number_at circles (place + 1) ≡ length (names_to circles place)
-number-least circles place are within least =
-    let own : slice_index circles (place + 1) ≡ place + 1 = eqb-true (slice_index circles (place + 1)) (place + 1) least in
-    let back : place + 1 - 1 ≡ place = omega arith in
-    ap (λ c. position_or_len (nat_eq c) (names_to circles (length circles - 1))) own
-    ∙ position-counted circles (length circles - 1) (place + 1)
-    (record { positive = omega arith; within = omega (arith, within); own = own })
-    ∙ ap (λ n. length (names_to circles n)) back
+number-least circles place are within least = grind (arith, nat_tests, eqb-true, position-counted)
 
 -- the circle of any other name is a lesser name
 pub circle-lesser : (circles : List ℕ) (place : ℕ) → AreCircles circles → place + 1 < length circles
     → is_least circles (place + 1) ≡ false → slice_index circles (place + 1) < place + 1
-circle-lesser circles place are within other =
-    let differs : slice_index circles (place + 1) ≢ place + 1 =
-    λ same. both_ways (is_least circles (place + 1)) other (eq-eqb (slice_index circles (place + 1)) (place + 1) same) in
-    omega (arith, are.named.least (place + 1) within, differs)
+circle-lesser circles place are within other = grind (arith, nat_tests)
 
 -- and has the number of that
 slice_index-numbers : (circles : List ℕ) (place name : ℕ) → 1 ≤ name → name ≤ place
@@ -43,12 +35,7 @@ slice_index-numbers circles place (suc k) positive within =
 pub number-other : (circles : List ℕ) (place : ℕ) → AreCircles circles → place + 1 < length circles
     → is_least circles (place + 1) ≡ false
     → circle_number_at circles (place + 1) ≡ slice_index (numbers_to circles place) (slice_index circles (place + 1))
-number-other circles place are within other =
-    let name = place + 1 in
-    let circle = slice_index circles name in
-    let lesser = circle-lesser circles place are within other in
-    ap (λ c. position_or_len (nat_eq c) (names_to circles (length circles - 1))) (sym (are.named.own name within))
-    ∙ sym (slice_index-numbers circles place circle (are.positive name (omega arith) within) (omega (arith, lesser)))
+number-other circles place are within other = grind (arith, nat_tests, circle-lesser, slice_index-numbers)
 
 -- one name more
 pub count-more : (circles : List ℕ) (place : ℕ)
@@ -63,21 +50,14 @@ count-more circles place =
     one false x = refl
 
 pub count-within : (circles : List ℕ) (place : ℕ) → length (names_to circles place) ≤ place
-count-within circles place =
-    omega (
-      arith,
-      length-filter (is_least circles) (range_with_len 1 place),
-      count_by-le-length (is_least circles) (range_with_len 1 place),
-      length-range_with_len 1 place,
-    )
+count-within circles place = grind (arith, nat_tests, length-filter, count_by-le-length, length-range_with_len)
 
 pub numbers-more : (circles : List ℕ) (place : ℕ)
     → numbers_to circles (place + 1) ≡ numbers_to circles place ++ circle_number_at circles (place + 1) ∷ []
 numbers-more circles place = ap (λ xs. 0 ∷ xs) (map_from_one (circle_number_at circles) place)
 
 pub length-numbers_to : (circles : List ℕ) (place : ℕ) → length (numbers_to circles place) ≡ place + 1
-length-numbers_to circles place =
-    let size = length-map-range_with_len (circle_number_at circles) 1 place in omega (arith, size)
+length-numbers_to circles place = grind (arith, nat_tests, length-map-range_with_len)
 
 pub ruleset next_number = (number-least, circle-lesser, number-other, count-within, length-numbers_to)
 

@@ -1,6 +1,7 @@
 -- The tables of a prepared diagram.
-use Rattle.std.proofs.Common.{◌≡◌, ℕ, zero, suc, ◌+◌, ◌*◌, ◌<◌, ◌∙◌, List, [], ◌∷◌, inl, inr, sym, ap, subst, length, map, arith, IsTrue, false, cond, not}
-use Rattle.std.specs.Prelude.{nat_eq, slice_index}
+use Rattle.std.proofs.lemmas.Bool.Decides.{nat_tests}
+use Rattle.std.proofs.Common.{◌≡◌, ℕ, zero, suc, ◌+◌, ◌*◌, ◌<◌, ◌∙◌, List, [], ◌∷◌, sym, ap, subst, length, map, arith, IsTrue}
+use Rattle.std.specs.Prelude.{slice_index}
 use Rattle.std.specs.List.{range_with_len}
 use Rattle.std.proofs.lemmas.Bool.{cases_eq, eq-eqb, eqb-true, false_from_ne_true}
 use Rattle.std.proofs.lemmas.List.{get_or-map}
@@ -25,20 +26,9 @@ slice_index-table f n place below =
 first-place : (xs : List ℕ) (x k : ℕ) → k < length xs → slice_index xs k ≡ x
     → (start_in xs x < length xs) × (slice_index xs (start_in xs x) ≡ x)
 first-place [] x k below is = absurd (omega (arith, below))
-first-place (y ∷ ys) x zero below is =
-    let here : start_in (y ∷ ys) x ≡ 0 = ap (λ b. cond (not b) (1 + start_in ys x) 0) (eq-eqb y x is) in
-    (omega (arith, here), ap (λ i. slice_index (y ∷ ys) i) here ∙ is)
-first-place (y ∷ ys) x (suc k) below is = elim (cases_eq y x) [
-  | inl same ↦
-      let here : start_in (y ∷ ys) x ≡ 0 = ap (λ b. cond (not b) (1 + start_in ys x) 0) (eq-eqb y x same) in
-      (omega (arith, here), ap (λ i. slice_index (y ∷ ys) i) here ∙ same)
-  | inr other ↦
-      let later = first-place ys x k (omega (arith, below)) is in
-      let fails : nat_eq y x ≡ false = false_from_ne_true (nat_eq y x) (λ same. other (eqb-true y x same)) in
-      let next : 1 + start_in ys x ≡ suc (start_in ys x) = omega arith in
-      let there : start_in (y ∷ ys) x ≡ suc (start_in ys x) = ap (λ b. cond (not b) (1 + start_in ys x) 0) fails ∙ next in
-      (omega (arith, there, later.0), ap (λ i. slice_index (y ∷ ys) i) there ∙ later.1)
-]
+first-place (y ∷ ys) x zero below is = grind (arith, nat_tests, eq-eqb)
+first-place (y ∷ ys) x (suc k) below is =
+    grind (arith, nat_tests, cases_eq, eq-eqb, false_from_ne_true, eqb-true, first-place ys x k (omega (arith, below)) is)
 
 pub length-arcs_at : (crossings : List (List ℕ)) → length (arcs_at crossings) ≡ 4 * length crossings
 length-arcs_at crossings = length-map-range_with_len (arc_at crossings) 0 (4 * length crossings)
@@ -50,13 +40,11 @@ length-partners_at crossings = length-map-range_with_len (partner_at crossings) 
 
 pub slice_index-arcs : (crossings : List (List ℕ)) (arcs : List ℕ) (place : ℕ) → arcs ≡ arcs_at crossings
     → place < 4 * length crossings → slice_index arcs place ≡ arc_at crossings place
-slice_index-arcs crossings arcs place are below =
-    ap (λ xs. slice_index xs place) are ∙ slice_index-table (arc_at crossings) (4 * length crossings) place below
+slice_index-arcs crossings arcs place are below = grind (arith, nat_tests, slice_index-table)
 
 pub slice_index-partners : (crossings : List (List ℕ)) (partners : List ℕ) (place : ℕ) → partners ≡ partners_at crossings
     → place < 4 * length crossings → slice_index partners place ≡ partner_at crossings place
-slice_index-partners crossings partners place are below =
-    ap (λ xs. slice_index xs place) are ∙ slice_index-table (partner_at crossings) (4 * length crossings) place below
+slice_index-partners crossings partners place are below = grind (arith, nat_tests, slice_index-table)
 
 pub IsArc-in_table : (code : Code) (arcs : List ℕ) (place : ℕ) → IsTrue (accepted code) → arcs ≡ arcs_at code.crossings
     → place < 4 * length code.crossings → IsArc code.crossings (slice_index arcs place)
@@ -88,16 +76,6 @@ start-on_arc crossings arc twice is =
 pub HasStarts-table : (code : Code) (arcs starts : List ℕ) → IsTrue (accepted code) → arcs ≡ arcs_at code.crossings
     → starts ≡ map (start_in arcs) (range_with_len 0 (2 * length code.crossings + 1)) → HasStarts code.crossings starts
 HasStarts-table code arcs starts is is_arcs are =
-    let crossings = code.crossings in
-    let n = 2 * length crossings + 1 in
-    let twice = HasArcsTwice-accepted code is in
-    let at = λ (arc : ℕ) (is_arc : IsArc crossings arc).
-    ap (λ xs. slice_index xs arc) are ∙ slice_index-table (start_in arcs) n arc (omega (arith, is_arc.within))
-    ∙ ap (λ xs. start_in xs arc) is_arcs in
-    record {
-      size = ap length are ∙ length-map-range_with_len (start_in arcs) 0 n;
-      below = λ arc is_arc. omega (arith, at arc is_arc, (start-on_arc crossings arc twice is_arc).0);
-      on_arc = λ arc is_arc. ap (arc_at crossings) (at arc is_arc) ∙ (start-on_arc crossings arc twice is_arc).1;
-    }
+    grind (arith, nat_tests, HasArcsTwice-accepted, slice_index-table, length-map-range_with_len, start-on_arc)
 
 pub ruleset tables = (map_from_zero, length-map-range_with_len, length-range_with_len, IsDart-at, length-arcs_at)

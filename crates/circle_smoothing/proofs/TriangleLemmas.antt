@@ -1,5 +1,6 @@
 -- Pascal's triangle, place by place.
-use Rattle.std.proofs.Common.{◌≡◌, ℕ, zero, suc, ◌+◌, ◌-◌, ◌*◌, ◌/◌, ◌%◌, ◌^◌, ◌<◌, ◌≤◌, ◌∙◌, ap, refl, arith}
+use Rattle.std.proofs.lemmas.Bool.Decides.{nat_tests}
+use Rattle.std.proofs.Common.{◌≡◌, ℕ, zero, suc, ◌+◌, ◌-◌, ◌*◌, ◌/◌, ◌%◌, ◌^◌, ◌<◌, ◌≤◌, ap, refl, arith}
 use Rattle.std.proofs.Math.Nat.{two-pow-succ}
 use Rattle.std.proofs.Math.Pow.{pow_mono}
 use Rattle.std.proofs.lemmas.Nat.{pow_pos}
@@ -10,13 +11,10 @@ use Rattle.circle_smoothing.specs.Binomials.{binomial, binomial_at}
 pub binomial-le : (n chosen : ℕ) → binomial n chosen ≤ 2 ^ n
 binomial-le n zero = pow_pos n
 binomial-le zero (suc chosen) = omega arith
-binomial-le (suc n) (suc chosen) =
-    omega (arith, two-pow-succ n, binomial-le n chosen, binomial-le n (suc chosen))
+binomial-le (suc n) (suc chosen) = grind (arith, nat_tests, two-pow-succ, binomial-le n (suc chosen), binomial-le n chosen)
 
 pub binomial-within : (n chosen : ℕ) → n ≤ CIRCLES → binomial n chosen ≤ 2 ^ CIRCLES
-binomial-within n chosen few =
-    let power : 2 ^ n ≤ 2 ^ CIRCLES = pow_mono few in
-    omega (arith, binomial-le n chosen, power)
+binomial-within n chosen few = grind (arith, nat_tests, pow_mono, binomial-le)
 
 -- more things than there are
 pub binomial-past : (n chosen : ℕ) → n < chosen → binomial n chosen ≡ 0
@@ -28,18 +26,14 @@ binomial-past (suc n) (suc chosen) past =
 -- the place of a row and a column
 pub binomial_at-place : (n chosen place : ℕ) → chosen ≤ CIRCLES → n * (CIRCLES + 1) + chosen ≡ place
     → binomial_at place ≡ binomial n chosen
-binomial_at-place n chosen place few is =
-    let row : place / (CIRCLES + 1) ≡ n = omega arith in
-    let column : place % (CIRCLES + 1) ≡ chosen = omega arith in
-    ap (λ m. binomial m (place % (CIRCLES + 1))) row ∙ ap (binomial n) column
+binomial_at-place n chosen place few is = grind (arith, nat_tests)
 
 -- the first column and the first row
 pub binomial_at-first_column : (place : ℕ) → place % (CIRCLES + 1) ≡ 0 → binomial_at place ≡ 1
 binomial_at-first_column place first = ap (binomial (place / (CIRCLES + 1))) first
 
 pub binomial_at-first_row : (place : ℕ) → place < CIRCLES + 1 → 0 < place % (CIRCLES + 1) → binomial_at place ≡ 0
-binomial_at-first_row place first later =
-    binomial_at-place 0 place place (omega arith) (omega arith) ∙ binomial-past 0 place (omega arith)
+binomial_at-first_row place first later = grind (arith, nat_tests)
 
 -- the others
 pub binomial_at-later : (place before above : ℕ) → CIRCLES + 1 ≤ place → 0 < place % (CIRCLES + 1)
@@ -56,8 +50,7 @@ binomial_at-later place before above lower later is_before is_above =
     )
 
 pub binomial_at-within : (place : ℕ) → place < (CIRCLES + 1) * (CIRCLES + 1) → binomial_at place ≤ 2 ^ CIRCLES
-binomial_at-within place below =
-    binomial-within (place / (CIRCLES + 1)) (place % (CIRCLES + 1)) (omega arith)
+binomial_at-within place below = grind (arith, nat_tests, binomial-within)
 
 pub ruleset steps = (binomial_at-first_column, binomial_at-first_row, binomial_at-later, binomial_at-within)
 

@@ -1,4 +1,5 @@
 -- A block is a complex: the sizes of its matrices, and the product of neighbouring ones.
+use Rattle.std.proofs.lemmas.Bool.Decides.{nat_tests}
 use Rattle.std.proofs.Common.{◌≡◌, ℕ, ◌*◌, ◌%◌, ◌<◌, ◌∙◌, inl, inr, ℤ, pos, ◌+ℤ◌, List, [], ◌∷◌, length, map, refl, sym, ap, ap₂, arith, true, false, zero, suc, IsTrue}
 use Rattle.std.specs.Prelude.{slice_index_or}
 use Rattle.std.specs.List.{sum_by, range_with_len}
@@ -8,7 +9,7 @@ use Rattle.kh_types.specs.Acceptance.{accepted}
 use Rattle.kh_types.specs.Code.{Code}
 use Rattle.kh_types.specs.Complex.{IsComplex, degree_of, entry_in, entry_of, product_entry}
 use Rattle.kh_types.specs.Differential.{differential}
-use Rattle.kh_types.specs.Generators.{Generator, generators_at}
+use Rattle.kh_types.specs.Generators.{generators_at}
 use Rattle.kh_types.specs.History.{block, homological_degrees}
 use Rattle.kh_types.proofs.MatrixTests.{entry-past_rows}
 use Rattle.kh_types.proofs.ListSums.{sum_by-alike}
@@ -19,19 +20,11 @@ use Rattle.kh_types.proofs.ComplexLemmas.{degree_of-number, degree_of-next}
 -- at each degree the block has a place for each generator, all of them alive, and the entries of the differential
 pub alive-block : (p : ℕ) (code : Code) (j i : ℤ)
     → (degree_of (block p code j) i).alive ≡ map (λ generator. true) (generators_at code i j)
-alive-block p code j i = elim (degree-block p code j i) [
-  | inl is ↦ ap (λ degree. degree.alive) is
-  | inr (is, none) ↦ ap (λ degree. degree.alive) is ∙ sym (ap (λ (xs : List Generator). map (λ x. true) xs) none)
-]
+alive-block p code j i = grind (arith, nat_tests, degree-block)
 
 pub entry-block : (p : ℕ) (code : Code) (j i : ℤ) (row column : ℕ)
     → entry_of (block p code j) i row column ≡ entry_in (differential p code i j) row column
-entry-block p code j i row column = elim (degree-block p code j i) [
-  | inl is ↦ ap (λ degree. entry_in degree.matrix row column) is
-  | inr (is, none) ↦
-      ap (λ degree. entry_in degree.matrix row column) is ∙ entry-past_rows [] row column (omega arith)
-      ∙ sym (entry-column_past p code i j row column (omega (arith, ap length none)))
-]
+entry-block p code j i row column = grind (arith, nat_tests, degree-block, entry-past_rows, entry-column_past)
 
 pub places-block : (p : ℕ) (code : Code) (j i : ℤ) → length (degree_of (block p code j) i).alive ≡ length (generators_at code i j)
 places-block p code j i = ap length (alive-block p code j i) ∙ length-map (generators_at code i j) (λ generator. true)
@@ -58,11 +51,7 @@ all_alive (x ∷ xs) zero = refl
 all_alive (x ∷ xs) (suc place) = all_alive xs place
 
 not_dead : (p : ℕ) (code : Code) (j i : ℤ) (place : ℕ) → slice_index_or (degree_of (block p code j) i).alive place true ≡ false → ⊥
-not_dead p code j i place dead =
-    let so : true ≡ false =
-    sym (all_alive (generators_at code i j) place) ∙ ap (λ places. slice_index_or places place true) (sym (alive-block p code j i))
-    ∙ dead in
-    absurd (cc)
+not_dead p code j i place dead = grind (arith, nat_tests, all_alive, alive-block)
 
 -- the degrees of a complex by their numbers
 pub IsComplex-block : (p : ℕ) (code : Code) (j : ℤ) → 1 < p → IsTrue (accepted code) → IsComplex p (block p code j)

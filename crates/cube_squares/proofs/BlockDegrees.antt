@@ -3,7 +3,8 @@
 -- The homological degrees of a block are the part of all degrees from the first to the last that has generators, so they are neighbours,
 -- and a degree outside has none. At a degree inside the block is the cube's by definition; at one outside both are empty. So facts of the
 -- cube's degrees are facts of the block's.
-use Rattle.std.proofs.Common.{◌≡◌, ℕ, ◌+◌, ◌-◌, ◌*◌, ◌<◌, ◌≤◌, ◌∙◌, ◌⊎◌, inl, inr, ℤ, pos, negsuc, ◌+ℤ◌, ◌-ℤ◌, List, [], ◌∷◌, length, get_or, map, take, refl, sym, ap, arith, Bool, true, false, not}
+use Rattle.std.proofs.lemmas.Bool.Decides.{nat_tests}
+use Rattle.std.proofs.Common.{◌≡◌, ℕ, ◌+◌, ◌-◌, ◌*◌, ◌<◌, ◌≤◌, ◌∙◌, ◌⊎◌, inl, inr, ℤ, pos, negsuc, ◌+ℤ◌, ◌-ℤ◌, List, [], length, get_or, map, take, refl, sym, ap, arith, Bool, true, false, not}
 use Rattle.std.specs.Prelude.{reverse}
 use Rattle.std.specs.List.{position_or_len, suffix_len}
 use Rattle.std.proofs.lemmas.Bool.{cases_lt}
@@ -30,14 +31,7 @@ end_of test xs = length xs - suffix_len (λ x. not (test x)) xs
 
 get_or-first_to_last : {X : Type 0} (test : X → Bool) (xs : List X) (k : ℕ) (d : X) → k < length (first_to_last test xs)
     → (get_or (first_to_last test xs) k d ≡ get_or xs (start_of test xs + k) d) × (start_of test xs + k < length xs)
-get_or-first_to_last test xs k d within =
-    let a = start_of test xs in
-    let b = end_of test xs in
-    let size = length-drop a (take b xs) in
-    let taken = length-take b xs in (
-      get_or-drop a (take b xs) k d ∙ get_or-take b xs (a + k) d (omega arith),
-      omega arith,
-    )
+get_or-first_to_last test xs k d within = grind (arith, nat_tests, length-drop, length-take, get_or-drop, get_or-take)
 
 place-first_to_last : {X : Type 0} (test : X → Bool) (xs : List X) (m : ℕ) (d : X) → m < length xs → test (get_or xs m d) ≡ true
     → (k : ℕ) × (k < length (first_to_last test xs)) × (start_of test xs + k ≡ m)
@@ -70,15 +64,13 @@ abbrev has_generators : Code → ℤ → ℤ → Bool
 has_generators code j i = not (is_empty (generators_at code i j))
 
 some-test : {X : Type 0} (xs : List X) → 0 < length xs → not (is_empty xs) ≡ true
-some-test [] some = absurd (omega arith)
-some-test (x ∷ xs) some = refl
+some-test xs some = grind (arith, nat_tests)
 
 abbrev pub first_degree : Code → ℤ → ℤ
 first_degree code j = first_or_zero (homological_degrees code j)
 
 pub first-is : (is : List ℤ) (d : ℤ) → 0 < length is → first_or_zero is ≡ get_or is 0 d
-first-is [] d some = absurd (omega arith)
-first-is (i ∷ is) d some = refl
+first-is is d some = grind (arith, nat_tests)
 
 pub get_or-from_minus : (n k : ℕ) (d : ℤ) → k < 2 * n + 1 → get_or (from_minus n) k d ≡ pos k -ℤ pos n
 get_or-from_minus n k d below = get_or-map-range_with_len (λ m. pos m -ℤ pos n) 0 (2 * n + 1) k k d below (omega arith)
@@ -90,10 +82,7 @@ length-from_minus n = length-map-range_with_len (λ m. pos m -ℤ pos n) 0 (2 * 
 pub degree-placed : (code : Code) (j : ℤ) (k : ℕ) (d : ℤ) → k < length (homological_degrees code j)
     → get_or (homological_degrees code j) k d
     ≡ pos (start_of (has_generators code j) (from_minus (length code.crossings)) + k) -ℤ pos (length code.crossings)
-degree-placed code j k d within =
-    let n = length code.crossings in
-    let at = get_or-first_to_last (has_generators code j) (from_minus n) k d within in
-    at.0 ∙ get_or-from_minus n (start_of (has_generators code j) (from_minus n) + k) d (omega (arith, at.1, length-from_minus n))
+degree-placed code j k d within = grind (arith, nat_tests, get_or-first_to_last, get_or-from_minus, length-from_minus)
 
 -- degrees are neighbouring integers
 pub degree-at : (code : Code) (j : ℤ) (k : ℕ) (d : ℤ) → k < length (homological_degrees code j)
@@ -149,9 +138,7 @@ degree-block p code j i = elim (cases_lt 0 (length (generators_at code i j))) [
   where
     inside : (i : ℤ) (k : ℕ) → k < length (homological_degrees code j) → first_degree code j +ℤ pos k ≡ i
         → degree_of (block p code j) i ≡ cube_degree p code j i
-    inside i k within is =
-        let distance : i -ℤ first_degree code j ≡ pos k = omega (arith, ints) in
-        ap (degree_from (block p code j)) distance ∙ degree-numbered p code j k within ∙ ap (cube_degree p code j) is
+    inside i k within is = grind (arith, nat_tests, ints, degree-numbered)
 
     placed : (i distance : ℤ) → i -ℤ first_degree code j ≡ distance
         → (degree_of (block p code j) i ≡ cube_degree p code j i) ⊎ (degree_of (block p code j) i ≡ empty_degree)

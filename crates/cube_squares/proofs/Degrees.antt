@@ -6,9 +6,8 @@
 use Rattle.std.proofs.Common.{◌≡◌, ◌≢◌, ℕ, zero, suc, ◌+◌, ◌-◌, ◌*◌, ◌%◌, ◌<◌, ◌≤◌, ◌∙◌, ◌⊎◌, inl, inr, ℤ, pos, ◌+ℤ◌, ◌-ℤ◌, length, sym, ap, subst, arith, Bool, true, false, cond, IsTrue}
 use Rattle.std.specs.Prelude.{nat_eq}
 use Rattle.std.specs.List.{sum_by, range_with_len}
-use Rattle.std.specs.Ordering.{int_eq}
-use Rattle.std.proofs.lemmas.Bool.{and_from, and_parts, cases_Bool, cases_eq}
-use Rattle.std.proofs.lemmas.Bool.Decides.{nat_tests, Decides-int_eq}
+use Rattle.std.proofs.lemmas.Bool.{cases_Bool, cases_eq}
+use Rattle.std.proofs.lemmas.Bool.Decides.{nat_tests}
 use Rattle.std.proofs.lemmas.Int.{ints}
 use Rattle.std.proofs.lemmas.List.Sums.{sum_by-cons}
 use Rattle.std.proofs.Math.Pow.{pow-lt}
@@ -74,17 +73,11 @@ coefficient-zero p code tail head is other =
 -- a generator has the degrees, or it has not, by the test
 has_degrees-from : (code : Code) (i j : ℤ) (generator : Generator) → homological_degree code generator ≡ i
     → quantum_degree code generator ≡ j → has_degrees code i j generator ≡ true
-has_degrees-from code i j generator is_i is_j =
-    and_from (int_eq (homological_degree code generator) i) (int_eq (quantum_degree code generator) j)
-    ((Decides-int_eq (homological_degree code generator) i).1 is_i) ((Decides-int_eq (quantum_degree code generator) j).1 is_j)
+has_degrees-from code i j generator is_i is_j = grind (arith, nat_tests)
 
 pub degrees-from_test : (code : Code) (i j : ℤ) (generator : Generator) → has_degrees code i j generator ≡ true
     → (homological_degree code generator ≡ i) × (quantum_degree code generator ≡ j)
-degrees-from_test code i j generator passes =
-    let parts = and_parts (int_eq (homological_degree code generator) i) (int_eq (quantum_degree code generator) j) passes in (
-      (Decides-int_eq (homological_degree code generator) i).0 parts.0,
-      (Decides-int_eq (quantum_degree code generator) j).0 parts.1,
-    )
+degrees-from_test code i j generator passes = grind (arith, nat_tests)
 
 next_or_not : (code : Code) (tail head : Generator) → IsNext code tail head ⊎ (IsNext code tail head → ⊥)
 next_or_not code tail head =

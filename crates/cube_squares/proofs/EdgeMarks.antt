@@ -3,6 +3,7 @@
 -- Labels are told by marks: a list of arcs, one on each circle with the label v-, and two marks on one circle are none. In these words a
 -- merge keeps the list, as the circles that it joins add up their marks; and a split adds a mark at one of the two arcs of its crossing, in
 -- two ways. So an edge coefficient counts lists of marks, and the order of two edges is that of two additions.
+use Rattle.std.proofs.lemmas.Bool.Decides.{nat_tests}
 use Rattle.std.proofs.Common.{◌≡◌, ◌≢◌, ℕ, ◌+◌, ◌≤◌, ◌∙◌, ◌⊎◌, inl, inr, List, [], ◌∷◌, refl, sym, ap, ap₂, arith, Bool, true, false}
 use Rattle.std.specs.Prelude.{nat_eq}
 use Rattle.std.specs.Bool.{Decides}
@@ -108,42 +109,19 @@ pub record IsEnd (code : Code) (state crossing mark : ℕ) : Type 0 where
 
 hits-there : (code : Code) (state mark : ℕ) (marked : List ℕ) (arc : ℕ) → circle_in code state mark ≡ circle_in code state arc
     → hits code state (mark ∷ marked) arc ≡ 1 + hits code state marked arc
-hits-there code state mark marked arc same =
-    hits-cons code state mark marked arc
-    ∙ ap (λ b. one_if b + hits code state marked arc) (eq-eqb (circle_in code state mark) (circle_in code state arc) same)
+hits-there code state mark marked arc same = grind (arith, nat_tests, hits-cons, hits, eq-eqb, circle_in)
 
 hits-elsewhere : (code : Code) (state mark : ℕ) (marked : List ℕ) (arc : ℕ) → circle_in code state mark ≢ circle_in code state arc
     → hits code state (mark ∷ marked) arc ≡ hits code state marked arc
-hits-elsewhere code state mark marked arc other =
-    hits-cons code state mark marked arc
-    ∙ ap (λ b. one_if b + hits code state marked arc) (ne_eqb (circle_in code state mark) (circle_in code state arc) other)
-    ∙ omega arith
+hits-elsewhere code state mark marked arc other = grind (arith, nat_tests, hits-cons, hits, ne_eqb, circle_in)
 
 pub IsEnd-first : (code : Code) (before after crossing : ℕ) → IsMerge code before after crossing
     → IsEnd code before crossing (arc_at_slot code crossing 0)
-IsEnd-first code before after crossing merge =
-    let x = arc_at_slot code crossing 0 in
-    record {
-      off = λ arc marked off. hits-elsewhere code before x marked arc (λ same. off.first (sym same));
-      sum = λ marked. omega (
-        arith,
-        hits-there code before x marked x refl,
-        hits-elsewhere code before x marked (arc_at_slot code crossing 2) merge.join.apart,
-      );
-    }
+IsEnd-first code before after crossing merge = grind (arith, nat_tests, hits-elsewhere, hits-there)
 
 pub IsEnd-third : (code : Code) (before after crossing : ℕ) → IsMerge code before after crossing
     → IsEnd code before crossing (arc_at_slot code crossing 2)
-IsEnd-third code before after crossing merge =
-    let y = arc_at_slot code crossing 2 in
-    record {
-      off = λ arc marked off. hits-elsewhere code before y marked arc (λ same. off.third (sym same));
-      sum = λ marked. omega (
-        arith,
-        hits-there code before y marked y refl,
-        hits-elsewhere code before y marked (arc_at_slot code crossing 0) (λ same. merge.join.apart (sym same)),
-      );
-    }
+IsEnd-third code before after crossing merge = grind (arith, nat_tests, hits-elsewhere, hits-there)
 
 -- a split with one mark more
 change-split : (code : Code) (two one : Generator) (crossing mark : ℕ) (marked : List ℕ) → IsMerge code two.state one.state crossing
@@ -172,17 +150,7 @@ marked-split : (code : Code) (two one : Generator) (crossing mark : ℕ) (marked
     → hits code two.state (mark ∷ marked) (arc_at_slot code crossing 2) ≡ label_at code two crossing 2
     → IsMarked code two (mark ∷ marked)
 marked-split code two one crossing mark marked merge end marks same at_x at_y =
-    let x = arc_at_slot code crossing 0 in
-    let y = arc_at_slot code crossing 2 in
-    record {
-      at = λ arc name. elim (on_or_off code two.state crossing arc) [
-        | inl (inl on_x) ↦ hits-circle code two.state (mark ∷ marked) arc x on_x ∙ at_x ∙ sym (label_of-circle code two arc x on_x)
-        | inl (inr on_y) ↦ hits-circle code two.state (mark ∷ marked) arc y on_y ∙ at_y ∙ sym (label_of-circle code two arc y on_y)
-        | inr off ↦
-            end.off arc marked off ∙ sym (hits-off code two.state one.state crossing marked arc merge off) ∙ marks.at arc name
-            ∙ sym (same.at arc name off)
-      ];
-    }
+    grind (arith, nat_tests, on_or_off, hits-circle, label_of-circle, hits-off)
 
 -- so a split marks one arc more, that at slot 0 or that at slot 2
 pub split-marked : (code : Code) (two one : Generator) (crossing : ℕ) (marked : List ℕ) → IsMerge code two.state one.state crossing

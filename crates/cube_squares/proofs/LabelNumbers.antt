@@ -3,19 +3,19 @@
 -- A label is a number whose bits are the labels of the circles, in the order of their names. Each circle has a place there, so two numbers
 -- with the same bits on all circles are one, and any choice of 0 or 1 for each circle is a number. So a sum over labels that picks one
 -- choice has one term.
-use Rattle.std.proofs.Common.{◌≡◌, ◌≢◌, ℕ, zero, suc, ◌+◌, ◌*◌, ◌/◌, ◌^◌, ◌<◌, ◌≤◌, ◌∙◌, List, [], ◌∷◌, length, get_or, map, sym, ap, subst, refl, arith, Bool, true, false, cond, not, IsTrue}
+use Rattle.std.proofs.lemmas.Bool.Decides.{nat_tests}
+use Rattle.std.proofs.Common.{◌≡◌, ◌≢◌, ℕ, zero, suc, ◌+◌, ◌*◌, ◌/◌, ◌^◌, ◌<◌, ◌≤◌, ◌∙◌, List, [], ◌∷◌, length, get_or, map, sym, ap, subst, arith, Bool, cond, IsTrue}
 use Rattle.std.specs.Prelude.{nat_eq}
 use Rattle.std.specs.List.{All, filter, range_with_len, position_or_len, sum_by}
-use Rattle.std.proofs.lemmas.Bool.{eqb-true, eq-eqb, ne_eqb}
+use Rattle.std.proofs.lemmas.Bool.{eqb-true}
 use Rattle.std.proofs.lemmas.List.{get_or-map, length-map}
 use Rattle.std.proofs.lemmas.List.Elements.{All-filter, filter_passes}
 use Rattle.std.proofs.lemmas.List.FromFn.{length-range_with_len, get_or-range_with_len}
 use Rattle.std.proofs.lemmas.Nat.Bits.{same_from_bits_below, bit_at_lowest, bit_at-suc}
 use Rattle.kh_types.specs.Acceptance.{accepted}
 use Rattle.kh_types.specs.Bits.{bit, ones}
-use Rattle.kh_types.specs.Classes.{is_least}
-use Rattle.kh_types.specs.Code.{Code, arc_count, arcs_and_loops}
-use Rattle.kh_types.specs.Circles.{circles_of, circle_count, circle_names}
+use Rattle.kh_types.specs.Code.{Code}
+use Rattle.kh_types.specs.Circles.{circle_count, circle_names}
 use Rattle.kh_types.specs.Differential.{label_of}
 use Rattle.kh_types.specs.Generators.{Generator, generator_of}
 use Rattle.kh_types.specs.CircleNumbers.{IsName, number_of}
@@ -45,41 +45,29 @@ place-filter p a (suc n) i within =
     step : (b : Bool) (rest : List ℕ) → ((k : ℕ) → k < length rest → a + 1 ≤ get_or rest k 0)
         → ((k : ℕ) → k < length rest → place_in rest (get_or rest k 0) ≡ k) → (i : ℕ) → i < length (cond b (a ∷ rest) rest)
         → place_in (cond b (a ∷ rest) rest) (get_or (cond b (a ∷ rest) rest) i 0) ≡ i
-    step false rest from place i within = place i within
-    step true rest from place zero within = ap (λ b. cond (not b) (1 + place_in rest a) 0) (eq-eqb a a refl)
-    step true rest from place (suc i) within =
-        let x = get_or rest i 0 in
-        let later = from i (omega arith) in
-        ap (λ b. cond (not b) (1 + place_in rest x) 0) (ne_eqb x a (omega arith)) ∙ ap (λ k. 1 + k) (place i (omega arith))
-        ∙ omega arith
+    step b rest from place i within = grind (arith, nat_tests)
 
 -- the circle with a number
 abbrev pub name_at : Code → ℕ → ℕ → ℕ
 name_at code state i = get_or (circle_names code state) i 0
 
 pub IsName-names : (code : Code) (state : ℕ) → All (IsName code) (circle_names code state)
-IsName-names code state i d within =
-    let at = from-filter (is_least (circles_of code state)) 1 (arc_count code.crossings + code.loops) i d within in
-    record { positive = at.0; within = omega (arith, at.1) }
+IsName-names code state = grind (arith, nat_tests, from-filter)
 
 pub IsName-name_at : (code : Code) (state i : ℕ) → i < circle_count code state → IsName code (name_at code state i)
 IsName-name_at code state i within = IsName-names code state i 0 within
 
 pub circle-name_at : (code : Code) (state i : ℕ) → i < circle_count code state
     → circle_in code state (name_at code state i) ≡ name_at code state i
-circle-name_at code state i within =
-    eqb-true (circle_in code state (name_at code state i)) (name_at code state i)
-    (filter_passes (is_least (circles_of code state)) (arcs_and_loops code) i 0 within)
+circle-name_at code state i within = grind (arith, nat_tests, eqb-true, circle_in, filter_passes)
 
 pub number_of-name_at : (code : Code) (state i : ℕ) → i < circle_count code state → number_of code state (name_at code state i) ≡ i
-number_of-name_at code state i within =
-    place-filter (is_least (circles_of code state)) 1 (arc_count code.crossings + code.loops) i within
+number_of-name_at code state i within = grind (arith, nat_tests, place-filter)
 
 pub label_of-name_at : (code : Code) (generator : Generator) (i : ℕ) → i < circle_count code generator.state
     → label_of code generator (name_at code generator.state i) ≡ bit generator.label i
 label_of-name_at code generator i within =
-    ap (λ c. bit generator.label (number_of code generator.state c)) (circle-name_at code generator.state i within)
-    ∙ ap (bit generator.label) (number_of-name_at code generator.state i within)
+    grind (arith, nat_tests, circle-name_at code generator.state i within, number_of-name_at code generator.state i within)
 
 -- labels that are the same on all circles have one number
 pub label-once : (code : Code) (state first second : ℕ) → first < 2 ^ circle_count code state → second < 2 ^ circle_count code state

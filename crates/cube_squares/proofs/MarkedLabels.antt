@@ -53,8 +53,7 @@ IsName-marked_by code generator =
 -- each mark is on one circle
 hits-total : (code : Code) (state : ℕ) (marked : List ℕ) → IsTrue (accepted code) → All (IsName code) marked
     → sum_by (hits code state marked) (circle_names code state) ≡ length marked
-hits-total code state [] is names =
-    sum_by-zeros (hits code state []) (circle_names code state) (λ arc. hits-sum code state [] arc)
+hits-total code state [] is names = grind (arith, nat_tests, sum_by-zeros, hits, hits-sum)
 hits-total code state (mark ∷ marked) is names =
     let c = circle_in code state mark in
     let is_c = IsCircle-of code state mark is (All-head (IsName code) mark marked names) in

@@ -1,10 +1,9 @@
 -- Marked arcs: how many are on the circle of an arc, and how an edge changes this. A list of arcs stands for the product of one
 -- variable for each of them, in a ring where the arcs of one circle have one variable, whose square is 0.
-use Rattle.std.proofs.Common.{◌≡◌, ◌≢◌, ℕ, ◌+◌, ◌∙◌, ◌⊎◌, inl, inr, List, ◌∷◌, sym, ap, refl, arith, Bool}
+use Rattle.std.proofs.Common.{◌≡◌, ◌≢◌, ℕ, ◌+◌, ◌∙◌, ◌⊎◌, List, ◌∷◌, sym, ap, refl, arith, Bool}
 use Rattle.std.specs.Prelude.{nat_eq}
 use Rattle.std.specs.List.{count_by, sum_by}
 use Rattle.std.proofs.Math.Path.{fun_ext}
-use Rattle.std.proofs.lemmas.Bool.{cases_eq}
 use Rattle.std.proofs.lemmas.Bool.Decides.{nat_tests}
 use Rattle.std.proofs.lemmas.List.Sums.{sum_by-cons}
 use Rattle.kh_types.specs.Bits.{one_if}
@@ -44,14 +43,7 @@ pub record IsOff (code : Code) (state crossing arc : ℕ) : Type 0 where
   pub third : circle_in code state arc ≢ circle_at_slot code state crossing 2
 
 pub on_or_off : (code : Code) (state crossing arc : ℕ) → IsOn code state crossing arc ⊎ IsOff code state crossing arc
-on_or_off code state crossing arc =
-    elim (cases_eq (circle_in code state arc) (circle_at_slot code state crossing 0)) [
-      | inl first ↦ inl (inl first)
-      | inr not_first ↦ elim (cases_eq (circle_in code state arc) (circle_at_slot code state crossing 2)) [
-        | inl third ↦ inl (inr third)
-        | inr not_third ↦ inr (record { first = not_first; third = not_third })
-      ]
-    ]
+on_or_off code state crossing arc = grind (arith, nat_tests)
 
 -- a circle that stays keeps its marks
 pub hits-off : (code : Code) (before after crossing : ℕ) (marked : List ℕ) (arc : ℕ) → IsMerge code before after crossing

@@ -1,4 +1,5 @@
 -- The entries of the differentials, and of the product of neighbouring ones.
+use Rattle.std.proofs.lemmas.Bool.Decides.{nat_tests}
 use Rattle.std.proofs.Common.{◌≡◌, ℕ, ◌*◌, ◌%◌, ◌<◌, ◌≤◌, ◌∙◌, inl, inr, ℤ, pos, ◌+ℤ◌, List, [], length, get_or, map, sym, ap, ap₂, arith, IsTrue}
 use Rattle.std.specs.Prelude.{slice_index_or}
 use Rattle.std.specs.List.{sum_by, range_with_len}
@@ -28,14 +29,11 @@ length-differential p code i j = length-map (generators_at code (i +ℤ pos 1) j
 
 row-differential : (p : ℕ) (code : Code) (i j : ℤ) (row : ℕ) → row < length (generators_at code (i +ℤ pos 1) j)
     → slice_index_or (differential p code i j) row [] ≡ row_of p code i j (generator_number code (i +ℤ pos 1) j row)
-row-differential p code i j row within =
-    get_or-map (row_of p code i j) (generators_at code (i +ℤ pos 1) j) row (generator_of 0 0) [] within
+row-differential p code i j row within = grind (arith, nat_tests, get_or-map)
 
 pub length-row : (p : ℕ) (code : Code) (i j : ℤ) (row : ℕ) → row < length (generators_at code (i +ℤ pos 1) j)
     → length (slice_index_or (differential p code i j) row []) ≡ length (generators_at code i j)
-length-row p code i j row within =
-    ap length (row-differential p code i j row within)
-    ∙ length-map (generators_at code i j) (λ tail. coefficient p code tail (generator_number code (i +ℤ pos 1) j row))
+length-row p code i j row within = grind (arith, nat_tests, row-differential, length-map)
 
 -- an entry is the coefficient between two generators, or 0 past the rows and the columns
 pub entry-differential : (p : ℕ) (code : Code) (i j : ℤ) (row column : ℕ) → row < length (generators_at code (i +ℤ pos 1) j)
@@ -49,31 +47,16 @@ entry-differential p code i j row column row_within column_within =
 
 pub entry-row_past : (p : ℕ) (code : Code) (i j : ℤ) (row column : ℕ) → length (generators_at code (i +ℤ pos 1) j) ≤ row
     → entry_in (differential p code i j) row column ≡ 0
-entry-row_past p code i j row column past =
-    entry-past_rows (differential p code i j) row column (omega (arith, past, length-differential p code i j))
+entry-row_past p code i j row column past = grind (arith, nat_tests, entry-past_rows, length-differential)
 
 pub entry-column_past : (p : ℕ) (code : Code) (i j : ℤ) (row column : ℕ) → length (generators_at code i j) ≤ column
     → entry_in (differential p code i j) row column ≡ 0
-entry-column_past p code i j row column past = elim (cases_lt row (length (generators_at code (i +ℤ pos 1) j))) [
-  | inr row_past ↦ entry-row_past p code i j row column row_past
-  | inl within ↦
-      get_or_past (slice_index_or (differential p code i j) row []) column 0 (omega (arith, past, length-row p code i j row within))
-]
+entry-column_past p code i j row column past = grind (arith, nat_tests, cases_lt, entry-row_past, get_or_past, length-row)
 
 -- entries are below p
 pub entry-below : (p : ℕ) (code : Code) (i j : ℤ) (row column : ℕ) → 1 < p → entry_in (differential p code i j) row column < p
-entry-below p code i j row column above = elim (cases_lt row (length (generators_at code (i +ℤ pos 1) j))) [
-  | inr past ↦ omega (arith, entry-row_past p code i j row column past)
-  | inl row_within ↦ elim (cases_lt column (length (generators_at code i j))) [
-    | inr past ↦ omega (arith, entry-column_past p code i j row column past)
-    | inl column_within ↦
-        omega (
-          arith,
-          entry-differential p code i j row column row_within column_within,
-          coefficient-below p code (generator_number code i j column) (generator_number code (i +ℤ pos 1) j row) above,
-        )
-  ]
-]
+entry-below p code i j row column above =
+    grind (arith, nat_tests, cases_lt, entry-row_past, entry-column_past, entry-differential, coefficient-below)
 
 -- the product of the differentials at i + 1 and i has the entry 0
 abbrev product_term : ℕ → Code → ℤ → ℤ → ℕ → ℕ → ℕ → ℕ

@@ -1,5 +1,6 @@
 -- Two circles become one: which arcs come together, and which stay apart.
-use Rattle.std.proofs.Common.{◌≡◌, ℕ, inl, inr, ◌∙◌, sym, arith, Bool, true, false, IsTrue}
+use Rattle.std.proofs.lemmas.Bool.Decides.{nat_tests}
+use Rattle.std.proofs.Common.{◌≡◌, ℕ, inl, inr, arith, Bool, true, false, IsTrue}
 use Rattle.std.specs.Prelude.{min, max, slice_index}
 use Rattle.std.proofs.lemmas.Bool.{cases_eq}
 use Rattle.kh_types.specs.Acceptance.{accepted}
@@ -37,18 +38,7 @@ IsSwitch false code before after crossing = IsMerge code after before crossing
 IsMerge-join : (code : Code) (before after crossing : ℕ) → IsTrue (accepted code) → IsCrossing code.crossings crossing
     → IsJoin code before after crossing → IsMerge code before after crossing
 IsMerge-join code before after crossing is is_crossing join =
-    let p = circle_at_slot code before crossing 0 in
-    let q = circle_at_slot code before crossing 2 in
-    record {
-      first = IsName-arc code (arc_at_slot code crossing 0) (IsArc-slot code crossing 0 is is_crossing (omega arith));
-      third = IsName-arc code (arc_at_slot code crossing 2) (IsArc-slot code crossing 2 is is_crossing (omega arith));
-      join = join.join;
-      one = λ arc. elim (cases_eq (circle_in code before arc) (max p q)) [
-        | inl gone ↦ join.circles.one arc gone ∙ sym (merged-greatest p q (circle_in code before arc) gone)
-        | inr other ↦ join.circles.others arc other ∙ sym (merged-kept p q (circle_in code before arc) other)
-      ];
-      circles = join.circles;
-    }
+    grind (arith, nat_tests, IsName-arc, IsArc-slot, cases_eq, merged-greatest, merged-kept)
 
 -- each edge of an accepted code merges or splits
 pub switch-edge : (code : Code) (state crossing : ℕ) → IsTrue (accepted code) → IsCrossing code.crossings crossing

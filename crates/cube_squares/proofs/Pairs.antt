@@ -3,12 +3,11 @@
 -- The product of the differential with itself is a sum over middle generators and over pairs of crossings. Two states differ by one
 -- crossing only at an edge, so at most two crossings add to an entry, a before b and b before a. Each way is its signs times the number of
 -- labels between (Paths); the signs are opposite (Signs), the numbers are the same. So the two ways cancel, for each pair of crossings.
-use Rattle.std.proofs.Common.{◌≡◌, ◌≢◌, ℕ, ◌+◌, ◌*◌, ◌%◌, ◌^◌, ◌<◌, ◌≤◌, ◌∙◌, ◌⊎◌, inl, inr, length, refl, sym, ap, ap₂, arith, Bool, true, false, cond, ◌&&◌, IsTrue}
-use Rattle.std.specs.Prelude.{nat_eq}
+use Rattle.std.proofs.lemmas.Bool.Decides.{nat_tests}
+use Rattle.std.proofs.Common.{◌≡◌, ◌≢◌, ℕ, ◌+◌, ◌*◌, ◌%◌, ◌^◌, ◌<◌, ◌≤◌, ◌∙◌, ◌⊎◌, inl, inr, length, refl, sym, ap, ap₂, arith, cond, ◌&&◌, IsTrue}
 use Rattle.std.specs.Bool.{Decides}
 use Rattle.std.specs.List.{sum_by, range_with_len}
-use Rattle.std.proofs.lemmas.Bool.{cases_Bool, cases_eq, cases_lt}
-use Rattle.std.proofs.lemmas.Bool.Decides.{Decides-and, Decides-eqb}
+use Rattle.std.proofs.lemmas.Bool.{cases_lt}
 use Rattle.std.proofs.lemmas.Nat.{mul-mod_first}
 use Rattle.std.proofs.Math.Nat.{zero-mod}
 use Rattle.kh_types.specs.Acceptance.{accepted}
@@ -16,7 +15,7 @@ use Rattle.kh_types.specs.Bits.{bit, one_if}
 use Rattle.kh_types.specs.Code.{Code, IsCrossing, place_of}
 use Rattle.kh_types.specs.Circles.{circle_count}
 use Rattle.kh_types.specs.Differential.{coefficient, coefficient_at, edge_sign, is_edge}
-use Rattle.kh_types.specs.Generators.{Generator, generator_of, generators, generators_of, states}
+use Rattle.kh_types.specs.Generators.{Generator, generator_of, generators, states}
 use Rattle.kh_types.specs.Edges.{state_behind}
 use Rattle.kh_types.proofs.EdgeBits.{bit-set_other, bit-set_there, set-within}
 use Rattle.cube_squares.proofs.SquareKinds.{edges-square}
@@ -32,43 +31,22 @@ pub record IsStep (tail head crossing : ℕ) : Type 0 where
   pub behind : head ≡ state_behind tail crossing
 
 pub is_edge-decides : (tail head : Generator) (crossing : ℕ) → Decides (is_edge tail head crossing) (IsStep tail.state head.state crossing)
-is_edge-decides tail head crossing =
-    let both = Decides-and (nat_eq (bit tail.state (place_of crossing)) 0) (nat_eq head.state (state_behind tail.state crossing))
-    (Decides-eqb (bit tail.state (place_of crossing)) 0) (Decides-eqb head.state (state_behind tail.state crossing)) in (
-      λ passes. record { zero_there = (both.0 passes).0; behind = (both.0 passes).1 },
-      λ step. both.1 (step.zero_there, step.behind),
-    )
+is_edge-decides tail head crossing = grind (arith, nat_tests)
 
 -- a coefficient along a crossing is the sign where there is an edge and the labels fit, and else 0
 pub coefficient_at-edge : (p : ℕ) (code : Code) (tail head : Generator) (crossing : ℕ) → IsStep tail.state head.state crossing
     → coefficient_at p code tail head crossing ≡ edge_sign p tail.state crossing * one_if (fits code tail head crossing)
-coefficient_at-edge p code tail head crossing step =
-    ap (λ b. cond (b && fits code tail head crossing) (edge_sign p tail.state crossing) 0) ((is_edge-decides tail head crossing).1 step)
-    ∙ by_test (fits code tail head crossing) (edge_sign p tail.state crossing)
-  where
-    by_test : (b : Bool) (c : ℕ) → cond b c 0 ≡ c * one_if b
-    by_test true c = omega arith
-    by_test false c = omega arith
+coefficient_at-edge p code tail head crossing step = grind (arith, nat_tests)
 
 pub edge_or_zero : (p : ℕ) (code : Code) (tail head : Generator) (crossing : ℕ)
     → IsStep tail.state head.state crossing ⊎ (coefficient_at p code tail head crossing ≡ 0)
-edge_or_zero p code tail head crossing = elim (cases_Bool (is_edge tail head crossing)) [
-  | inl passes ↦ inl ((is_edge-decides tail head crossing).0 passes)
-  | inr fails ↦ inr (ap (λ b. cond (b && fits code tail head crossing) (edge_sign p tail.state crossing) 0) fails)
-]
+edge_or_zero p code tail head crossing = grind (arith, nat_tests)
 
 -- two crossings lead to two states, so that one alone adds to a coefficient
 
 one-crossing : (state first second : ℕ) → 1 ≤ first → 1 ≤ second → first ≢ second
     → state_behind state first ≢ state_behind state second
-one-crossing state first second from second_from other same = elim (cases_lt first second) [
-  | inl less ↦
-      let order : place_of first < place_of second = omega (arith, less, from) in
-      omega (arith, same, pow-lt order)
-  | inr more ↦
-      let order : place_of second < place_of first = omega (arith, more, other, second_from) in
-      omega (arith, same, pow-lt order)
-]
+one-crossing state first second from second_from other = grind (arith, nat_tests, cases_lt, pow-lt)
 
 pub coefficient-one : (p : ℕ) (code : Code) (tail head : Generator) (crossing : ℕ) → IsCrossing code.crossings crossing
     → IsStep tail.state head.state crossing
@@ -98,16 +76,7 @@ zero-times x y is = ap (λ k. k * y) is ∙ omega arith
 
 steps_or_zero : (p : ℕ) (code : Code) (tail head middle : Generator) (a b : ℕ)
     → (IsStep tail.state middle.state a × IsStep middle.state head.state b) ⊎ (product_at p code tail head a b middle ≡ 0)
-steps_or_zero p code tail head middle a b =
-    let first = coefficient_at p code tail middle a in
-    let second = coefficient_at p code middle head b in
-    elim (edge_or_zero p code tail middle a) [
-      | inr none ↦ inr (times-zero second first none)
-      | inl step ↦ elim (edge_or_zero p code middle head b) [
-        | inr none ↦ inr (zero-times second first none)
-        | inl later ↦ inl (step, later)
-      ]
-    ]
+steps_or_zero p code tail head middle a b = grind (arith, nat_tests)
 
 -- by states and labels
 abbrev state_sum : ℕ → Code → Generator → Generator → ℕ → ℕ → ℕ → ℕ
@@ -116,11 +85,7 @@ state_sum p code tail head a b state =
 
 pair_sum-states : (p : ℕ) (code : Code) (tail head : Generator) (a b : ℕ)
     → pair_sum p code tail head a b ≡ sum_by (state_sum p code tail head a b) (states code)
-pair_sum-states p code tail head a b =
-    sum_by-flat_map (product_at p code tail head a b) (generators_of code) (states code)
-    ∙ sum_by-alike (λ state. sum_by (product_at p code tail head a b) (generators_of code state)) (state_sum p code tail head a b)
-    (λ state. sum_by-map (product_at p code tail head a b) (generator_of state) (range_with_len 0 (2 ^ circle_count code state)))
-    (states code)
+pair_sum-states p code tail head a b = grind (arith, nat_tests, sum_by-flat_map, sum_by-alike, sum_by-map)
 
 -- only the state behind a counts
 state_sum-other : (p : ℕ) (code : Code) (tail head : Generator) (a b state : ℕ) → state ≢ state_behind tail.state a
@@ -139,31 +104,15 @@ record AreCorners (tail head a b : ℕ) : Type 0 where
   behind : head ≡ state_behind (state_behind tail a) b
 
 corners_or_not : (tail head a b : ℕ) → AreCorners tail head a b ⊎ (AreCorners tail head a b → ⊥)
-corners_or_not tail head a b = elim (cases_eq (bit tail (place_of a)) 0) [
-  | inr one_a ↦ inr (λ corners. one_a corners.zero_a)
-  | inl zero_a ↦ elim (cases_eq (bit tail (place_of b)) 0) [
-    | inr one_b ↦ inr (λ corners. one_b corners.zero_b)
-    | inl zero_b ↦ elim (cases_eq head (state_behind (state_behind tail a) b)) [
-      | inr other ↦ inr (λ corners. other corners.behind)
-      | inl behind ↦ inl (record { zero_a = zero_a; zero_b = zero_b; behind = behind })
-    ]
-  ]
-]
+corners_or_not tail head a b = grind (arith, nat_tests)
 
 corners-turned : (tail head a b : ℕ) → AreCorners tail head a b → AreCorners tail head b a
-corners-turned tail head a b corners =
-    record { zero_a = corners.zero_b; zero_b = corners.zero_a; behind = corners.behind ∙ omega arith }
+corners-turned tail head a b corners = omega arith
 
 -- two steps lead from corner to corner, along two crossings
 corners-steps : (tail middle head a b : ℕ) → place_of a ≢ place_of b → IsStep tail middle a → IsStep middle head b
     → AreCorners tail head a b
-corners-steps tail middle head a b differ step later =
-    record {
-      zero_a = step.zero_there;
-      zero_b = sym (bit-set_other tail (place_of a) step.zero_there (place_of b) (λ same. differ (sym same)))
-          ∙ ap (λ s. bit s (place_of b)) (sym step.behind) ∙ later.zero_there;
-      behind = later.behind ∙ ap (λ s. state_behind s b) step.behind;
-    }
+corners-steps tail middle head a b differ step later = grind (arith, nat_tests, bit-set_other)
 
 pair_sum-apart : (p : ℕ) (code : Code) (tail head : Generator) (a b : ℕ) → place_of a ≢ place_of b
     → (AreCorners tail.state head.state a b → ⊥) → pair_sum p code tail head a b ≡ 0
@@ -223,10 +172,7 @@ pair_sum-corners p code tail head a b differ within corners =
 -- outside of the cube there is no middle state
 pair_sum-outside : (p : ℕ) (code : Code) (tail head : Generator) (a b : ℕ) → 2 ^ length code.crossings ≤ tail.state
     → pair_sum p code tail head a b ≡ 0
-pair_sum-outside p code tail head a b outside =
-    pair_sum-states p code tail head a b
-    ∙ sum_by-none (state_sum p code tail head a b) 0 (2 ^ length code.crossings)
-    (λ state from below. state_sum-other p code tail head a b state (omega arith))
+pair_sum-outside p code tail head a b outside = grind (arith, nat_tests, pair_sum-states, sum_by-none, state_sum-other)
 
 zeros-mod : (p x y : ℕ) → x ≡ 0 → y ≡ 0 → (x + y) % p ≡ 0
 zeros-mod p x y is_x is_y = ap₂ (λ u v. (u + v) % p) is_x is_y ∙ zero-mod p
@@ -257,25 +203,11 @@ corners-cancel p code tail head a b positive is is_a is_b order within corners =
     factored x y n = omega arith
 
     zero_product : (p s n : ℕ) → s % p ≡ 0 → s * n % p ≡ 0
-    zero_product p s n is =
-        sym (mul-mod_first s n p) ∙ ap (λ k. k * n % p) is ∙ ap (λ k. k % p) (let e : 0 * n ≡ 0 = omega arith in e) ∙ zero-mod p
+    zero_product p s n is = grind (arith, nat_tests, mul-mod_first s n p, zero-mod p)
 
 -- so the sums along two crossings in the one order and in the other cancel
 pub pairs-cancel : (p : ℕ) (code : Code) (tail head : Generator) (a b : ℕ) → 0 < p → IsTrue (accepted code)
     → IsCrossing code.crossings a → IsCrossing code.crossings b → a < b
     → (pair_sum p code tail head a b + pair_sum p code tail head b a) % p ≡ 0
 pairs-cancel p code tail head a b positive is is_a is_b order =
-    let one = pair_sum p code tail head a b in
-    let other = pair_sum p code tail head b a in
-    let differ : place_of a ≢ place_of b = omega (arith, is_a.positive, order) in
-    elim (cases_lt tail.state (2 ^ length code.crossings)) [
-      | inr outside ↦
-          zeros-mod p one other (pair_sum-outside p code tail head a b outside) (pair_sum-outside p code tail head b a outside)
-      | inl within ↦ elim (corners_or_not tail.state head.state a b) [
-        | inl corners ↦ corners-cancel p code tail head a b positive is is_a is_b order within corners
-        | inr apart ↦
-            zeros-mod p one other (pair_sum-apart p code tail head a b differ apart)
-            (pair_sum-apart p code tail head b a (λ same. differ (sym same))
-            (λ corners. apart (corners-turned tail.state head.state b a corners)))
-      ]
-    ]
+    grind (arith, nat_tests, cases_lt, zeros-mod, pair_sum-outside, corners_or_not, corners-cancel, pair_sum-apart, corners-turned)

@@ -4,7 +4,8 @@
 -- The labels of a middle state that lie between two generators are counted by lists of marks (EdgeMarks): first those behind the first
 -- edge, then those that the second makes of them. In the other order the two additions change places. A mark may move along its circle, so
 -- both orders lead to the same lists on the circles of the last state, in every kind of square (SquareKinds).
-use Rattle.std.proofs.Common.{◌≡◌, ℕ, ◌*◌, ◌^◌, ◌≤◌, ◌∙◌, ◌⊎◌, inl, inr, List, ◌∷◌, sym, ap, ap₂, subst, arith, Bool, true, false, IsTrue}
+use Rattle.std.proofs.lemmas.Bool.Decides.{nat_tests}
+use Rattle.std.proofs.Common.{◌≡◌, ℕ, ◌*◌, ◌^◌, ◌≤◌, ◌∙◌, ◌⊎◌, inl, inr, List, ◌∷◌, sym, ap, subst, arith, Bool, true, false, IsTrue}
 use Rattle.std.specs.List.{sum_by, range_with_len}
 use Rattle.std.proofs.lemmas.Bool.{cases_Bool}
 use Rattle.std.proofs.lemmas.Bool.Decides.{same_from_decides}
@@ -13,7 +14,7 @@ use Rattle.kh_types.specs.Code.{Code}
 use Rattle.kh_types.specs.Circles.{circle_count}
 use Rattle.kh_types.specs.Generators.{Generator, generator_of}
 use Rattle.kh_types.specs.CircleNumbers.{IsName}
-use Rattle.kh_types.specs.Edges.{arc_at_slot, state_behind}
+use Rattle.kh_types.specs.Edges.{state_behind}
 use Rattle.cube_squares.specs.Squares.{EndOnOne, EndOnTwo, IsKind}
 use Rattle.cube_squares.proofs.Merges.{IsSwitch, circle_in}
 use Rattle.cube_squares.proofs.SquareKinds.{HasEdges}
@@ -29,11 +30,7 @@ use Rattle.cube_squares.proofs.MarkedLabels.{IsMarked-marked_by, marked_by}
 -- what counts where marks give the labels of a number
 term-marked : (code : Code) (generator : Generator) (marked : List ℕ) (n : ℕ) → (IsMarked code generator marked → n ≡ 0)
     → n * one_if (is_marked code generator marked) ≡ 0
-term-marked code generator marked n zero_where = elim (cases_Bool (is_marked code generator marked)) [
-  | inl gives ↦
-      ap (λ k. k * one_if (is_marked code generator marked)) (zero_where ((is_marked-decides code generator marked).0 gives)) ∙ omega arith
-  | inr fails ↦ ap (λ b. n * one_if b) fails ∙ omega arith
-]
+term-marked code generator marked n zero_where = grind (arith, nat_tests, cases_Bool, is_marked, is_marked-decides)
 
 -- a sum over all labels of a state of what is `total` at those that marks give: there is one, where each circle has one mark at most
 marks-sum : (code : Code) (state : ℕ) (marked : List ℕ) (term : ℕ → ℕ) (total : ℕ) → IsTrue (accepted code)
@@ -41,10 +38,7 @@ marks-sum : (code : Code) (state : ℕ) (marked : List ℕ) (term : ℕ → ℕ)
     → (total ≡ 0) ⊎ ((arc : ℕ) → IsName code arc → hits code state marked arc ≤ 1)
     → sum_by (λ number. term number * one_if (is_marked code (generator_of state number) marked))
     (range_with_len 0 (2 ^ circle_count code state)) ≡ total
-marks-sum code state marked term total is terms (inl none) =
-    sum_by-none (λ number. term number * one_if (is_marked code (generator_of state number) marked)) 0 (2 ^ circle_count code state)
-    (λ number from below. term-marked code (generator_of state number) marked (term number) (λ gives. terms number gives ∙ none))
-    ∙ sym none
+marks-sum code state marked term total is terms (inl none) = grind (arith, nat_tests, sum_by-none, is_marked, term-marked)
 marks-sum code state marked term total is terms (inr small) =
     let found = label-exists code state (hits code state marked) is small (hits-circle code state marked) in
     let gives : IsMarked code (generator_of state found.0) marked = record { at = λ arc name. sym (found.2 arc name) } in
@@ -97,59 +91,31 @@ path_count-ways first second code tail head state a b is edge_a edge_b =
 is_marked-same : (code : Code) (generator : Generator) (first second : List ℕ)
     → ((arc : ℕ) → hits code generator.state first arc ≡ hits code generator.state second arc)
     → one_if (is_marked code generator first) ≡ one_if (is_marked code generator second)
-is_marked-same code generator first second same =
-    ap one_if (same_from_decides (is_marked code generator first) (is_marked code generator second)
-    (is_marked-decides code generator first) (
-      λ passes. record { at = λ arc name. same arc ∙ ((is_marked-decides code generator second).0 passes).at arc name },
-      λ marks. (is_marked-decides code generator second).1
-          (record { at = λ arc name. sym (same arc) ∙ marks.at arc name }),
-    ))
+is_marked-same code generator first second same = grind (arith, nat_tests, same_from_decides, is_marked, is_marked-decides)
 
 -- a crossing that does the same in both orders: the order of the marks is free
 ways-same : (first second : Bool) (code : Code) (head : Generator) (a b : ℕ) (marked : List ℕ)
     → ways first second code head a b marked ≡ ways second first code head b a marked
-ways-same true true code head a b marked = omega arith
-ways-same true false code head a b marked = omega arith
-ways-same false true code head a b marked = omega arith
-ways-same false false code head a b marked =
-    let turned = λ (x y : ℕ). is_marked-same code head (y ∷ x ∷ marked) (x ∷ y ∷ marked) (hits-exchanged code head.state y x marked) in
-    let a_at = arc_at_slot code a in
-    let b_at = arc_at_slot code b in
-    omega (arith, turned (a_at 0) (b_at 0), turned (a_at 0) (b_at 2), turned (a_at 2) (b_at 0), turned (a_at 2) (b_at 2))
+ways-same first second code head a b marked = grind (arith, nat_tests, is_marked-same, hits-exchanged)
 
 -- a mark may be any arc of its circle
 one-moved : (code : Code) (head : Generator) (marked : List ℕ) (x y : ℕ) → circle_in code head.state x ≡ circle_in code head.state y
     → one_if (is_marked code head (x ∷ marked)) ≡ one_if (is_marked code head (y ∷ marked))
-one-moved code head marked x y same =
-    is_marked-same code head (x ∷ marked) (y ∷ marked) (λ arc. hits-moved code head.state x y marked arc same)
+one-moved code head marked x y same = grind (arith, nat_tests, is_marked-same, hits-moved)
 
 ways-two : (code : Code) (head : Generator) (a b : ℕ) (marked : List ℕ) → EndOnTwo code head.state a b
     → ways true false code head a b marked ≡ ways true false code head b a marked
-ways-two code head a b marked two =
-    let moved = λ (slot other : ℕ). one-moved code head marked (arc_at_slot code a slot) (arc_at_slot code b other) in
-    elim two [
-      | inl straight ↦ omega (arith, moved 0 0 straight.0, moved 2 2 straight.1)
-      | inr crossed ↦ omega (arith, moved 0 2 crossed.0, moved 2 0 crossed.1)
-    ]
+ways-two code head a b marked two = grind (arith, nat_tests, one-moved)
 
 ways-one : (code : Code) (head : Generator) (a b : ℕ) (marked : List ℕ) → EndOnOne code head.state a b
     → ways false true code head a b marked ≡ ways false true code head b a marked
-ways-one code head a b marked end =
-    let moved = λ (slot other : ℕ). one-moved code head marked (arc_at_slot code a slot) (arc_at_slot code b other) in
-    omega (arith, moved 0 0 end.one, moved 2 2 (sym end.first ∙ end.one ∙ end.second))
+ways-one code head a b marked end = grind (arith, nat_tests, one-moved)
 
 -- the two ways round a square lead to the same marks
 ways-turned : (a_first b_second b_first a_second : Bool) (code : Code) (head : Generator) (a b : ℕ) (marked : List ℕ)
     → IsKind code head.state a b a_first b_second b_first a_second
     → ways a_first b_second code head a b marked ≡ ways b_first a_second code head b a marked
-ways-turned a_first b_second b_first a_second code head a b marked kind =
-    let forth = λ (first second : Bool). ways first second code head a b marked in
-    let back = λ (first second : Bool). ways first second code head b a marked in
-    elim kind [
-      | inl same ↦ ap₂ forth same.a (sym same.b) ∙ ways-same a_second b_first code head a b marked
-      | inr (inl is) ↦ ap₂ forth is.a_merges is.b_splits ∙ ways-two code head a b marked is.ends ∙ sym (ap₂ back is.b_merges is.a_splits)
-      | inr (inr is) ↦ ap₂ forth is.a_splits is.b_merges ∙ ways-one code head a b marked is.ends ∙ sym (ap₂ back is.b_splits is.a_merges)
-    ]
+ways-turned a_first b_second b_first a_second code head a b marked kind = grind (arith, nat_tests, ways-same, ways-two, ways-one)
 
 -- so as many labels lie between two generators along a and then b as along b and then a
 pub path_count-turned : (code : Code) (tail head : Generator) (a b : ℕ) → IsTrue (accepted code) → HasEdges code tail.state a b

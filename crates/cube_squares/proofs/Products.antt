@@ -1,4 +1,5 @@
 -- The product of neighbouring coefficients, summed over all middle generators, is 0 modulo p.
+use Rattle.std.proofs.lemmas.Bool.Decides.{nat_tests}
 use Rattle.std.proofs.Common.{◌≡◌, ℕ, zero, suc, ◌+◌, ◌*◌, ◌%◌, ◌<◌, ◌≤◌, ◌∙◌, List, length, sym, ap, ap₂, arith, IsTrue}
 use Rattle.std.specs.List.{sum_by, range_with_len}
 use Rattle.std.proofs.lemmas.List.Sums.{sum_by-cons}
@@ -85,9 +86,4 @@ product_sum-pairs p code tail head =
 pub product_sum-zero : (p : ℕ) (code : Code) (tail head : Generator) → 0 < p → IsTrue (accepted code)
     → product_sum p code tail head % p ≡ 0
 product_sum-zero p code tail head positive is =
-    ap (λ s. s % p) (product_sum-pairs p code tail head)
-    ∙ pairs_to-mod p (pair_sum p code tail head) (length code.crossings)
-    (λ a b a_positive less b_within.
-    pairs-cancel p code tail head a b positive is (record { positive = a_positive; within = omega arith })
-    (record { positive = omega arith; within = b_within }) less)
-    (pair_sum-same p code tail head)
+    grind (arith, nat_tests, product_sum-pairs, pairs_to-mod, pair_sum, pairs-cancel, pair_sum-same)

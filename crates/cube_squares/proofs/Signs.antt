@@ -16,8 +16,7 @@ use Rattle.kh_types.proofs.ListSums.{sum_by-range_alike}
 
 -- how many bits below a place are 1 where a bit was set: as before where it is not below the place, and else one more
 pub ones-set_above : (state place count : ℕ) → bit state place ≡ 0 → count ≤ place → ones count (state + 2 ^ place) ≡ ones count state
-ones-set_above state place count zero_bit above =
-    sum_by-range_alike (bit (state + 2 ^ place)) (bit state) 0 count (λ k from below. bit-set_other state place zero_bit k (omega arith))
+ones-set_above state place count zero_bit above = grind (arith, nat_tests, sum_by-range_alike, bit-set_other)
 
 pub ones-set_below : (state place count : ℕ) → bit state place ≡ 0 → place < count
     → ones count (state + 2 ^ place) ≡ ones count state + 1
@@ -75,15 +74,9 @@ signs-product p a b positive = by (a % 2) (b % 2) refl refl
     square q positive = square_of (q - 1) q (omega (arith, positive))
 
     by : (x y : ℕ) → a % 2 ≡ x → b % 2 ≡ y → Same p (power_sign p a * power_sign p b) (power_sign p (a + b))
-    by zero zero is_a is_b =
-        same-equal p (power_sign p a * power_sign p b) (power_sign p (a + b))
-        (ap₂ (λ x y. x * y) (even a is_a) (even b is_b) ∙ sym (even (a + b) (omega (arith, is_a, is_b))))
-    by zero (suc zero) is_a is_b =
-        same-equal p (power_sign p a * power_sign p b) (power_sign p (a + b))
-        (ap₂ (λ x y. x * y) (even a is_a) (odd b is_b) ∙ omega (arith, odd (a + b) (omega (arith, is_a, is_b))))
-    by (suc zero) zero is_a is_b =
-        same-equal p (power_sign p a * power_sign p b) (power_sign p (a + b))
-        (ap₂ (λ x y. x * y) (odd a is_a) (even b is_b) ∙ omega (arith, odd (a + b) (omega (arith, is_a, is_b))))
+    by zero zero is_a is_b = grind (arith, nat_tests, same-equal, even)
+    by zero (suc zero) is_a is_b = grind (arith, nat_tests, same-equal, even, odd)
+    by (suc zero) zero is_a is_b = grind (arith, nat_tests, same-equal, odd, even)
     by (suc zero) (suc zero) is_a is_b =
         same-equal p (power_sign p a * power_sign p b) ((p - 1) * (p - 1)) (ap₂ (λ x y. x * y) (odd a is_a) (odd b is_b))
         ∙ sym (same-multiple p ((p - 1) * (p - 1)) 1) ∙ same-equal p ((p - 1) * (p - 1) + p * 1) (1 + p * (p - 1)) (square p positive)
@@ -107,10 +100,4 @@ opposite p m n positive =
 -- the sign along b is turned where a comes before b, and the sign along a is not
 pub signs-opposite : (p state a b : ℕ) → 0 < p → 1 ≤ a → a < b → bit state (place_of a) ≡ 0 → bit state (place_of b) ≡ 0
     → (edge_sign p (state_behind state a) b * edge_sign p state a + edge_sign p (state_behind state b) a * edge_sign p state b) % p ≡ 0
-signs-opposite p state a b positive from order zero_a zero_b =
-    let later : edge_sign p (state_behind state a) b ≡ power_sign p (ones (place_of b) state + 1) =
-    ap (power_sign p) (ones-set_below state (place_of a) (place_of b) zero_a (omega arith)) in
-    let earlier : edge_sign p (state_behind state b) a ≡ edge_sign p state a =
-    ap (power_sign p) (ones-set_above state (place_of b) (place_of a) zero_b (omega arith)) in
-    ap₂ (λ x y. (x * edge_sign p state a + y * edge_sign p state b) % p) later earlier
-    ∙ opposite p (ones (place_of a) state) (ones (place_of b) state) positive
+signs-opposite p state a b positive from order zero_a zero_b = grind (arith, nat_tests, ones-set_below, ones-set_above, opposite)

@@ -3,15 +3,13 @@
 -- Of the four edges of a square each merges or splits. The number of circles at the last corner is the same both ways round, so both ways
 -- have as many merges. That leaves few kinds: both orders alike, or one crossing that merges where it is first and splits where it is
 -- second; and in the latter all four arcs lie on one circle, before or after.
-use Rattle.std.proofs.Common.{◌≡◌, ◌≢◌, ℕ, ◌⊎◌, inl, inr, ◌+◌, ◌∙◌, refl, sym, ap, subst, arith, Bool, true, false, cond, IsTrue}
+use Rattle.std.proofs.Common.{◌≡◌, ◌≢◌, ℕ, ◌⊎◌, inl, inr, ◌+◌, ◌∙◌, sym, subst, arith, Bool, true, false, cond, IsTrue}
 use Rattle.std.proofs.lemmas.Bool.Decides.{nat_tests}
 use Rattle.kh_types.specs.Acceptance.{accepted}
 use Rattle.kh_types.specs.Bits.{bit}
-use Rattle.kh_types.specs.Classes.{merged}
 use Rattle.kh_types.specs.Code.{Code, IsCrossing, place_of}
 use Rattle.kh_types.specs.Circles.{circle_count}
-use Rattle.kh_types.proofs.ClassLemmas.{merged-both}
-use Rattle.kh_types.specs.Edges.{arc_at_slot, state_behind}
+use Rattle.kh_types.specs.Edges.{state_behind}
 use Rattle.kh_types.proofs.EdgeBits.{bit-set_other}
 use Rattle.cube_squares.specs.Squares.{Switches, EndOnTwo, EndOnOne, IsKind, IsSquare, circle_at_slot}
 use Rattle.cube_squares.proofs.Merges.{IsMerge, IsSwitch, circle_in, switch-edge}
@@ -24,18 +22,12 @@ IsOn code state crossing arc =
 -- all these arcs are on one circle afterwards
 pub circle-on : (code : Code) (before after crossing arc : ℕ) → IsMerge code before after crossing → IsOn code before crossing arc
     → circle_in code after arc ≡ circle_at_slot code after crossing 0
-circle-on code before after crossing arc merge on =
-    let p = circle_at_slot code before crossing 0 in
-    let q = circle_at_slot code before crossing 2 in
-    merge.one arc
-    ∙ (elim on [ inl first ↦ ap (merged p q) first | inr third ↦ ap (merged p q) third ∙ sym (merged-both p q) ])
-    ∙ sym (merge.one (arc_at_slot code crossing 0))
+circle-on code before after crossing arc merge on = grind (arith, nat_tests)
 
 -- so are those at slots 0 and 2
 pub ends-meet : (code : Code) (before after crossing : ℕ) → IsMerge code before after crossing
     → circle_at_slot code after crossing 0 ≡ circle_at_slot code after crossing 2
-ends-meet code before after crossing merge =
-    sym (circle-on code before after crossing (arc_at_slot code crossing 2) merge (inr refl))
+ends-meet code before after crossing merge = grind (arith, nat_tests)
 
 -- arcs apart that come together are on these two circles
 pub circles-met : (code : Code) (before after crossing first second : ℕ) → IsMerge code before after crossing
@@ -44,18 +36,12 @@ pub circles-met : (code : Code) (before after crossing first second : ℕ) → I
     × (circle_at_slot code before crossing 2 ≡ circle_in code before second))
     ⊎ ((circle_at_slot code before crossing 0 ≡ circle_in code before second)
     × (circle_at_slot code before crossing 2 ≡ circle_in code before first))
-circles-met code before after crossing first second merge apart meet =
-    same_two (circle_at_slot code before crossing 0) (circle_at_slot code before crossing 2) (circle_in code before first)
-    (circle_in code before second) apart (sym (merge.one first) ∙ meet ∙ merge.one second)
-  where
-    same_two : (p q u v : ℕ) → u ≢ v → merged p q u ≡ merged p q v → ((p ≡ u) × (q ≡ v)) ⊎ ((p ≡ v) × (q ≡ u))
-    same_two p q u v apart meet = grind (arith, nat_tests)
+circles-met code before after crossing first second merge apart meet = grind (arith, nat_tests)
 
 -- a merge leaves a circle less, a split one more
 count-switch : (merges : Bool) (code : Code) (before after crossing : ℕ) → IsSwitch merges code before after crossing
     → circle_count code after + cond merges 1 0 ≡ circle_count code before + cond merges 0 1
-count-switch true code before after crossing merge = omega (arith, merge.circles.count)
-count-switch false code before after crossing merge = omega (arith, merge.circles.count)
+count-switch merges code before after crossing merge = grind (arith, nat_tests)
 
 -- so the ways round a square have as many merges
 kinds : (a b c d : Bool) (m n k l : ℕ) → n + cond a 1 0 ≡ m + cond a 0 1 → l + cond b 1 0 ≡ n + cond b 0 1
@@ -67,22 +53,12 @@ kinds a b c d m n k l first second third fourth = grind arith
 -- both crossings merge where they are first and split where they are second: the same circle splits into the same two
 split-same : (code : Code) (base by_a by_b last a b : ℕ) → IsMerge code base by_b b → IsMerge code last by_b a
     → IsMerge code last by_a b → EndOnTwo code last a b
-split-same code base by_a by_b last a b first_b then_a then_b =
-    circles-met code last by_b a (arc_at_slot code b 0) (arc_at_slot code b 2) then_a then_b.join.apart
-    (ends-meet code base by_b b first_b)
+split-same code base by_a by_b last a b first_b then_a then_b = grind (arith, nat_tests)
 
 -- both split where they are first and merge where they are second: all is on one circle
 merge-same : (code : Code) (base by_a by_b last a b : ℕ) → IsMerge code by_a base a → IsMerge code by_a last b
     → IsMerge code by_b last a → EndOnOne code last a b
-merge-same code base by_a by_b last a b first_a then_b then_a =
-    let a_meet = ends-meet code by_b last a then_a in
-    record {
-      first = a_meet;
-      second = ends-meet code by_a last b then_b;
-      one = circle-on code by_a last b (arc_at_slot code a 0) then_b
-          (elim (circles-met code by_a last b (arc_at_slot code a 0) (arc_at_slot code a 2) then_b first_a.join.apart a_meet)
-          [ inl straight ↦ inl (sym straight.0) | inr crossed ↦ inr (sym crossed.1) ]);
-    }
+merge-same code base by_a by_b last a b first_a then_b then_a = grind (arith, nat_tests, ends-meet, circle-on, circles-met)
 
 -- the kind of a square
 pub kind-square : (a_first b_second b_first a_second : Bool) (code : Code) (base by_a by_b last a b : ℕ)
@@ -157,8 +133,7 @@ edges-square code state a b is is_a is_b differ zero_a zero_b =
 
 switches : (merges : Bool) (code : Code) (before after crossing : ℕ) → IsSwitch merges code before after crossing
     → Switches merges code before after crossing
-switches true code before after crossing merge = merge.join
-switches false code before after crossing merge = merge.join
+switches merges code before after crossing merge = grind (arith, nat_tests)
 
 pub squares : (code : Code) (state a b : ℕ) → IsTrue (accepted code) → IsCrossing code.crossings a → IsCrossing code.crossings b
     → a ≢ b → bit state (place_of a) ≡ 0 → bit state (place_of b) ≡ 0 → IsSquare code state a b

@@ -3,12 +3,12 @@
 -- The coefficient of the definition compares labels by lists of circles that the crossing touches, before and after. On a merge two circles
 -- are touched before and one after (EdgeNames), so that the lists have two and one entries, and the tables of labels decide; on a split the
 -- other way round. All circles that are not touched keep name and label.
-use Rattle.std.proofs.Common.{◌≡◌, ◌≢◌, ℕ, zero, suc, ◌+◌, ◌<◌, ◌≤◌, ◌∙◌, ◌⊎◌, inl, inr, List, [], ◌∷◌, map, sym, ap, ap₂, subst, arith, Bool, true, false, ◌&&◌, ◌||◌, IsTrue}
+use Rattle.std.proofs.Common.{◌≡◌, ◌≢◌, ℕ, ◌+◌, ◌<◌, ◌≤◌, ◌∙◌, ◌⊎◌, inl, inr, List, [], ◌∷◌, map, sym, ap, ap₂, subst, arith, Bool, true, false, ◌&&◌, ◌||◌, IsTrue}
 use Rattle.std.specs.Prelude.{nat_eq, min, max}
 use Rattle.std.specs.Bool.{Decides}
 use Rattle.std.specs.List.{Contains}
 use Rattle.std.proofs.lemmas.Bool.{eqb-true, eq-eqb, or_cases, or_left, or_right, false_from_ne_true}
-use Rattle.std.proofs.lemmas.Bool.Decides.{nat_tests, Decides-and, Decides-at, Decides-eqb, Decides-like}
+use Rattle.std.proofs.lemmas.Bool.Decides.{nat_tests, Decides-like}
 use Rattle.std.proofs.lemmas.List.{get_or_default}
 use Rattle.std.proofs.lemmas.List.Elements.{All-from_get_or}
 use Rattle.std.proofs.lemmas.List.Sums.{AllPass-from_list_all, list_all-from_AllPass}
@@ -20,11 +20,9 @@ use Rattle.kh_types.specs.Differential.{label_of, is_touched, touched, is_merge,
 use Rattle.kh_types.specs.Generators.{Generator}
 use Rattle.kh_types.proofs.JoinedClasses.{min-cases, min-fixed}
 use Rattle.kh_types.proofs.Lists.{Contains-filter}
-use Rattle.kh_types.proofs.RangeCounts.{list_any-at}
 use Rattle.kh_types.specs.CircleNumbers.{IsName, number_of}
 use Rattle.kh_types.specs.Edges.{arc_at_slot}
 use Rattle.kh_types.proofs.CircleNumbers.{IsCircle, IsCircle-of, circle_names-number_of, number_of-below}
-use Rattle.kh_types.proofs.ClassLemmas.{merged-others}
 use Rattle.cube_squares.specs.Squares.{circle_at_slot}
 use Rattle.cube_squares.proofs.Merges.{IsMerge, IsSwitch, circle_in}
 use Rattle.cube_squares.proofs.SquareKinds.{IsOn, circle-on}
@@ -35,9 +33,7 @@ use Rattle.cube_squares.proofs.EdgeMarks.{IsChange, label_at, label_of-circle, l
 -- the circle of an arc at a slot is touched
 is_touched-slot : (code : Code) (state crossing slot circle : ℕ) → slot < 4 → circle_at_slot code state crossing slot ≡ circle
     → is_touched code state crossing circle ≡ true
-is_touched-slot code state crossing slot circle below is =
-    list_any-at (λ at. nat_eq (circle_at_slot code state crossing at) circle) 0 4 slot (omega arith) (omega arith)
-    (eq-eqb (circle_at_slot code state crossing slot) circle is)
+is_touched-slot code state crossing slot circle below is = grind (arith, nat_tests)
 
 -- where a circle is touched it is among those that are
 Contains-touched : (code : Code) (state crossing circle : ℕ) → IsCircle code state circle → is_touched code state crossing circle ≡ true
@@ -50,27 +46,19 @@ Contains-touched code state crossing circle is touches =
     (k, below, get_or_default names k circle 0 below ∙ circle_names-number_of code state circle is)
 
 pub one_in : (x k : ℕ) → Contains (k ∷ []) x → x ≡ k
-one_in x k (zero, below, is) = sym is
-one_in x k (suc i, below, is) = absurd (omega arith)
+one_in x k has2 = grind (arith, nat_tests)
 
 pub two_in : (x k g : ℕ) → Contains (k ∷ g ∷ []) x → (x ≡ k) ⊎ (x ≡ g)
-two_in x k g (zero, below, is) = inl (sym is)
-two_in x k g (suc zero, below, is) = inr (sym is)
-two_in x k g (suc (suc i), below, is) = absurd (omega arith)
+two_in x k g has3 = grind (arith, nat_tests)
 
 -- the circles that become one are touched, before and after
 touched-on : (code : Code) (before crossing arc : ℕ) → IsOn code before crossing arc
     → is_touched code before crossing (circle_in code before arc) ≡ true
-touched-on code before crossing arc on = elim on [
-  | inl first ↦ is_touched-slot code before crossing 0 (circle_in code before arc) (omega arith) (sym first)
-  | inr third ↦ is_touched-slot code before crossing 2 (circle_in code before arc) (omega arith) (sym third)
-]
+touched-on code before crossing arc on = grind (arith, nat_tests)
 
 touched-on_after : (code : Code) (before after crossing arc : ℕ) → IsMerge code before after crossing → IsOn code before crossing arc
     → is_touched code after crossing (circle_in code after arc) ≡ true
-touched-on_after code before after crossing arc merge on =
-    is_touched-slot code after crossing 0 (circle_in code after arc) (omega arith)
-    (sym (circle-on code before after crossing arc merge on))
+touched-on_after code before after crossing arc merge on = grind (arith, nat_tests)
 
 not_least : (p q c : ℕ) → c ≢ p → c ≢ q → c ≢ min p q
 not_least p q c not_p not_q = grind arith
@@ -94,10 +82,7 @@ touched-off code before after crossing arc is merge name off =
 
 circle-off : (code : Code) (before after crossing arc : ℕ) → IsMerge code before after crossing → IsOff code before crossing arc
     → circle_in code after arc ≡ circle_in code before arc
-circle-off code before after crossing arc merge off =
-    merge.one arc
-    ∙ merged-others (circle_at_slot code before crossing 0) (circle_at_slot code before crossing 2) (circle_in code before arc)
-    off.first off.third
+circle-off code before after crossing arc merge off = omega arith
 
 touched-off_after : (code : Code) (before after crossing arc : ℕ) → IsTrue (accepted code) → IsMerge code before after crossing
     → IsName code arc → IsOff code before crossing arc → is_touched code after crossing (circle_in code after arc) ≡ false
@@ -211,9 +196,7 @@ both-decide : (code : Code) (tail head : Generator) (two crossing m n : ℕ)
     → Decides (keeps_labels code tail head crossing) (SameOff code tail head two crossing)
     → changes_labels code tail head crossing ≡ nat_eq m n
     → Decides (fits code tail head crossing) (SameOff code tail head two crossing × (m ≡ n))
-both-decide code tail head two crossing m n kept sum =
-    Decides-and (keeps_labels code tail head crossing) (changes_labels code tail head crossing) kept
-    (Decides-at (changes_labels code tail head crossing) (nat_eq m n) sum (Decides-eqb m n))
+both-decide code tail head two crossing m n kept sum = grind (arith, nat_tests)
 
 -- that is exactly where a merge, or a split, does so to labels
 pub fits-decides : (merges : Bool) (code : Code) (tail head : Generator) (crossing : ℕ) → IsTrue (accepted code)

@@ -1,31 +1,12 @@
-use Rattle.std.proofs.Common.{◌≡◌, ◌+◌, ℕ, List, [], length, ap, arith}
+use Rattle.std.proofs.lemmas.Bool.Decides.{nat_tests}
+use Rattle.std.proofs.Common.{◌≡◌, ◌+◌, length, arith}
 use Rattle.std.proofs.lemmas.List.{nil_from_length}
-use Rattle.circle_smoothing.specs.Branches.{branch_count}
 use Rattle.circle_smoothing.specs.declared.branches.TheConstants.{MEMBERS}
 use Rattle.circle_smoothing.proofs.BranchLemmas.{HaveArcsBelow-rest, LeavesCrossings-less, branch_count-le, counted-parted, pow-parted}
 use Rattle.circle_smoothing.proofs.branches.+count_branch.Goals as goal
 
 pub count_branch-requires : goal.count_branch-requires
-count_branch-requires t c =
-    let more = length c.args.crossings.now in
-    let rest = length c.in-Some.rest.now in
-    let less : rest + 1 ≡ more = c.in-Some.ensures.cases.1 in (
-      omega (arith, less, c.decreases),
-      (
-        c.requires.size,
-        (
-          c.next.ensures.branch,
-          (
-            LeavesCrossings-less c.args.branch.now c.next.result more rest c.requires.leaves less (omega (arith, c.next.ensures.ones))
-                c.next.ensures.joins,
-            (
-              (HaveArcsBelow-rest MEMBERS c.args.crossings.now c.in-Some.first.now c.in-Some.rest.now c.in-Some.ensures.cases.0 c.requires.arcs).1,
-              λ place within. omega (arith, c.requires.room place within, pow-parted more rest less),
-            ),
-          ),
-        ),
-      ),
-    )
+count_branch-requires = grind (arith, nat_tests, LeavesCrossings-less, HaveArcsBelow-rest, pow-parted)
 
 pub count_branch-requires-in-Some : goal.count_branch-requires-in-Some
 count_branch-requires-in-Some t c =
@@ -57,13 +38,7 @@ count_branch-requires-in-Some t c =
     )
 
 pub returns-in-None-clause-counts : goal.returns-in-None-clause-counts
-returns-in-None-clause-counts t c = λ place within.
-    let none : c.args.crossings.now ≡ [] = nil_from_length c.args.crossings.now c.in-None.ensures.cases in
-    omega (
-      arith,
-      c.count_state.ensures.counts place within,
-      ap (λ (all : List (List ℕ)). branch_count all c.args.branch.now.ones c.args.branch.now.classes place) none,
-    )
+returns-in-None-clause-counts = grind (arith, nat_tests, nil_from_length)
 
 pub returns-in-Some-clause-counts : goal.returns-in-Some-clause-counts
 returns-in-Some-clause-counts t c = λ place within.

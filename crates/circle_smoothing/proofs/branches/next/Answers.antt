@@ -1,17 +1,16 @@
+use Rattle.std.proofs.lemmas.Bool.Decides.{nat_tests}
 use Rattle.std.proofs.Common.{ℕ, List, get_or, ap, sym, subst, arith}
 use Rattle.kh_types.specs.Classes.{IsNamed, class_count}
 use Rattle.kh_types.proofs.JoinedClasses.{IsNamed-joined}
 use Rattle.circle_smoothing.specs.declared.branches.TheConstants.{MEMBERS}
-use Rattle.circle_smoothing.proofs.BranchLemmas.{pair-below, fold-smoothing}
+use Rattle.circle_smoothing.proofs.BranchLemmas.{pair-below}
 use Rattle.circle_smoothing.proofs.branches.next.Goals as goal
 
 pub fewer-requires-clause-first : goal.fewer-requires-clause-first
-fewer-requires-clause-first c =
-    (pair-below MEMBERS c.args.smoothing c.args.crossing.now c.smoothing_of.result 0 c.smoothing_of.ensures c.requires.arcs (omega arith)).0
+fewer-requires-clause-first = grind (arith, nat_tests)
 
 pub fewer-requires-clause-second : goal.fewer-requires-clause-second
-fewer-requires-clause-second c =
-    (pair-below MEMBERS c.args.smoothing c.args.crossing.now c.smoothing_of.result 0 c.smoothing_of.ensures c.requires.arcs (omega arith)).1
+fewer-requires-clause-second = grind (arith, nat_tests)
 
 pub fewer-requires-2-clause-named : goal.fewer-requires-2-clause-named
 fewer-requires-2-clause-named c =
@@ -21,12 +20,10 @@ fewer-requires-2-clause-named c =
     (IsNamed-joined MEMBERS c.args.branch.now.classes pair below.0 below.1 c.requires.branch.named)
 
 pub fewer-requires-2-clause-first : goal.fewer-requires-2-clause-first
-fewer-requires-2-clause-first c =
-    (pair-below MEMBERS c.args.smoothing c.args.crossing.now c.smoothing_of.result 1 c.smoothing_of.ensures c.requires.arcs (omega arith)).0
+fewer-requires-2-clause-first = grind (arith, nat_tests)
 
 pub fewer-requires-2-clause-second : goal.fewer-requires-2-clause-second
-fewer-requires-2-clause-second c =
-    (pair-below MEMBERS c.args.smoothing c.args.crossing.now c.smoothing_of.result 1 c.smoothing_of.ensures c.requires.arcs (omega arith)).1
+fewer-requires-2-clause-second = grind (arith, nat_tests)
 
 pub returns-clause-branch : goal.returns-clause-branch
 returns-clause-branch c =
@@ -53,6 +50,4 @@ returns-clause-branch c =
     }
 
 pub returns-clause-classes : goal.returns-clause-classes
-returns-clause-classes c =
-    fold-smoothing c.args.branch.now.classes c.joined-classes.result c.joined.result c.args.smoothing c.args.crossing.now
-    c.smoothing_of.result c.smoothing_of.ensures c.joined-classes.ensures c.joined.ensures
+returns-clause-classes = grind (arith, nat_tests)

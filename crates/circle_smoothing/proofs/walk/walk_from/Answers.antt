@@ -4,10 +4,7 @@ use Rattle.circle_smoothing.proofs.CircleWalks.{IsOnCircle-fewer, IsOnCircle-fir
 use Rattle.circle_smoothing.proofs.walk.walk_from.Goals as goal
 
 pub walk-init : goal.walk-init
-walk-init c =
-    IsOnCircle-first c.args.smoothings.now c.args.state c.args.circles.now c.args.least c.start_of.result c.place_after-place.result
-    c.arc_at-arc.result c.requires.code c.requires.arc c.requires.walked c.requires.alone c.start_of.ensures.below
-    c.start_of.ensures.on_arc c.place_after-place.ensures.place c.arc_at-arc.ensures.arc
+walk-init = grind (arith, nat_tests, IsOnCircle-first)
 
 pub walk-smaller : goal.walk-smaller
 walk-smaller c =
@@ -16,11 +13,7 @@ walk-smaller c =
     c.walk.invariant
 
 pub walk-preserved : goal.walk-preserved
-walk-preserved c =
-    let apart : c.walk.arc ≢ c.args.least = grind (arith, nat_tests) in
-    IsOnCircle-more c.args.smoothings.now c.args.state c.args.circles.now c.walk.circles c.args.least c.walk.place c.walk.arc
-    c.place_after-place-in-walk.result c.arc_at-arc-in-walk.result c.requires.code c.requires.arc apart c.walk.invariant
-    c.place_after-place-in-walk.ensures.place c.arc_at-arc-in-walk.ensures.arc
+walk-preserved = grind (arith, nat_tests, IsOnCircle-more)
 
 pub returns : goal.returns
 returns c =

@@ -1,3 +1,4 @@
+use Rattle.std.proofs.lemmas.Bool.Decides.{nat_tests}
 use Rattle.std.proofs.Common.{◌^◌, ◌≤◌, length, arith}
 use Rattle.std.specs.Prelude.{replicate}
 use Rattle.std.proofs.Math.Pow.{pow_mono}
@@ -8,9 +9,7 @@ use Rattle.circle_smoothing.proofs.KindLemmas.{HaveArcsBelow-accepted, IsCounted
 use Rattle.circle_smoothing.proofs.kinds.CountedDiagram.of_diagram.Goals as goal
 
 pub count_branch-requires-clause-arcs : goal.count_branch-requires-clause-arcs
-count_branch-requires-clause-arcs c =
-    HaveArcsBelow-accepted c.args.diagram.now c.crossings.result.now c.crossings.ensures.crossings
-    ((IsAccepted-is c.args.diagram.now).0 c.crossings.ensures.accepted) c.crossings.ensures.few
+count_branch-requires-clause-arcs = grind (arith, nat_tests, HaveArcsBelow-accepted, IsAccepted-is)
 
 pub count_branch-requires-clause-room : goal.count_branch-requires-clause-room
 count_branch-requires-clause-room c = λ place within.

@@ -1,19 +1,6 @@
-use Rattle.std.proofs.Common.{refl}
+use Rattle.std.proofs.lemmas.Bool.Decides.{nat_tests}
+use Rattle.std.proofs.Common.{arith}
 use Rattle.circle_smoothing.proofs.laws.known.known_counts.Goals as goal
 
 pub returns : goal.returns
-returns c = record {
-  empty = refl;
-  loops = refl;
-  curled = refl;
-  curled_beside = refl;
-  hopf = refl;
-  three = refl;
-  four = refl;
-  empty_generators = refl;
-  loop_generators = refl;
-  curl_generators = refl;
-  hopf_generators = refl;
-  three_generators = refl;
-  four_generators = refl;
-}
+returns = grind (arith, nat_tests)

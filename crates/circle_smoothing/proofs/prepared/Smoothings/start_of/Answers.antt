@@ -1,21 +1,12 @@
-use Rattle.std.proofs.Common.{◌≡◌, arith}
-use Rattle.circle_smoothing.specs.Prepared.{HasStarts}
+use Rattle.std.proofs.lemmas.Bool.Decides.{nat_tests}
+use Rattle.std.proofs.Common.{arith}
 use Rattle.circle_smoothing.proofs.prepared.Smoothings.start_of.Goals as goal
 
 pub bounds-deref-arc : goal.bounds-deref-arc
-bounds-deref-arc c =
-    let kept : c.deref.result.now ≡ c.self.inside.starts.items = grind arith in
-    let starts : HasStarts c.args.self.now.crossings c.deref.result.now = rw (← c.self.view_is, kept) c.self.invariant.starts in
-    omega (arith, starts.size, c.requires.within)
+bounds-deref-arc = grind (arith, nat_tests)
 
 pub returns-clause-below : goal.returns-clause-below
-returns-clause-below c =
-    let kept : c.deref.result.now ≡ c.self.inside.starts.items = grind arith in
-    let starts : HasStarts c.args.self.now.crossings c.deref.result.now = rw (← c.self.view_is, kept) c.self.invariant.starts in
-    starts.below c.args.arc c.requires
+returns-clause-below = grind (arith, nat_tests)
 
 pub returns-clause-on_arc : goal.returns-clause-on_arc
-returns-clause-on_arc c =
-    let kept : c.deref.result.now ≡ c.self.inside.starts.items = grind arith in
-    let starts : HasStarts c.args.self.now.crossings c.deref.result.now = rw (← c.self.view_is, kept) c.self.invariant.starts in
-    starts.on_arc c.args.arc c.requires
+returns-clause-on_arc = grind (arith, nat_tests)
