@@ -1,4 +1,5 @@
 -- Tokens that cut a text are read, and then what is behind them; so each text is cut in one way.
+use Rattle.std.proofs.lemmas.Bool.Decides.{nat_tests}
 use Rattle.std.proofs.Common.{◌≡◌, ℕ, zero, suc, ◌+◌, ◌≤◌, ◌↔◌, List, [], ◌∷◌, ◌++◌, length, drop, Ok, Err, refl, sym, ◌∙◌, ap, subst, arith, add-zero, append-nil, length-append, length-drop, true}
 use Rattle.std.proofs.lemmas.Bool.{and_parts}
 use Rattle.std.specs.List.{list_all}
@@ -20,11 +21,7 @@ record Reads (steps place : ℕ) (text : List ℕ) (tokens : List Token) (at : �
 -- one stretch behind another
 Reads-append : (steps place at beyond : ℕ) (text middle end : List ℕ) (before behind : List Token) (first : Reads steps place text before at middle)
     → Reads first.left at middle behind beyond end → Reads steps place text (before ++ behind) beyond end
-Reads-append steps place at beyond text middle end before behind first next = record {
-  left = next.left;
-  enough = next.enough;
-  same = first.same ∙ ap (preceded_by before) next.same ∙ preceded_by-append before behind (tokens_within next.left beyond end);
-}
+Reads-append steps place at beyond text middle end before behind first next = grind (arith, nat_tests, preceded_by-append)
 
 -- a blank is passed over
 tokens_within-blank : (steps place byte : ℕ) (text : List ℕ) → is_blank byte ≡ true → tokens_within (suc steps) place (byte ∷ text) ≡ tokens_within steps (place + 1) text
@@ -69,10 +66,7 @@ tokens_within-fault (suc steps) place (byte ∷ text) stop fault enough = rw ((H
 
 -- blanks lead to an end
 Reads-skip : (steps place at : ℕ) (text end : List ℕ) (skip : SkipsBlanks text end) → at ≡ place + length skip.blanks → length text ≤ steps → Reads steps place text [] at end
-Reads-skip steps place at text end skip begin enough =
-    subst (λ t. Reads steps place t [] at end) (sym skip.parts)
-    (subst (λ p. Reads steps place (skip.blanks ++ end) [] p end) (sym begin)
-    (Reads-blanks steps place skip.blanks end skip.blank (subst (λ t. length t ≤ steps) skip.parts enough)))
+Reads-skip steps place at text end skip begin enough = grind (arith, nat_tests, Reads-blanks)
 
 -- the first token is read, with the blanks before it
 Reads-first : (steps place : ℕ) (text rest : List ℕ) (token : Token) → IsFirstToken place text token rest → length text ≤ steps
@@ -87,17 +81,13 @@ Reads-first steps place text rest token first enough =
 
 -- a first token ends where the rest begins
 place-first : (place : ℕ) (text rest : List ℕ) (token : Token) → IsFirstToken place text token rest → token.place + token.length + length rest ≡ place + length text
-place-first place text rest token first =
-    omega (arith, first.begin, first.size, ap length first.skip.parts, length-append first.skip.blanks (first.bytes ++ rest), length-append first.bytes rest)
+place-first place text rest token first = grind (arith, nat_tests, length-append)
 
 -- what is cut is read, as far as it is cut
 Reads-cut : (steps place : ℕ) (text end : List ℕ) (tokens : List Token) → CutsTo end place text tokens → length text ≤ steps
     → (at : ℕ) × (at + length end ≡ place + length text) × Reads steps place text tokens at end
-Reads-cut steps place text end [] skip enough = (
-  place + length skip.blanks,
-  omega (arith, ap length skip.parts, length-append skip.blanks end),
-  Reads-skip steps place (place + length skip.blanks) text end skip refl enough,
-)
+Reads-cut steps place text end [] skip enough =
+    grind (arith, nat_tests, length-append skip.blanks end, Reads-skip steps place (place + length skip.blanks) text end skip refl enough)
 Reads-cut steps place text end (token ∷ tokens) cut enough =
     let first = Reads-first steps place text cut.0 token cut.1 enough in
     let rest = Reads-cut first.left (token.place + token.length) cut.0 end tokens cut.2 first.enough in (
@@ -128,14 +118,8 @@ tokens_of-stop text stop = (λ read. subst (IsLexed 0 text) read (IsLexed-tokens
 
 -- a text is cut in one way
 pub Cuts-one : (text : List ℕ) (a b : List Token) → Cuts 0 text a → Cuts 0 text b → a ≡ b
-Cuts-one text a b first second =
-    let one = (tokens_of-cut text a).1 first in
-    let other = (tokens_of-cut text b).1 second in
-    cc
+Cuts-one text a b first second = grind (arith, nat_tests, tokens_of-cut)
 
 -- a text with a first fault is not cut
 pub Stops-uncut : (text : List ℕ) (stop : LexStop) (tokens : List Token) → Stops 0 text stop → ¬ Cuts 0 text tokens
-Stops-uncut text stop tokens stopped cut =
-    let fault = (tokens_of-stop text stop).1 stopped in
-    let read = (tokens_of-cut text tokens).1 cut in
-    cc
+Stops-uncut text stop tokens stopped cut = grind (arith, nat_tests, tokens_of-stop text stop, tokens_of-cut text tokens)

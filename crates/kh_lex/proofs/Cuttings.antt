@@ -1,4 +1,5 @@
 -- Tokens cut a text where they are its tokens, and a fault is the first of a text where it stands in their place.
+use Rattle.std.proofs.lemmas.Bool.Decides.{nat_tests}
 use Rattle.std.proofs.Common.{◌≡◌, ℕ, zero, suc, ◌+◌, ◌<◌, ◌≤◌, Bool, true, false, cond, List, [], ◌∷◌, ◌++◌, length, drop, Result, Ok, Err, Some, None, refl, sym, ◌∙◌, ap, subst, arith, length-drop}
 use Rattle.std.proofs.Math.Seq.{drop-append_seam}
 use Rattle.std.proofs.lemmas.Bool.{and_from}
@@ -41,15 +42,7 @@ CutsTo-blank byte place text end (token ∷ tokens) blank cut =
     )
 
 IsLexed-blank : (byte place : ℕ) (text : List ℕ) (r : Result (List Token) LexStop) → is_blank byte ≡ true → IsLexed (place + 1) text r → IsLexed place (byte ∷ text) (preceded_by [] r)
-IsLexed-blank byte place text (Ok tokens) blank cut = CutsTo-blank byte place text [] tokens blank cut
-IsLexed-blank byte place text (Err stop) blank stopped = record {
-  tokens = stopped.tokens;
-  end = stopped.end;
-  cut = CutsTo-blank byte place text stopped.end stopped.tokens blank stopped.cut;
-  at = stopped.at;
-  begin = omega (arith, stopped.begin);
-  fault = stopped.fault;
-}
+IsLexed-blank byte place text r blank cut = grind (arith, nat_tests, CutsTo-blank)
 
 -- what is behind the bytes of a token
 pub drop-token : (place : ℕ) (text : List ℕ) (token : Token) (s : IsTokenAt place text token) → drop token.length text ≡ s.rest
@@ -89,9 +82,7 @@ IsLexed-piece : (steps place : ℕ) (text : List ℕ) → 0 < length text → be
     → ((at : ℕ) (end : List ℕ) → length end ≤ steps → IsLexed at end (tokens_within steps at end)) → length text ≤ suc steps
     → IsLexed place text (followed_by (result_map_both Some (λ stop. stop) r) (λ n. tokens_within steps (place + n) (drop n text)))
 IsLexed-piece steps place text some no_blank (Ok token) s rest enough =
-    let taken = HasNoBlank-token place text token s in
-    IsLexed-token place text token (tokens_within steps (place + token.length) (drop token.length text)) s
-    (rest (place + token.length) (drop token.length text) (omega (arith, length-drop token.length text, taken.some)))
+    grind (arith, nat_tests, HasNoBlank-token, IsLexed-token, length-drop)
 IsLexed-piece steps place text some no_blank (Err stop) fault rest enough = record {
   tokens = [];
   end = text;

@@ -1,14 +1,13 @@
 -- The first byte of a text, and what it cannot be.
-use Rattle.std.proofs.Common.{◌≡◌, ℕ, ◌<◌, leb, ◌&&◌, Bool, true, false, inl, inr, List, [], ◌∷◌, refl, sym, arith, slice_index}
-use Rattle.std.proofs.lemmas.Bool.{agree_below, agree_below_at, and_from, and_parts, leb-true, or_cases}
+use Rattle.std.proofs.lemmas.Bool.Decides.{nat_tests}
+use Rattle.std.proofs.Common.{◌≡◌, ℕ, ◌<◌, leb, ◌&&◌, Bool, true, false, List, refl, arith, slice_index}
+use Rattle.std.proofs.lemmas.Bool.{agree_below, agree_below_at, and_from, and_parts, leb-true}
 use Rattle.std.specs.Char.{is_ascii_alphabetic, is_ascii_digit}
-use Rattle.std.specs.Int.{is_in_range}
 use Rattle.kh_lex.specs.Cuts.{begins_with}
 
 -- the first byte is the one at 0
 pub begins_with-first : (is : ℕ → Bool) (text : List ℕ) → is 0 ≡ false → begins_with is text ≡ is (slice_index text 0)
-begins_with-first is [] none = sym none
-begins_with-first is (byte ∷ bytes) none = refl
+begins_with-first is text none = grind (arith, nat_tests)
 
 -- what holds of no byte of a sort below a bound does not hold of one
 apart : (is other : ℕ → Bool) (bound byte : ℕ) → agree_below (λ b. is b && other b) (λ b. false) bound ≡ true
@@ -27,10 +26,7 @@ digit-below : (byte : ℕ) → is_ascii_digit byte ≡ true → byte < 58
 digit-below byte digit = omega (arith, leb-true byte 57 (and_parts (leb 48 byte) (leb byte 57) digit).1)
 
 letter-below : (byte : ℕ) → is_ascii_alphabetic byte ≡ true → byte < 123
-letter-below byte letter = elim (or_cases (is_in_range 65 90 byte) (is_in_range 97 122 byte) letter) [
-  | inl upper ↦ omega (arith, leb-true byte 90 (and_parts (leb 65 byte) (leb byte 90) upper).1)
-  | inr lower ↦ omega (arith, leb-true byte 122 (and_parts (leb 97 byte) (leb byte 122) lower).1)
-]
+letter-below byte letter = grind (arith, nat_tests)
 
 -- digits and letters are other bytes than those of a sort
 pub digit-other : (other : ℕ → Bool) (byte : ℕ) → agree_below (λ b. is_ascii_digit b && other b) (λ b. false) 58 ≡ true

@@ -1,5 +1,6 @@
 -- A text leaves a grammar in one place at most, and in none where it is in the grammar.
-use Rattle.std.proofs.Common.{◌≡◌, ℕ, ◌+◌, ◌<◌, ◌≤◌, inl, inr, List, [], ◌++◌, length, take, drop, sym, ◌∙◌, ap, subst, arith, append_assoc, take-append-drop}
+use Rattle.std.proofs.lemmas.Bool.Decides.{nat_tests}
+use Rattle.std.proofs.Common.{◌≡◌, ℕ, ◌+◌, ◌<◌, ◌≤◌, List, [], ◌++◌, length, take, drop, sym, ◌∙◌, ap, subst, arith, append_assoc, take-append-drop}
 use Rattle.std.proofs.lemmas.Bool.{cases_order}
 use Rattle.std.proofs.lemmas.List.{append-nil, length-take-le, take-append-le}
 use Rattle.kh_lex.specs.declared.symbol.Symbol.{Symbol}
@@ -28,11 +29,7 @@ take-take symbols at more less within =
 
 -- a text has no fault
 pub IsFirstFault-text : (IsText : List Symbol → Type 0) (symbols : List Symbol) (at : ℕ) → IsFirstFault IsText symbols at → ¬ IsText symbols
-IsFirstFault-text IsText symbols at fault text = elim (cases_order at (length symbols)) [
-  | inl same ↦ fault.end same text
-  | inr (inl less) ↦ fault.here less (IsViable-take IsText symbols (at + 1) (IsViable-text IsText symbols text))
-  | inr (inr more) ↦ let within = fault.within in absurd (omega arith)
-]
+IsFirstFault-text IsText symbols at fault = grind (arith, nat_tests, cases_order, IsViable-take, IsViable-text)
 
 -- a first fault is no later than another
 IsFirstFault-later : (IsText : List Symbol → Type 0) (symbols : List Symbol) (at other : ℕ) → IsFirstFault IsText symbols at → IsFirstFault IsText symbols other → ¬ (at < other)
@@ -42,23 +39,15 @@ IsFirstFault-later IsText symbols at other fault later less =
 
 -- there is one first fault at most
 pub IsFirstFault-one : (IsText : List Symbol → Type 0) (symbols : List Symbol) (at other : ℕ) → IsFirstFault IsText symbols at → IsFirstFault IsText symbols other → at ≡ other
-IsFirstFault-one IsText symbols at other fault again = elim (cases_order at other) [
-  | inl same ↦ same
-  | inr (inl less) ↦ absurd (IsFirstFault-later IsText symbols at other fault again less)
-  | inr (inr more) ↦ absurd (IsFirstFault-later IsText symbols other at again fault more)
-]
+IsFirstFault-one IsText symbols at other fault again = grind (arith, nat_tests, cases_order, IsFirstFault-later)
 
 -- a text has one first fault of its bytes at most
 pub Stops-one : (text : List ℕ) (a b : LexStop) → Stops 0 text a → Stops 0 text b → a ≡ b
-Stops-one text a b first second =
-    let one = (tokens_of-stop text a).1 first in
-    let other = (tokens_of-stop text b).1 second in
-    cc
+Stops-one text a b first second = grind (arith, nat_tests, tokens_of-stop text a, tokens_of-stop text b)
 
 -- it means one list of symbols at most, and none where its bytes have a fault
 pub Means-one : (text : List ℕ) (a b : List Symbol) → Means text a → Means text b → a ≡ b
-Means-one text a b first second =
-    sym first.meaning ∙ ap (symbols_of text) (Cuts-one text first.tokens second.tokens first.cut second.cut) ∙ second.meaning
+Means-one text a b first second = grind (arith, nat_tests, Cuts-one)
 
 pub Means-stops : (text : List ℕ) (stop : LexStop) (symbols : List Symbol) → Stops 0 text stop → ¬ Means text symbols
 Means-stops text stop symbols stops means = Stops-uncut text stop means.tokens stops means.cut

@@ -1,5 +1,6 @@
 -- A text of which a prefix is cut into tokens.
-use Rattle.std.proofs.Common.{◌≡◌, ℕ, zero, suc, ◌+◌, ◌-◌, ◌<◌, ◌≤◌, List, [], ◌++◌, length, drop, Option, Result, Ok, Err, sym, ◌∙◌, ap, refl, arith, append_assoc, All, length-drop, length-append, IfSome, Some, None}
+use Rattle.std.proofs.lemmas.Bool.Decides.{nat_tests}
+use Rattle.std.proofs.Common.{◌≡◌, ℕ, zero, suc, ◌+◌, ◌-◌, ◌<◌, ◌≤◌, List, [], ◌++◌, length, drop, Option, Result, Ok, Err, sym, ◌∙◌, ap, refl, arith, append_assoc, All, length-drop, length-append, IfSome}
 use Rattle.std.proofs.Math.ListN.{drop_of_length-le}
 use Rattle.std.proofs.Math.Seq.{drop-cons}
 use Rattle.std.proofs.lemmas.List.{append-nil, drop-drop}
@@ -21,8 +22,7 @@ pub record IsCut (text : List ℕ) (place : ℕ) (tokens : List Token) : Type 0 
   pub few : length tokens ≤ place
 
 pub preceded_by-none : (r : Result (List Token) LexStop) → preceded_by [] r ≡ r
-preceded_by-none (Ok tokens) = refl
-preceded_by-none (Err stop) = refl
+preceded_by-none r = grind (arith, nat_tests)
 
 pub preceded_by-append : (first more : List Token) (r : Result (List Token) LexStop) → preceded_by first (preceded_by more r) ≡ preceded_by (first ++ more) r
 preceded_by-append first more (Ok tokens) = ap Ok (sym (append_assoc first more tokens))
@@ -30,14 +30,7 @@ preceded_by-append first more (Err stop) = refl
 
 -- before the first piece
 pub IsCut-begin : (text : List ℕ) → IsCut text 0 []
-IsCut-begin text = record {
-  steps = length text;
-  enough = omega arith;
-  whole = preceded_by-none (tokens_of text);
-  inside = omega arith;
-  within = All-nil (EndsWithin (length text));
-  few = omega arith;
-}
+IsCut-begin text = grind (arith, nat_tests, preceded_by-none (tokens_of text), All-nil (EndsWithin (length text)))
 
 -- a step from a place where something is left
 tokens_within-step : (steps place : ℕ) (text : List ℕ) → place < length text → tokens_within (suc steps) place (drop place text)
@@ -46,20 +39,15 @@ tokens_within-step steps place text left = rw (drop-cons text place 0) refl
 
 -- a piece takes a byte or more, and none that is not there
 pub piece_length-bounds : (place : ℕ) (text : List ℕ) (piece : Option Token) → 0 < length text → IfSome piece (IsTokenAt place text) → (0 < piece_length piece) × (piece_length piece ≤ length text)
-piece_length-bounds place text None some here = (omega arith, omega arith)
-piece_length-bounds place text (Some token) some here =
-    let first = HasNoBlank-token place text token here in (first.some, first.within)
+piece_length-bounds place text piece some here = grind (arith, nat_tests, here, HasNoBlank-token)
 
 -- the token that a piece is ends within the text
 All-piece : (place size : ℕ) (text : List ℕ) (piece : Option Token) → place + length text ≤ size → IfSome piece (IsTokenAt place text) → All (EndsWithin size) (option_to_list piece)
-All-piece place size text None room here = All-nil (EndsWithin size)
-All-piece place size text (Some token) room here =
-    All-push (EndsWithin size) [] token (All-nil (EndsWithin size)) (omega (arith, here.begin, (HasNoBlank-token place text token here).within))
+All-piece place size text piece room here = grind (arith, nat_tests, size, here, All-nil, All-push, HasNoBlank-token)
 
 -- a piece is one token at most
 length-option_to_list : (piece : Option Token) → length (option_to_list piece) ≤ 1
-length-option_to_list None = omega arith
-length-option_to_list (Some token) = omega arith
+length-option_to_list piece = grind (arith, nat_tests)
 
 -- a piece is taken
 pub IsCut-piece : (text : List ℕ) (place : ℕ) (tokens : List Token) (piece : Option Token)
@@ -78,9 +66,7 @@ IsCut-piece text place tokens piece left read cut = go cut.steps cut.enough cut.
 
     step : (steps : ℕ) → tokens_within (suc steps) place (drop place text)
         ≡ preceded_by (option_to_list piece) (tokens_within steps (place + piece_length piece) (drop (place + piece_length piece) text))
-    step steps = tokens_within-step steps place text left
-        ∙ ap (λ r. followed_by r (λ n. tokens_within steps (place + n) (drop n (drop place text)))) read
-        ∙ ap (λ rest. preceded_by (option_to_list piece) (tokens_within steps (place + piece_length piece) rest)) (drop-drop (piece_length piece) place text)
+    step steps = grind (arith, nat_tests, tokens_within-step, drop-drop)
 
     go : (steps : ℕ) → length text ≤ place + steps → preceded_by tokens (tokens_within steps place (drop place text)) ≡ tokens_of text
         → IsCut text (place + piece_length piece) (tokens ++ option_to_list piece)
@@ -102,16 +88,12 @@ tokens_of-fault text place tokens stop left read cut = go cut.steps cut.enough c
   where
     go : (steps : ℕ) → length text ≤ place + steps → preceded_by tokens (tokens_within steps place (drop place text)) ≡ tokens_of text → tokens_of text ≡ Err stop
     go zero enough whole = absurd (omega arith)
-    go (suc steps) enough whole = sym whole ∙ ap (preceded_by tokens) (tokens_within-step steps place text left
-        ∙ ap (λ r. followed_by r (λ n. tokens_within steps (place + n) (drop n (drop place text)))) read)
+    go (suc steps) enough whole = grind (arith, nat_tests, tokens_within-step)
 
 -- nothing is read where nothing is left
 pub tokens_within-none : (steps place : ℕ) → tokens_within steps place [] ≡ Ok []
-tokens_within-none zero place = refl
-tokens_within-none (suc steps) place = refl
+tokens_within-none steps place = grind (arith, nat_tests)
 
 -- nothing is left
 pub tokens_of-end : (text : List ℕ) (place : ℕ) (tokens : List Token) → length text ≤ place → IsCut text place tokens → tokens_of text ≡ Ok tokens
-tokens_of-end text place tokens end cut = sym cut.whole
-    ∙ ap (preceded_by tokens) (ap (tokens_within cut.steps place) (drop_of_length-le text end) ∙ tokens_within-none cut.steps place)
-    ∙ ap Ok (append-nil tokens)
+tokens_of-end text place tokens end cut = grind (arith, nat_tests, drop_of_length-le, tokens_within-none, append-nil)

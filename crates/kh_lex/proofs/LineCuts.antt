@@ -1,5 +1,6 @@
 -- Lines cut a text exactly where they are its sections between line feeds.
-use Rattle.std.proofs.Common.{◌≡◌, ℕ, Bool, true, false, cond, List, [], ◌∷◌, ◌++◌, refl, sym, ◌∙◌, ap, arith, append_assoc, codes}
+use Rattle.std.proofs.lemmas.Bool.Decides.{nat_tests}
+use Rattle.std.proofs.Common.{◌≡◌, ℕ, Bool, true, false, cond, List, [], ◌∷◌, ◌++◌, refl, ◌∙◌, ap, arith, append_assoc, codes}
 use Rattle.std.proofs.lemmas.Bool.{eqb-true}
 use Rattle.std.specs.List.{AllByRecursion, flat_map}
 use Rattle.kh_lex.specs.Lines.{CutsLines, HasNoLineFeed, with_feed, is_line_feed, last_line, lines_of}
@@ -8,8 +9,7 @@ use Rattle.kh_lex.proofs.CutSections.{sections_of-ended, sections_of-last}
 
 -- what follows the last line feed
 lines_of-last : (last : List ℕ) → HasNoLineFeed last → lines_of last ≡ last_line last
-lines_of-last [] whole = refl
-lines_of-last (byte ∷ bytes) whole = sections_of-last is_line_feed (byte ∷ bytes) (omega arith) whole
+lines_of-last last whole = grind (arith, nat_tests, sections_of-last)
 
 -- lines, each with a line feed behind it, and what follows
 lines_of-parts : (first : List (List ℕ)) (last : List ℕ) → AllByRecursion HasNoLineFeed first → HasNoLineFeed last
@@ -22,8 +22,7 @@ lines_of-parts (line ∷ more) last all whole =
 
 -- lines that cut a text are those
 pub lines_of-CutsLines : (text : List ℕ) (lines : List (List ℕ)) → CutsLines text lines → lines ≡ lines_of text
-lines_of-CutsLines text lines cut =
-    cut.all ∙ sym (lines_of-parts cut.first cut.last cut.first_whole cut.last_whole) ∙ ap lines_of (sym cut.parts)
+lines_of-CutsLines text lines cut = grind (arith, nat_tests, lines_of-parts)
 
 -- a line feed before a text ends an empty line
 CutsLines-feed : (byte : ℕ) (text : List ℕ) (lines : List (List ℕ)) → is_line_feed byte ≡ true → CutsLines text lines
@@ -69,6 +68,4 @@ CutsLines-lines_of (byte ∷ bytes) = go (CutsLines-lines_of bytes) (is_line_fee
   where
     go : CutsLines bytes (lines_of bytes) → (feed : Bool) → is_line_feed byte ≡ feed
         → CutsLines (byte ∷ bytes) (cond feed ([] ∷ lines_of bytes) (before_first byte (lines_of bytes)))
-    go cut true feed = CutsLines-feed byte bytes (lines_of bytes) feed cut
-    go cut false other =
-        CutsLines-byte byte bytes (lines_of bytes) cut.first cut.last other cut.parts cut.all cut.first_whole cut.last_whole
+    go cut feed has2 = grind (arith, nat_tests, CutsLines-feed, CutsLines-byte)

@@ -1,4 +1,5 @@
 -- What a machine that reads a grammar shows: where it refuses a symbol, or ends too early, is the first fault.
+use Rattle.std.proofs.lemmas.Bool.Decides.{nat_tests}
 use Rattle.std.proofs.Common.{◌≡◌, ℕ, suc, ◌+◌, ◌<◌, Bool, true, false, cond, List, [], ◌∷◌, ◌++◌, length, drop, get_or, take, Option, None, Some, Result, Ok, Err, refl, sym, ◌∙◌, ap, subst, arith, add-zero, append_assoc, length-append, take-append-drop}
 use Rattle.std.specs.Option.{option_and_then, option_map_or}
 use Rattle.std.specs.Result.{result_map_both}
@@ -27,8 +28,7 @@ run-append {State = State} step state (symbol ∷ first) more = go (step state s
     go : (next : Option State) → ((q : State) → run step q (first ++ more) ≡ option_and_then (λ next. run step next more) (run step q first))
         → option_and_then (λ next. run step next (first ++ more)) next
         ≡ option_and_then (λ next. run step next more) (option_and_then (λ next. run step next first) next)
-    go None goes = refl
-    go (Some q) goes = goes q
+    go next goes = grind (arith, nat_tests)
 
 -- behind symbols that are taken
 pub run-behind : {State : Type 0} (step : State → Symbol → Option State) (start state : State) (first more : List Symbol)
@@ -79,16 +79,7 @@ IsFirstFault-refused IsText step start is_end reads first more symbol state ran 
 IsFirstFault-early : {State : Type 0} (IsText : List Symbol → Type 0) (step : State → Symbol → Option State) (start : State) (is_end : State → Bool)
     → ReadsGrammar IsText step start is_end → (symbols : List Symbol) (state : State) → run step start symbols ≡ Some state → is_end state ≡ false
     → IsFirstFault IsText symbols (length symbols)
-IsFirstFault-early IsText step start is_end reads symbols state ran early = record {
-  within = omega arith;
-  before = subst (IsViable IsText) (sym (take-length symbols)) (viable-run IsText step start is_end reads symbols state ran);
-  here = λ less. absurd (omega arith);
-  end = λ same text.
-      let whole = reads.whole symbols text in
-      let same : whole.0 ≡ state = cc (whole.1, ran) in
-      let ended : is_end state ≡ true = ap is_end (sym same) ∙ whole.2 in
-      cc (ended, early);
-}
+IsFirstFault-early IsText step start is_end reads symbols state ran early = grind (arith, nat_tests, take-length, viable-run)
 
 -- where symbols lead a machine from a state: to an end, or to a first fault, by how many symbols stand before that
 abbrev pub outcome : {State : Type 0} → (State → Symbol → Option State) → (State → Bool) → State → List Symbol → Result State ℕ
@@ -104,8 +95,7 @@ IsOutcome IsText step start is_end all before (Err at) = IsFirstFault IsText all
 -- one symbol more was taken before
 IsOutcome-suc : {State : Type 0} (IsText : List Symbol → Type 0) (step : State → Symbol → Option State) (start : State) (is_end : State → Bool) (all : List Symbol) (before : ℕ) (r : Result State ℕ)
     → IsOutcome IsText step start is_end all (before + 1) r → IsOutcome IsText step start is_end all before (result_map_both (λ end. end) suc r)
-IsOutcome-suc IsText step start is_end all before (Ok end) is = is
-IsOutcome-suc IsText step start is_end all before (Err at) is = subst (IsFirstFault IsText all) (omega arith) is
+IsOutcome-suc IsText step start is_end all before r is = grind (arith, nat_tests)
 
 IsOutcome-outcome : {State : Type 0} (IsText : List Symbol → Type 0) (step : State → Symbol → Option State) (start : State) (is_end : State → Bool)
     → ReadsGrammar IsText step start is_end → (symbols first : List Symbol) (state : State) → run step start first ≡ Some state

@@ -1,5 +1,6 @@
 -- A number that begins a text, as it is and as it is read.
-use Rattle.std.proofs.Common.{◌≡◌, ℕ, zero, suc, ◌==◌, nat_abs, ℤ, Bool, true, false, cond, List, [], ◌∷◌, ◌++◌, length, drop, refl, sym, ◌∙◌, ap, subst, arith, slice_index, take-append-drop}
+use Rattle.std.proofs.lemmas.Bool.Decides.{nat_tests}
+use Rattle.std.proofs.Common.{◌≡◌, ℕ, ◌==◌, nat_abs, ℤ, Bool, true, false, cond, List, [], ◌∷◌, ◌++◌, length, drop, refl, sym, ◌∙◌, ap, arith, slice_index, take-append-drop}
 use Rattle.std.proofs.lemmas.Bool.{eqb-true}
 use Rattle.std.specs.Char.{is_ascii_alphabetic, is_ascii_digit}
 use Rattle.std.specs.List.{prefix_len, take_while}
@@ -11,13 +12,10 @@ use Rattle.kh_lex.proofs.Runs.{is-first, IsLongestRun-take_while, take_while-run
 
 -- the size of a value is its size without the sign
 pub nat_abs-signed : (minus : Bool) (size : ℕ) → nat_abs (signed minus size) ≡ size
-nat_abs-signed false size = refl
-nat_abs-signed true zero = refl
-nat_abs-signed true (suc size) = refl
+nat_abs-signed minus size = grind (arith, nat_tests)
 
 pub length-sign : (minus : Bool) → length (sign minus) ≡ cond minus 1 0
-length-sign true = refl
-length-sign false = refl
+length-sign minus = grind (arith, nat_tests)
 
 -- a text is a sign, the digits behind it and a rest
 pub record IsSplit (minus : Bool) (text digits : List ℕ) : Type 0 where
@@ -59,13 +57,7 @@ pub record IsReadAs (text : List ℕ) (minus : Bool) (digits : List ℕ) : Type 
   pub no_blank : begins_with is_blank text ≡ false
 
 IsReadAs-run : (minus : Bool) (digits rest : List ℕ) → IsLongestRun is_ascii_digit digits rest → IsReadAs ((sign minus ++ digits) ++ rest) minus digits
-IsReadAs-run true digits rest run = record {
-  begins = is-first is_ascii_digit digits rest run;
-  sign = refl;
-  size = take_while-run is_ascii_digit digits rest run;
-  letter = refl;
-  no_blank = refl;
-}
+IsReadAs-run true digits rest run = grind (arith, nat_tests, is-first, take_while-run)
 IsReadAs-run false digits rest run = record {
   begins = rw no_minus first;
   sign = no_minus;
@@ -82,5 +74,4 @@ IsReadAs-run false digits rest run = record {
 
 -- a number is read with its sign and its digits
 pub IsReadAs-number : (value : ℤ) (bytes rest : List ℕ) (n : IsNumber value bytes rest) → IsReadAs (bytes ++ rest) n.minus n.digits
-IsReadAs-number value bytes rest n =
-    subst (λ b. IsReadAs (b ++ rest) n.minus n.digits) (sym n.parts) (IsReadAs-run n.minus n.digits rest n.run)
+IsReadAs-number value bytes rest n = grind (arith, nat_tests, IsReadAs-run n.minus n.digits rest n.run)

@@ -1,5 +1,6 @@
 -- What begins a text by the definition is read there.
-use Rattle.std.proofs.Common.{◌≡◌, ℕ, ◌+◌, ◌<◌, ◌≤◌, nat_lt, nat_abs, ℤ, pos, true, false, cond, List, ◌++◌, length, Result, Ok, Err, refl, sym, ◌∙◌, ap, subst, arith, slice_index, length-append}
+use Rattle.std.proofs.lemmas.Bool.Decides.{nat_tests}
+use Rattle.std.proofs.Common.{◌≡◌, ℕ, ◌+◌, ◌<◌, ◌≤◌, nat_lt, nat_abs, ℤ, pos, true, false, cond, List, ◌++◌, length, Result, Ok, Err, refl, sym, ◌∙◌, ap, subst, arith, length-append}
 use Rattle.std.proofs.lemmas.Bool.{le-ltb, lt-ltb}
 use Rattle.std.specs.Char.{is_ascii_alphabetic}
 use Rattle.std.specs.Str.Parse.{digits_value}
@@ -70,20 +71,8 @@ token_at-token place text t s =
 -- a token begins with no blank, and is not empty
 begins_with-kind : (kind : Kind) (value : ℤ) (bytes rest : List ℕ) → IsToken kind value bytes rest
     → (begins_with is_blank (bytes ++ rest) ≡ false) × (0 < length bytes)
-begins_with-kind Word value bytes rest is = (
-  begins_with-first is_blank (bytes ++ rest) refl
-      ∙ letter-other is_blank (slice_index (bytes ++ rest) 0) refl (is-first is_ascii_alphabetic bytes rest is.0),
-  is.0.some,
-)
-begins_with-kind Number value bytes rest is = (
-  (IsReadAs-number value bytes rest is).no_blank,
-  rw (is.parts, length-append (sign is.minus) is.digits) (omega (arith, is.run.some)),
-)
-begins_with-kind LeftBracket value bytes rest is = rw is.0 (refl, omega arith)
-begins_with-kind RightBracket value bytes rest is = rw is.0 (refl, omega arith)
-begins_with-kind LeftBrace value bytes rest is = rw is.0 (refl, omega arith)
-begins_with-kind RightBrace value bytes rest is = rw is.0 (refl, omega arith)
-begins_with-kind Comma value bytes rest is = rw is.0 (refl, omega arith)
+begins_with-kind kind value bytes rest is =
+    grind (arith, nat_tests, begins_with-first, letter-other, is-first, IsReadAs-number, length-append)
 
 -- a text begins with no blank, and has so many bytes and one at least
 pub record HasNoBlank (text : List ℕ) (size : ℕ) : Type 0 where
@@ -92,23 +81,12 @@ pub record HasNoBlank (text : List ℕ) (size : ℕ) : Type 0 where
   pub within : size ≤ length text
 
 pub HasNoBlank-token : (place : ℕ) (text : List ℕ) (t : Token) → IsTokenAt place text t → HasNoBlank text t.length
-HasNoBlank-token place text t s =
-    let is = begins_with-kind t.kind t.value s.bytes s.rest s.kind in
-    record {
-      no_blank = ap (begins_with is_blank) s.parts ∙ is.0;
-      some = omega (arith, is.1, s.size);
-      within = omega (arith, s.size, ap length s.parts, length-append s.bytes s.rest);
-    }
+HasNoBlank-token place text t s = grind (arith, nat_tests, begins_with-kind, length-append)
 
 pub HasNoBlank-fault : (place : ℕ) (text : List ℕ) (stop : LexStop) → IsFault stop place text → HasNoBlank text 1
 HasNoBlank-fault place text (stops.Bad at) is = record { no_blank = is.1.no_blank; some = omega arith; within = omega (arith, is.1.some) }
 HasNoBlank-fault place text (stops.Number at) is =
-    let number = begins_with-kind Number is.1.value is.1.bytes is.1.rest is.1.number in
-    record {
-      no_blank = ap (begins_with is_blank) is.1.parts ∙ number.0;
-      some = omega arith;
-      within = omega (arith, number.1, ap length is.1.parts, length-append is.1.bytes is.1.rest);
-    }
+    grind (arith, nat_tests, begins_with-kind Number is.1.value is.1.bytes is.1.rest is.1.number, length-append is.1.bytes is.1.rest)
 HasNoBlank-fault place text stops.NoMemory is = absurd is
 
 -- a fault is read

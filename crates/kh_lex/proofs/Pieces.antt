@@ -1,4 +1,5 @@
 -- What begins a text: the token or the fault that is read there is the one of the definition.
+use Rattle.std.proofs.lemmas.Bool.Decides.{nat_tests}
 use Rattle.std.proofs.Common.{◌≡◌, ℕ, ◌+◌, ◌<◌, ◌≤◌, nat_lt, ◌==◌, nat_abs, ℤ, pos, Bool, true, false, cond, List, [], ◌∷◌, ◌++◌, length, IfSome, Option, None, Some, Result, Ok, Err, refl, sym, ◌∙◌, ap, subst, arith, slice_index, take-append-drop, length-append, drop}
 use Rattle.std.proofs.lemmas.Bool.{eqb-true, ltb-false, ltb-true}
 use Rattle.std.proofs.lemmas.List.Folds.{length-prefix_len}
@@ -74,15 +75,7 @@ IsPieceAt-number place text begins = go (nat_lt NUMBER_LIMIT (digits_value 10 (d
         above = rw (nat_abs-signed (has_minus text) (digits_value 10 (digits_at text))) (ltb-true NUMBER_LIMIT (digits_value 10 (digits_at text)) e);
       },
     )
-    go false e = record {
-      bytes = sign (has_minus text) ++ digits_at text;
-      rest = s.rest;
-      parts = s.parts;
-      begin = refl;
-      size = rw (length-append (sign (has_minus text)) (digits_at text), length-sign (has_minus text)) refl;
-      kind = IsNumber-signed (has_minus text) text (digits_at text) s;
-      limit = rw (nat_abs-signed (has_minus text) (digits_value 10 (digits_at text))) (ltb-false NUMBER_LIMIT (digits_value 10 (digits_at text)) e);
-    }
+    go false e = grind (arith, nat_tests, s, length-append, length-sign, IsNumber-signed, nat_abs-signed, ltb-false)
 
 -- no token of a kind stands where its first byte does not
 BeginsNoToken-other : (text : List ℕ) → 0 < length text → begins_with is_blank text ≡ false → is_ascii_alphabetic (slice_index text 0) ≡ false
@@ -97,12 +90,8 @@ BeginsNoToken-other text some no_blank no_letter no_number no_mark = record {
     marked byte bytes rest parts is = rw (← ap (λ t. slice_index t 0) (parts ∙ ap (λ b. b ++ rest) is)) no_mark
 
     none : (kind : Kind) (bytes rest : List ℕ) (value : ℤ) → text ≡ bytes ++ rest → ¬ IsToken kind value bytes rest
-    none Word bytes rest value parts is =
-        let first = ap (λ t. is_ascii_alphabetic (slice_index t 0)) parts ∙ is-first is_ascii_alphabetic bytes rest is.0 in
-        absurd (cc)
-    none Number bytes rest value parts is =
-        let first = ap begins_number parts ∙ (IsReadAs-number value bytes rest is).begins in
-        absurd (cc)
+    none Word bytes rest value parts is = grind (arith, nat_tests, is-first, is)
+    none Number bytes rest value parts is = grind (arith, nat_tests, IsReadAs-number value bytes rest is, is)
     none LeftBracket bytes rest value parts is = let e = marked 91 bytes rest parts is.0 in absurd (cc)
     none RightBracket bytes rest value parts is = let e = marked 93 bytes rest parts is.0 in absurd (cc)
     none LeftBrace bytes rest value parts is = let e = marked 123 bytes rest parts is.0 in absurd (cc)
@@ -143,12 +132,7 @@ IsPieceAt-mark place text some no_blank no_letter no_number = go
         → IsPieceAt place text (option_map_or (λ kind. Ok (plain_token kind place 1))
         (cond a (Some LeftBracket) (cond b (Some RightBracket) (cond c (Some LeftBrace) (cond d (Some RightBrace) (cond e (Some Comma) None)))))
         (Err (stops.Bad place)))
-    go true a b _ c _ d _ e _ = IsTokenAt-mark place text 91 LeftBracket some (is 91 a) (λ rest. (refl, refl))
-    go false _ true b c _ d _ e _ = IsTokenAt-mark place text 93 RightBracket some (is 93 b) (λ rest. (refl, refl))
-    go false _ false _ true c d _ e _ = IsTokenAt-mark place text 123 LeftBrace some (is 123 c) (λ rest. (refl, refl))
-    go false _ false _ false _ true d e _ = IsTokenAt-mark place text 125 RightBrace some (is 125 d) (λ rest. (refl, refl))
-    go false _ false _ false _ false _ true e = IsTokenAt-mark place text 44 Comma some (is 44 e) (λ rest. (refl, refl))
-    go false a false b false c false d false e = (refl, BeginsNoToken-other text some no_blank no_letter no_number (rw (a, b, c, d, e) refl))
+    go a has1 b has3 c has5 d has7 e has9 = grind (arith, nat_tests, IsTokenAt-mark, is, BeginsNoToken-other)
 
 -- the token or the fault that is read begins the text
 pub IsPieceAt-token_at : (place : ℕ) (text : List ℕ) → 0 < length text → begins_with is_blank text ≡ false → IsPieceAt place text (token_at place text)
@@ -156,9 +140,7 @@ IsPieceAt-token_at place text some no_blank = go (is_ascii_alphabetic (slice_ind
   where
     go : (letter : Bool) → is_ascii_alphabetic (slice_index text 0) ≡ letter → (number : Bool) → begins_number text ≡ number
         → IsPieceAt place text (cond letter (Ok (word_at place text)) (cond number (number_at place text) (mark_at place text)))
-    go true letter number _ = IsTokenAt-word place text some letter
-    go false no_letter true begins = IsPieceAt-number place text begins
-    go false no_letter false no_number = IsPieceAt-mark place text some no_blank no_letter no_number
+    go letter has1 number begins = grind (arith, nat_tests, IsTokenAt-word, IsPieceAt-number, IsPieceAt-mark)
 
 -- what is read is a blank, or a token that begins the text
 pub IsTokenAt-piece : (place : ℕ) (text : List ℕ) (piece : Option Token) → piece_at place text ≡ Ok piece → 0 < length text → IfSome piece (IsTokenAt place text)
@@ -170,5 +152,4 @@ IsTokenAt-piece place text piece read some = go (is_blank (slice_index text 0)) 
 
     go : (blank : Bool) → is_blank (slice_index text 0) ≡ blank → cond blank (Ok None) (result_map_both Some (λ stop. stop) (token_at place text)) ≡ Ok piece
         → IfSome piece (IsTokenAt place text)
-    go true blank e = subst (λ p. IfSome p (IsTokenAt place text)) (ok_is e) tt
-    go false no_blank e = taken (token_at place text) (IsPieceAt-token_at place text some (begins_with-first is_blank text refl ∙ no_blank)) e
+    go blank has1 e = grind (arith, nat_tests, ok_is, taken, IsPieceAt-token_at, begins_with-first)

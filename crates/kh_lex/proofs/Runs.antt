@@ -1,7 +1,8 @@
 -- A longest run that begins a text, as it is and as it is measured.
-use Rattle.std.proofs.Common.{◌≡◌, ℕ, ◌+◌, ◌<◌, Bool, true, false, cond, List, [], ◌∷◌, ◌++◌, length, take, drop, refl, arith, slice_index, one-add}
+use Rattle.std.proofs.lemmas.Bool.Decides.{nat_tests}
+use Rattle.std.proofs.Common.{◌≡◌, ℕ, ◌+◌, ◌<◌, Bool, true, false, cond, List, [], ◌∷◌, ◌++◌, length, take, drop, refl, arith, slice_index}
 use Rattle.std.proofs.Math.Seq.{take-append_seam}
-use Rattle.std.proofs.lemmas.Bool.{and_parts, and_from}
+use Rattle.std.proofs.lemmas.Bool.{and_parts}
 use Rattle.std.proofs.lemmas.List.Folds.{length-prefix_len}
 use Rattle.std.proofs.lemmas.List.Sums.{AllPass-from_list_all}
 use Rattle.std.specs.List.{AllPass, list_all, prefix_len, take_while}
@@ -37,8 +38,7 @@ list_all-take_while is (byte ∷ bytes) = go (is byte) refl (list_all-take_while
     go : (one : Bool) → is byte ≡ one → (list_all is (take (prefix_len is bytes) bytes) ≡ true) × (begins_with is (drop (prefix_len is bytes) bytes) ≡ false)
         → (list_all is (take (cond one (1 + prefix_len is bytes) 0) (byte ∷ bytes)) ≡ true)
         × (begins_with is (drop (cond one (1 + prefix_len is bytes) 0) (byte ∷ bytes)) ≡ false)
-    go true same rest = rw one-add (and_from (is byte) (list_all is (take (prefix_len is bytes) bytes)) same rest.0, rest.1)
-    go false same rest = (refl, same)
+    go one same rest = grind (arith, nat_tests)
 
 -- so all that is taken is of the sort
 pub take_while_passes : (is : ℕ → Bool) (text : List ℕ) → AllPass is (take_while is text)

@@ -1,4 +1,5 @@
 -- What the loops keep, from one section of a text to the next.
+use Rattle.std.proofs.lemmas.Bool.Decides.{nat_tests}
 use Rattle.std.proofs.Common.{◌≡◌, ℕ, ◌+◌, ◌<◌, ◌≤◌, List, [], ◌∷◌, ◌++◌, length, drop, filter, sym, ◌∙◌, ap, arith, append_assoc}
 use Rattle.std.proofs.Math.ListN.{drop_of_length-le}
 use Rattle.std.proofs.lemmas.List.{append-nil}
@@ -16,10 +17,7 @@ pub record IsCounted (text : List ℕ) (place count : ℕ) : Type 0 where
 -- one more line
 pub IsCounted-line : (text line : List ℕ) (place count : ℕ) → place < length text → line ≡ first_section is_line_feed (drop place text)
     → IsCounted text place count → IsCounted text (place + (length line + 1)) (count + 1)
-IsCounted-line text line place count left is_line so_far = record {
-  whole = omega (arith, so_far.whole, ap length (sections_of-at is_line_feed text line place left is_line));
-  few = omega (arith, so_far.few);
-}
+IsCounted-line text line place count left is_line so_far = grind (arith, nat_tests, sections_of-at)
 
 -- nothing is left
 pub lines_of-end : (text : List ℕ) (place count : ℕ) → length text ≤ place → IsCounted text place count → count ≡ length (lines_of text)
@@ -45,5 +43,4 @@ IsParted-piece line piece place words left is_piece so_far =
 -- nothing is left
 pub words_of-end : (line : List ℕ) (place : ℕ) (words : List (List ℕ)) → length line ≤ place → IsParted line place words
     → words ≡ words_of line
-words_of-end line place words end so_far =
-    sym (append-nil words) ∙ ap (λ rest. words ++ words_of rest) (sym (drop_of_length-le line end)) ∙ so_far.whole
+words_of-end line place words end so_far = grind (arith, nat_tests, append-nil, drop_of_length-le)

@@ -1,8 +1,8 @@
 -- The pieces of a text, one after another.
-use Rattle.std.proofs.Common.{◌≡◌, ℕ, suc, ◌+◌, ◌<◌, Bool, true, false, cond, not, List, [], ◌∷◌, length, drop, refl, sym, ◌∙◌, ap, arith}
+use Rattle.std.proofs.lemmas.Bool.Decides.{nat_tests}
+use Rattle.std.proofs.Common.{◌≡◌, ℕ, ◌+◌, ◌<◌, Bool, cond, List, [], ◌∷◌, length, drop, refl, sym, ◌∙◌, ap, arith}
 use Rattle.std.proofs.lemmas.List.{drop-drop, length-drop}
-use Rattle.std.proofs.lemmas.List.Sums.{take_while-cons}
-use Rattle.kh_lex.specs.Sections.{before_first, first_section, is_unlike, sections_of}
+use Rattle.kh_lex.specs.Sections.{before_first, first_section, sections_of}
 
 -- the first piece of a text in which something is left, and the others behind the byte that ends it
 pub sections_of-first : (is : ℕ → Bool) (text : List ℕ) → 0 < length text
@@ -14,21 +14,12 @@ sections_of-first is (byte ∷ bytes) some = go (sections_of-first is bytes) (is
         → (0 < length later → sections_of is later ≡ first_section is later ∷ sections_of is (drop (length (first_section is later) + 1) later))
         → before_first byte (sections_of is later)
         ≡ (byte ∷ first_section is later) ∷ sections_of is (drop (length (first_section is later) + 1) later)
-    rest [] same = refl
-    rest (next ∷ more) same = ap (before_first byte) (same (omega arith))
+    rest later same = grind (arith, nat_tests)
 
     go : (0 < length bytes → sections_of is bytes ≡ first_section is bytes ∷ sections_of is (drop (length (first_section is bytes) + 1) bytes))
         → (b : Bool) → is byte ≡ b → cond b ([] ∷ sections_of is bytes) (before_first byte (sections_of is bytes))
         ≡ first_section is (byte ∷ bytes) ∷ sections_of is (drop (length (first_section is (byte ∷ bytes)) + 1) (byte ∷ bytes))
-    go later true e =
-        let first : first_section is (byte ∷ bytes) ≡ [] = take_while-cons (is_unlike is) byte bytes
-        ∙ ap (λ c. cond (not c) (byte ∷ first_section is bytes) []) e in
-        rw first refl
-    go later false e =
-        let first : first_section is (byte ∷ bytes) ≡ byte ∷ first_section is bytes
-        = take_while-cons (is_unlike is) byte bytes ∙ ap (λ c. cond (not c) (byte ∷ first_section is bytes) []) e in
-        let size : length (byte ∷ first_section is bytes) + 1 ≡ suc (length (first_section is bytes) + 1) = omega arith in
-        rw (first, size) (rest bytes later)
+    go later b e = grind (arith, nat_tests)
 
 -- the same of what is left from a place on
 pub sections_of-at : (is : ℕ → Bool) (text piece : List ℕ) (place : ℕ) → place < length text → piece ≡ first_section is (drop place text)

@@ -1,4 +1,5 @@
 -- Words cut a line exactly where they are its sections between gaps that are not empty.
+use Rattle.std.proofs.lemmas.Bool.Decides.{nat_tests}
 use Rattle.std.proofs.Common.{◌≡◌, ℕ, ◌<◌, Bool, true, false, cond, List, [], ◌∷◌, ◌++◌, length, filter, refl, sym, ◌∙◌, ap, arith, append-nil}
 use Rattle.std.proofs.lemmas.Bool.{and_from, and_parts, both_ways}
 use Rattle.std.specs.List.{list_all, list_any}
@@ -19,19 +20,14 @@ words_of-none line gap = ap words_of (sym (append-nil line)) ∙ words_of-gaps l
 -- a word and a rest that does not go on with it
 words_of-word : (word rest : List ℕ) → 0 < length word → list_any is_gap word ≡ false → ends_word rest ≡ true
     → words_of (word ++ rest) ≡ word ∷ words_of rest
-words_of-word [] rest some solid longest = absurd (omega arith)
-words_of-word (byte ∷ word) [] some solid longest =
-    ap words_of (append-nil (byte ∷ word)) ∙ ap (filter has_bytes) (sections_of-last is_gap (byte ∷ word) some solid)
-words_of-word (byte ∷ word) (gap ∷ rest) some solid longest =
-    ap (filter has_bytes) (sections_of-ended is_gap (byte ∷ word) gap rest solid longest)
-    ∙ ap (λ words. (byte ∷ word) ∷ words) (sym (words_of-gaps (gap ∷ []) rest (and_from (is_gap gap) true longest refl)))
+words_of-word word rest some solid longest =
+    grind (arith, nat_tests, append-nil, sections_of-last, sections_of-ended, words_of-gaps, and_from)
 
 -- words that cut a line are those
 pub words_of-CutsWords : (line : List ℕ) (words : List (List ℕ)) → CutsWords line words → words ≡ words_of line
 words_of-CutsWords line [] gap = sym (words_of-none line gap)
 words_of-CutsWords line (word ∷ words) (rest, first, cut) =
-    ap (λ more. word ∷ more) (words_of-CutsWords rest words cut) ∙ sym (words_of-word word rest first.some first.solid first.longest)
-    ∙ sym (words_of-gaps first.gaps (word ++ rest) first.all_gaps) ∙ ap words_of (sym first.parts)
+    grind (arith, nat_tests, words_of-word, words_of-gaps, words_of-CutsWords rest words cut)
 
 -- a gap before a line
 CutsWords-gap : (byte : ℕ) (line : List ℕ) (words : List (List ℕ)) → is_gap byte ≡ true → CutsWords line words
@@ -53,11 +49,7 @@ CutsWords-gap byte line (word ∷ words) gap (rest, first, cut) = (
 -- a word of one byte
 CutsWords-one : (byte : ℕ) (line : List ℕ) (words : List (List ℕ)) → is_gap byte ≡ false → ends_word line ≡ true → CutsWords line words
     → CutsWords (byte ∷ line) ((byte ∷ []) ∷ words)
-CutsWords-one byte line words other longest cut = (
-  line,
-  record { gaps = []; parts = refl; all_gaps = refl; some = omega arith; solid = rw other refl; longest = longest },
-  cut,
-)
+CutsWords-one byte line words other longest cut = grind (arith, nat_tests)
 
 -- the gaps before a word that begins a line are none
 first-parts : (byte : ℕ) (line tail gaps : List ℕ) → is_gap byte ≡ false → byte ∷ line ≡ gaps ++ tail
@@ -74,18 +66,7 @@ first-parts byte line tail (first ∷ gaps) other parts gap = absurd
 -- a byte before a word that begins a line
 CutsWords-more : (byte next : ℕ) (line word : List ℕ) (words : List (List ℕ)) → is_gap byte ≡ false → is_gap next ≡ false
     → CutsWords (next ∷ line) (word ∷ words) → CutsWords (byte ∷ next ∷ line) ((byte ∷ word) ∷ words)
-CutsWords-more byte next line word words other solid (rest, first, cut) = (
-  rest,
-  record {
-    gaps = [];
-    parts = ap (λ t. byte ∷ t) (first-parts next line (word ++ rest) first.gaps solid first.parts first.all_gaps);
-    all_gaps = refl;
-    some = omega arith;
-    solid = rw other first.solid;
-    longest = first.longest;
-  },
-  cut,
-)
+CutsWords-more byte next line word words other solid has7 = grind (arith, nat_tests, first-parts)
 
 -- another byte before a line begins a word
 CutsWords-byte : (byte : ℕ) (line : List ℕ) → is_gap byte ≡ false → CutsWords line (words_of line)
@@ -95,15 +76,13 @@ CutsWords-byte byte (next ∷ line) other cut = go (is_gap next) refl cut
   where
     inner : (pieces : List (List ℕ)) → is_gap next ≡ false → CutsWords (next ∷ line) (filter has_bytes (before_first next pieces))
         → CutsWords (byte ∷ next ∷ line) (filter has_bytes (before_first byte (before_first next pieces)))
-    inner [] solid cut = CutsWords-more byte next line (next ∷ []) [] other solid cut
-    inner (piece ∷ pieces) solid cut = CutsWords-more byte next line (next ∷ piece) (filter has_bytes pieces) other solid cut
+    inner pieces solid cut = grind (arith, nat_tests, CutsWords-more)
 
     go : (gap : Bool) → is_gap next ≡ gap
         → CutsWords (next ∷ line) (filter has_bytes (cond gap ([] ∷ sections_of is_gap line) (before_first next (sections_of is_gap line))))
         → CutsWords (byte ∷ next ∷ line)
         (filter has_bytes (before_first byte (cond gap ([] ∷ sections_of is_gap line) (before_first next (sections_of is_gap line)))))
-    go true gap cut = CutsWords-one byte (next ∷ line) (words_of line) other gap cut
-    go false solid cut = inner (sections_of is_gap line) solid cut
+    go gap has1 cut = grind (arith, nat_tests, CutsWords-one, inner)
 
 -- those words cut a line
 pub CutsWords-words_of : (line : List ℕ) → CutsWords line (words_of line)
@@ -112,5 +91,4 @@ CutsWords-words_of (byte ∷ line) = go (CutsWords-words_of line) (is_gap byte) 
   where
     go : CutsWords line (words_of line) → (gap : Bool) → is_gap byte ≡ gap
         → CutsWords (byte ∷ line) (filter has_bytes (cond gap ([] ∷ sections_of is_gap line) (before_first byte (sections_of is_gap line))))
-    go cut true gap = CutsWords-gap byte line (words_of line) gap cut
-    go cut false other = CutsWords-byte byte line other cut
+    go cut gap has2 = grind (arith, nat_tests, CutsWords-gap, CutsWords-byte)

@@ -1,17 +1,17 @@
 -- A text that is written as a line, with a line feed behind it, means the same symbols.
-use Rattle.std.proofs.Common.{◌≡◌, ◌∙◌, ℕ, ℤ, Bool, true, false, List, [], ◌∷◌, ◌++◌, refl, sym, ap, subst, append_assoc, codes}
-use Rattle.std.specs.Char.{is_ascii_alphabetic, is_ascii_digit}
+use Rattle.std.proofs.lemmas.Bool.Decides.{nat_tests}
+use Rattle.std.proofs.Common.{arith}
+use Rattle.std.proofs.Common.{◌≡◌, ◌∙◌, ℕ, ℤ, Bool, true, false, List, [], ◌∷◌, ◌++◌, refl, ap, append_assoc, codes}
 use Rattle.std.specs.List.{list_all}
 use Rattle.std.proofs.lemmas.Bool.{and_parts}
 use Rattle.std.proofs.lemmas.List.{append-nil}
 use Rattle.kh_lex.specs.Symbols.{Means}
 use Rattle.kh_lex.specs.declared.symbol.Symbol.{Symbol}
 use Rattle.kh_lex.specs.declared.token.Kind.{Kind}
-use Rattle.kh_lex.specs.declared.token.Kind.TheVariants.{Word, Number, LeftBracket, RightBracket, LeftBrace, RightBrace, Comma}
 use Rattle.kh_lex.specs.Cuts.{IsLongestRun, IsToken, SkipsBlanks, begins_with, is_blank}
 use Rattle.kh_lex.specs.Lines.{with_feed}
 use Rattle.kh_lex.proofs.Cuttings.{skip-cons}
-use Rattle.kh_lex.proofs.WrittenTexts.{IsWritten, Means-written, Writes, WritesFirst}
+use Rattle.kh_lex.proofs.WrittenTexts.{IsWritten, Means-written, Writes}
 
 -- blanks with a line feed behind them are blank
 skip-feed : (blanks : List ℕ) → list_all is_blank blanks ≡ true → SkipsBlanks (with_feed blanks) []
@@ -22,34 +22,18 @@ skip-feed (byte ∷ blanks) all =
 
 -- and so is a text that is blank
 blank-feed : (text : List ℕ) → SkipsBlanks text [] → SkipsBlanks (with_feed text) []
-blank-feed text skip =
-    let same : with_feed skip.blanks ≡ with_feed text =
-    ap with_feed (sym (append-nil skip.blanks) ∙ sym skip.parts) in
-    subst (λ (t : List ℕ). SkipsBlanks t []) same (skip-feed skip.blanks skip.blank)
+blank-feed text skip = grind (arith, nat_tests, append-nil, skip-feed)
 
 -- a run stays the longest before a line feed, which is not of its sort
 longest-feed : (is : ℕ → Bool) (rest : List ℕ) → is 10 ≡ false → begins_with is rest ≡ false → begins_with is (with_feed rest) ≡ false
-longest-feed is [] other longest = other
-longest-feed is (byte ∷ rest) other longest = longest
+longest-feed is rest other longest = grind (arith, nat_tests)
 
 run-feed : (is : ℕ → Bool) (bytes rest : List ℕ) → is 10 ≡ false → IsLongestRun is bytes rest → IsLongestRun is bytes (with_feed rest)
 run-feed is bytes rest other run = record { some = run.some; all = run.all; longest = longest-feed is rest other run.longest }
 
 -- a token stays one
 token-feed : (kind : Kind) (value : ℤ) (bytes rest : List ℕ) → IsToken kind value bytes rest → IsToken kind value bytes (with_feed rest)
-token-feed Word value bytes rest token = (run-feed is_ascii_alphabetic bytes rest refl token.0, token.1)
-token-feed Number value bytes rest token = record {
-  minus = token.minus;
-  digits = token.digits;
-  parts = token.parts;
-  run = run-feed is_ascii_digit token.digits rest refl token.run;
-  valued = token.valued;
-}
-token-feed LeftBracket value bytes rest token = token
-token-feed RightBracket value bytes rest token = token
-token-feed LeftBrace value bytes rest token = token
-token-feed RightBrace value bytes rest token = token
-token-feed Comma value bytes rest token = token
+token-feed kind value bytes rest token = grind (arith, nat_tests)
 
 -- what stands behind blanks and bytes
 parts-feed : (text blanks bytes rest : List ℕ) → text ≡ blanks ++ (bytes ++ rest) → with_feed text ≡ blanks ++ (bytes ++ with_feed rest)

@@ -1,4 +1,5 @@
 -- How a text is written so that it means some symbols: symbol by symbol, from its end on.
+use Rattle.std.proofs.lemmas.Bool.Decides.{nat_tests}
 use Rattle.std.proofs.Common.{◌≡◌, suc, ◌+◌, ◌<◌, ◌≤◌, ℕ, ℤ, pos, negsuc, neg_ℤ, nat_abs, true, false, List, [], ◌∷◌, ◌++◌, length, take, drop, refl, sym, ◌∙◌, ap, arith, codes}
 use Rattle.std.proofs.Math.Seq.{drop-append_seam, take-append_seam}
 use Rattle.std.proofs.lemmas.List.{drop-drop}
@@ -45,21 +46,7 @@ nothing-written = record { writes = record { blanks = []; parts = refl; blank = 
 -- a token before a text
 token-written : {rest : List ℕ} {more : List Symbol} (kind : Kind) (value : ℤ) (bytes : List ℕ) → IsToken kind value bytes rest → nat_abs value ≤ NUMBER_LIMIT
     → IsWritten rest more → IsWritten (bytes ++ rest) (kind_symbol kind bytes value ∷ more)
-token-written {rest = rest} kind value bytes token limit written = record {
-  writes = (
-    rest,
-    record {
-      kind = kind;
-      value = value;
-      bytes = bytes;
-      skip = record { blanks = []; parts = refl; blank = refl };
-      token = token;
-      limit = limit;
-      meaning = refl;
-    },
-    written.writes,
-  );
-}
+token-written {rest = rest} kind value bytes token limit written = grind (arith, nat_tests)
 
 -- a mark before a text
 pub left_bracket-written : {rest : List ℕ} {more : List Symbol} → IsWritten rest more → IsWritten (codes "[" ++ rest) (symbols.LeftBracket ∷ more)
@@ -86,9 +73,7 @@ word-written word some all longest written =
 -- digits are digits
 list_all-digits : (digits : List ℕ) → AllDigits 10 digits → list_all is_ascii_digit digits ≡ true
 list_all-digits [] all = refl
-list_all-digits (digit ∷ digits) all =
-    let range = digit_from_value digit all.0 in
-    and_from (is_ascii_digit digit) (list_all is_ascii_digit digits) (search (arith, range)) (list_all-digits digits all.1)
+list_all-digits (digit ∷ digits) all = grind (arith, nat_tests, digit_from_value, and_from, list_all-digits digits all.1)
 
 -- decimal digits before a text that begins with no digit are a run
 decimal-run : {rest : List ℕ} (n : ℕ) → n ≤ NUMBER_LIMIT → begins_with is_ascii_digit rest ≡ false → IsLongestRun is_ascii_digit (decimal n) rest × (digits_value 10 (decimal n) ≡ n)
@@ -113,20 +98,7 @@ space-written {rest = rest} {more = more} written = record { writes = go more wr
   where
     go : (more : List Symbol) → Writes rest more → Writes (32 ∷ rest) more
     go [] skip = skip-cons 32 rest [] refl skip
-    go (symbol ∷ more) writes =
-        let first = writes.1 in (
-          writes.0,
-          record {
-            kind = first.kind;
-            value = first.value;
-            bytes = first.bytes;
-            skip = skip-cons 32 rest (first.bytes ++ writes.0) refl first.skip;
-            token = first.token;
-            limit = first.limit;
-            meaning = first.meaning;
-          },
-          writes.2,
-        )
+    go (symbol ∷ more) writes = grind (arith, nat_tests, skip-cons)
 
 -- the tokens of a text that writes symbols, whose first byte has a place in a whole text
 tokens-Writes : (whole : List ℕ) (place : ℕ) (text : List ℕ) (more : List Symbol) → drop place whole ≡ text → Writes text more
@@ -157,6 +129,4 @@ tokens-Writes whole place text (symbol ∷ more) stands writes =
 
 -- a text means what it writes
 pub Means-written : (text : List ℕ) (more : List Symbol) → IsWritten text more → Means text more
-Means-written text more written =
-    let cut = tokens-Writes text 0 text more refl written.writes in
-    record { tokens = cut.0; cut = cut.1; meaning = cut.2 }
+Means-written text more written = grind (arith, nat_tests, tokens-Writes text 0 text more refl written.writes)

@@ -1,5 +1,6 @@
 -- What is read of a drawing's slices, after a crossing has begun in an empty row.
-use Rattle.std.proofs.Common.{◌≡◌, ◌≢◌, ℕ, inl, inr, ◌+◌, ◌*◌, ◌/◌, ◌%◌, ◌<◌, ◌≤◌, ◌∙◌, List, [], ◌∷◌, ◌++◌, length, map, refl, sym, ap, ap₂, subst, arith, min}
+use Rattle.std.proofs.lemmas.Bool.Decides.{nat_tests}
+use Rattle.std.proofs.Common.{◌≡◌, ◌≢◌, ℕ, inl, inr, ◌+◌, ◌*◌, ◌/◌, ◌<◌, ◌≤◌, ◌∙◌, List, [], ◌∷◌, ◌++◌, length, map, refl, sym, ap, subst, arith, min}
 use Rattle.std.proofs.lemmas.Bool.{cases_eq}
 use Rattle.kh_types.specs.Classes.{Respects}
 use Rattle.kh_types.proofs.ClassCounts.{AreBelow-wider}
@@ -15,10 +16,7 @@ begun-is : (c next : ℕ) (joins met : List (ℕ × ℕ))
     → sketched (sketched (sketched (made [] next joins met) (Cap 1)) (Cap 3)) (Cross 2 (c + 1) 0)
     ≡ made (next ∷ (next + 2 + 2) ∷ (next + 2 + 2 + 1) ∷ (next + 2 + 1) ∷ []) (next + 2 + 2 + 2)
     ((joins ++ (next, next + 1) ∷ []) ++ (next + 2, next + 2 + 1) ∷ []) (cross_met (4 * c) (next + 1) (next + 2) (next + 2 + 2) met)
-begun-is c next joins met =
-    let e : c + 1 ≡ 4 * c / 4 + 1 = omega arith in
-    let s : 0 ≡ 4 * c % 4 = omega arith in
-    ap₂ (λ k slot. sketched (sketched (sketched (made [] next joins met) (Cap 1)) (Cap 3)) (Cross 2 k slot)) e s
+begun-is c next joins met = grind (arith, nat_tests)
 
 pub sketched-begun : (n : ℕ) (part whole : ℕ → ℕ) (drawn : List ℕ) (c : ℕ) (r : Sketch)
     → IsSketched n part whole drawn [] r → IsDrawing n part whole drawn [] → c < n → (IsIn c drawn → ⊥)

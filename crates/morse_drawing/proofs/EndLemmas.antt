@@ -1,6 +1,7 @@
 -- What the functions on the row need.
-use Rattle.std.proofs.Common.{◌≡◌, ◌∙◌, ℕ, ◌+◌, ◌<◌, List, ◌++◌, ap, arith, length, map, take, drop, set, get_or, refl}
-use Rattle.std.specs.Prelude.{Option, Some, None}
+use Rattle.std.proofs.lemmas.Bool.Decides.{nat_tests}
+use Rattle.std.proofs.Common.{◌≡◌, ◌∙◌, ℕ, ◌+◌, ◌<◌, List, ◌++◌, ap, arith, length, map, take, drop, set, get_or}
+use Rattle.std.specs.Prelude.{Option}
 use Rattle.std.specs.Option.{option_map}
 use Rattle.std.proofs.lemmas.List.{get_or_default, length-append, length-drop, length-map, length-take}
 use Rattle.std.proofs.lemmas.List.Edits.{map_over_more}
@@ -19,5 +20,4 @@ place_renamed f xs ys i y below is_ys is_y =
     ∙ map_over_more f xs ys i (get_or ys i (AtDart 0)) below is_ys (get_or_default ys i (AtDart 0) (get_or ys i (AtDart 0)) below_too)
 
 pub option_map-same : (r : Option ℕ) → option_map (λ x. x) r ≡ r
-option_map-same None = refl
-option_map-same (Some x) = refl
+option_map-same r = grind (arith, nat_tests)

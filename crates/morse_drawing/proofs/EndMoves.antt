@@ -281,10 +281,7 @@ Ends-capped limit name next joins met segments others loops l is from below none
     both-new f one p q p_from p_below q_from q_below = at p p_from p_below ∙ sym (at q q_from q_below)
       where
         at : (k : ℕ) → next ≤ k → k < next + 2 → f k ≡ f next
-        at k k_from k_below = elim (cases_eq k next) [
-          | inl same ↦ ap f same
-          | inr other ↦ let second : k ≡ next + 1 = omega (arith, k_from, k_below, other) in ap f second ∙ sym one
-        ]
+        at k k_from k_below = grind (arith, nat_tests, cases_eq k next)
 
 -- a dart that began a segment which was tied to an end meets that end
 pub Ends-dropped : (limit : ℕ) (name : ℕ → ℕ) (next : ℕ) (joins met : List (ℕ × ℕ)) (segments others : List ℕ) (loops d a : ℕ)
@@ -331,8 +328,7 @@ Ends-dropped limit name next joins met segments others loops d a is a_below join
 
     segment-below : (x : ℕ) → is_met ((d, a) ∷ met) x ≡ true → (d ≡ x) ⊎ (d ≢ x) → segment_met ((d, a) ∷ met) x < next
     segment-below x met_x (inl same) = omega (arith, segment-one d a x met same, a_below)
-    segment-below x met_x (inr other) =
-        omega (arith, segment-rest d a x met other, met_below x (sym (met-rest d a x met other) ∙ met_x))
+    segment-below x met_x (inr other) = grind (arith, nat_tests, segment-rest d a x met other, met-rest d a x met other)
 
     same-label : (y : ℕ) → (d ≡ y) ⊎ (d ≢ y) → name (segment_met ((d, a) ∷ met) y) ≡ name (segment_met ((d, next) ∷ met) y)
     same-label y (inl same) = ap name (segment-one d a y met same) ∙ tied ∙ sym (ap name (segment-one d next y met same))

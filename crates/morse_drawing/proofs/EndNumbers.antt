@@ -1,8 +1,8 @@
 -- The row of open ends, and the same by numbers alone.
-use Rattle.std.proofs.Common.{◌≡◌, ℕ, zero, suc, ◌+◌, ◌-◌, ◌*◌, ◌<◌, ◌≤◌, ◌∙◌, List, [], ◌∷◌, ◌++◌, length, map, get_or, set, take, drop, sym, ap, ap₂, refl, arith, Bool, true, false, cond, not}
-use Rattle.std.specs.Prelude.{◌&&◌, ◌||◌, nat_eq, nat_le, nat_lt, unwrap_or, Option, Some, None}
+use Rattle.std.proofs.Common.{◌≡◌, ℕ, zero, suc, ◌+◌, ◌-◌, ◌*◌, ◌<◌, ◌≤◌, ◌∙◌, List, [], ◌∷◌, length, map, get_or, set, take, drop, sym, ap, ap₂, refl, arith, Bool, true, false, cond, not}
+use Rattle.std.specs.Prelude.{◌&&◌, nat_eq, nat_le, nat_lt, unwrap_or, Option, Some, None}
 use Rattle.std.specs.List.{AllByRecursion, filter, find, insert, list_any, range_with_len, remove}
-use Rattle.std.proofs.lemmas.Bool.{both_ways, ne_eqb}
+use Rattle.std.proofs.lemmas.Bool.{both_ways}
 use Rattle.std.proofs.lemmas.Bool.Decides.{nat_tests}
 use Rattle.std.proofs.lemmas.List.{drop-map, get_or-map, length-map, map-append, map-set, take-map}
 use Rattle.kh_types.proofs.Lists.{AllByRecursion-append, filter-range_agree, map-remove}
@@ -74,25 +74,18 @@ all_at P zero d (x ∷ xs) below all = all.0
 all_at P (suc k) d (x ∷ xs) below all = all_at P k d xs (omega (arith, below)) all.1
 
 map-insert : {X Y : Type 0} (f : X → Y) (xs : List X) (k : ℕ) (x : X) → map f (insert xs k x) ≡ insert (map f xs) k (f x)
-map-insert {X} {Y} f xs k x =
-    map-append f (take k xs) (x ∷ drop k xs) ∙ ap (λ (ys : List Y). ys ++ f x ∷ map f (drop k xs)) (sym (take-map f k xs))
-    ∙ ap (λ (ys : List Y). take k (map f xs) ++ f x ∷ ys) (sym (drop-map f k xs))
+map-insert {X} {Y} f xs k x = grind (arith, nat_tests, map-append f (take k xs) (x ∷ drop k xs), take-map f k xs, drop-map f k xs)
 
 -- ends are one where their labels are
 same-label : (limit : ℕ) (a b : End) → IsEnd limit a → IsEnd limit b → nat_eq (label limit a) (label limit b) ≡ is_same_end a b
-same-label limit (AtDart dart) (AtDart other) one two = refl
-same-label limit (AtDart dart) (OnLine line) one two = ne_eqb dart (4 * limit + line) (λ same. absurd (omega (arith, same, one)))
-same-label limit (OnLine line) (AtDart dart) one two = ne_eqb (4 * limit + line) dart (λ same. absurd (omega (arith, same, two)))
-same-label limit (OnLine line) (OnLine other) one two = grind (arith, nat_tests)
+same-label limit a b one two = grind (arith, nat_tests)
 
 label-cond : (limit : ℕ) (b : Bool) (x y : End) → cond b (label limit x) (label limit y) ≡ label limit (cond b x y)
-label-cond limit true x y = refl
-label-cond limit false x y = refl
+label-cond limit b x y = grind (arith, nat_tests)
 
 label-renamed : (limit : ℕ) (old new end : End) → IsEnd limit old → IsEnd limit end
     → relabelled (label limit old) (label limit new) (label limit end) ≡ label limit (renamed old new end)
-label-renamed limit old new end one two =
-    ap (λ b. cond b (label limit new) (label limit end)) (same-label limit end old two one) ∙ label-cond limit (is_same_end end old) new end
+label-renamed limit old new end one two = grind (arith, nat_tests)
 
 map-renamed : (limit : ℕ) (old new : End) (row : List End) → IsEnd limit old → AllByRecursion (IsEnd limit) row
     → map (relabelled (label limit old) (label limit new)) (map (label limit) row) ≡ map (label limit) (map (renamed old new) row)
@@ -101,8 +94,7 @@ map-renamed limit old new (end ∷ row) one all =
     ap₂ (λ (x : ℕ) xs. x ∷ xs) (label-renamed limit old new end one all.0) (map-renamed limit old new row one all.1)
 
 IsEnd-cond : (limit : ℕ) (b : Bool) (x y : End) → IsEnd limit x → IsEnd limit y → IsEnd limit (cond b x y)
-IsEnd-cond limit true x y one two = one
-IsEnd-cond limit false x y one two = two
+IsEnd-cond limit b x y one two = grind (arith, nat_tests)
 
 all_renamed : (limit : ℕ) (old new : End) (row : List End) → IsEnd limit new → AllByRecursion (IsEnd limit) row
     → AllByRecursion (IsEnd limit) (map (renamed old new) row)
@@ -114,8 +106,7 @@ all_renamed limit old new (end ∷ row) one all =
 any-label : (limit line : ℕ) (row : List End) → AllByRecursion (IsEnd limit) row
     → is_in (map (label limit) row) (4 * limit + line) ≡ list_any (is_same_end (OnLine line)) row
 any-label limit line [] all = refl
-any-label limit line (end ∷ row) all =
-    ap₂ (λ (a b : Bool). a || b) (same-label limit (OnLine line) end tt all.0) (any-label limit line row all.1)
+any-label limit line (end ∷ row) all = grind (arith, nat_tests, same-label limit (OnLine line) end tt all.0, any-label limit line row all.1)
 
 find-alike : (p q : ℕ → Bool) (xs : List ℕ) → ((x : ℕ) → p x ≡ q x) → find p xs ≡ find q xs
 find-alike p q [] alike = refl
@@ -378,8 +369,7 @@ map-filter_range {X} f g p a (suc n) alike =
   where
     by_case : (b : Bool) (rest : List ℕ) → (b ≡ true → f a ≡ g a) → map f rest ≡ map g rest
         → map f (cond b (a ∷ rest) rest) ≡ map g (cond b (a ∷ rest) rest)
-    by_case true rest first later = ap₂ (λ (x : X) (xs : List X). x ∷ xs) (first refl) later
-    by_case false rest first later = later
+    by_case b rest first later = grind (arith, nat_tests)
 
 pub pairs-same : (limit : ℕ) (others : List (Option ℕ)) → AllByRecursion (IsOther limit) others → length others ≡ 4 * limit
     → pairs_before others (4 * limit)

@@ -65,8 +65,7 @@ times-in y (z ∷ zs) is_in = elim is_in [
 
 pub times-out : (y : ℕ) (zs : List ℕ) → (IsIn y zs → ⊥) → times y zs ≡ 0
 times-out y [] out = refl
-times-out y (z ∷ zs) out =
-    omega (arith, hit-apart z y (λ same. out (inl (sym same))), times-out y zs (λ later. out (inr later)))
+times-out y (z ∷ zs) out = grind (arith, nat_tests, hit-apart z y (λ same. out (inl (sym same))), times-out y zs (λ later. out (inr later)))
 
 -- labels that all stand in a row are no more than its length
 hit-once : (z a n : ℕ) → sum_by (λ l. hit z l) (range_with_len a n) ≤ 1

@@ -1,7 +1,7 @@
 -- The open ends of segments under labels: what the row knows of the classes of segments, and what it keeps when ends are tied.
+use Rattle.std.proofs.lemmas.Bool.Decides.{nat_tests}
 use Rattle.std.proofs.Common.{◌≡◌, ◌≢◌, ℕ, ◌⊎◌, inl, inr, ◌+◌, ◌*◌, ◌<◌, ◌≤◌, ◌∙◌, List, [], ◌∷◌, ◌++◌, length, map, get_or, sym, ap, subst, refl, arith, Bool, true, false}
 use Rattle.std.specs.List.{AllByRecursion}
-use Rattle.std.proofs.lemmas.Bool.{cases_eq}
 use Rattle.kh_types.specs.Classes.{AreBelow, Respects}
 use Rattle.kh_types.proofs.Lists.{AllByRecursion-append, AllByRecursion-first, AllByRecursion-second}
 use Rattle.morse_drawing.proofs.NumberedEnds.{relabelled}
@@ -72,10 +72,7 @@ pub record Ties (limit : ℕ) (name : ℕ → ℕ) (next : ℕ) (joins met : Lis
   pub looped : (loop : ℕ) → loops ≤ loop → loop < more → HasLoop limit (name_after old new name) next loop
 
 either : (x old new : ℕ) → (x ≡ old) ⊎ ((x ≡ new) ⊎ ((x ≢ old) × (x ≢ new)))
-either x old new = elim (cases_eq x old) [
-  | inl one ↦ inl one
-  | inr not_one ↦ elim (cases_eq x new) [ inl two ↦ inr (inl two) | inr not_two ↦ inr (inr (not_one, not_two)) ]
-]
+either x old new = grind (arith, nat_tests)
 
 pub Ends-tied : (limit : ℕ) (name : ℕ → ℕ) (next : ℕ) (joins met : List (ℕ × ℕ)) (a b : ℕ) (rest others later : List ℕ)
     (loops more old new : ℕ) → Ends limit name next joins met (a ∷ b ∷ rest) others loops
@@ -172,10 +169,7 @@ Ends-tied limit name next joins met a b rest others later loops more old new is 
     twice-after l from below (inr (inl two)) =
         subst (λ (n : ℕ). (times n (map new_name rest) ≡ 0) ⊎ (times n (map new_name rest) ≡ 2)) (sym two)
         (ties.twice (omega (arith, from, two)) (omega (arith, below, two)))
-    twice-after l from below (inr (inr other)) = elim (is.twice l from below) [
-      | inl none ↦ inl (same-times l other.0 other.1 ∙ none)
-      | inr two ↦ inr (same-times l other.0 other.1 ∙ two)
-    ]
+    twice-after l from below (inr (inr other)) = grind (arith, nat_tests, same-times l other.0 other.1)
 
     none-after : (l : ℕ) → 4 * limit + 64 ≤ l → (l ≡ old) ⊎ ((l ≡ new) ⊎ ((l ≢ old) × (l ≢ new))) → times l (map new_name rest) ≡ 0
     none-after l from (inl one) = absurd (omega (arith, from, one, ties.few))

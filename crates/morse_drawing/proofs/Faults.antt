@@ -1,6 +1,6 @@
 -- The slices of a drawing have no fault.
-use Rattle.std.proofs.Common.{◌≡◌, ℕ, zero, suc, inl, inr, ◌+◌, ◌-◌, ◌*◌, ◌/◌, ◌%◌, ◌<◌, ◌≤◌, ◌∙◌, List, [], ◌∷◌, ◌++◌, length, take, drop, refl, sym, ap, subst, arith, Bool, true, false, cond}
-use Rattle.std.specs.Prelude.{◌&&◌, ◌||◌, nat_eq, nat_lt, not, slice_index, Option, Some, None}
+use Rattle.std.proofs.Common.{◌≡◌, ℕ, zero, suc, inl, inr, ◌+◌, ◌-◌, ◌*◌, ◌/◌, ◌%◌, ◌<◌, ◌≤◌, ◌∙◌, List, [], ◌∷◌, ◌++◌, length, take, drop, refl, sym, ap, arith, Bool, true, false, cond}
+use Rattle.std.specs.Prelude.{◌&&◌, nat_eq, not, slice_index, Option, None}
 use Rattle.std.specs.List.{count_by, fold, list_any, range_with_len}
 use Rattle.std.specs.Option.{option_or}
 use Rattle.std.proofs.lemmas.Bool.{cases_Bool, eq-eqb, eqb-true}
@@ -12,16 +12,14 @@ use Rattle.kh_types.proofs.ClassLemmas.{classes-together}
 use Rattle.kh_types.proofs.RangeCounts.{list_any-at}
 use Rattle.morse_drawing.specs.Sketches.{IsSketched, Sketch, is_met, segment_met, sketched}
 use Rattle.morse_drawing.specs.declared.fault.SliceFault.{SliceFault}
-use Rattle.morse_drawing.specs.Joins.{first_slice_fault, fault_where, is_loop, is_outside, loop_count, meets_class, segment_classes, slice_fault}
-use Rattle.morse_drawing.specs.declared.fault.SliceFault.TheVariants.{Label, Loops, Place}
+use Rattle.morse_drawing.specs.Joins.{first_slice_fault, fault_where, is_loop, loop_count, meets_class, segment_classes, slice_fault}
 use Rattle.morse_drawing.specs.DartRows.{IsIn}
 use Rattle.morse_drawing.specs.declared.slice.Slice.{Slice}
 use Rattle.morse_drawing.specs.declared.slice.Slice.TheVariants.{Cap, Cup, Cross}
 
 -- faults of slices read one after another
 or-assoc : (a b c : Option SliceFault) → option_or (option_or a b) c ≡ option_or a (option_or b c)
-or-assoc None b c = refl
-or-assoc (Some x) b c = refl
+or-assoc a b c = grind (arith, nat_tests)
 
 pub first_slice_fault-append : (limit : ℕ) (r : Sketch) (number : ℕ) (xs ys : List Slice)
     → first_slice_fault limit r number (xs ++ ys)
@@ -39,42 +37,31 @@ first_slice_fault-append limit r number (x ∷ xs) ys =
 
 pub first_slice_fault-none : (limit : ℕ) (r : Sketch) (number : ℕ) (xs ys : List Slice) → first_slice_fault limit r number xs ≡ None
     → ((k : ℕ) → first_slice_fault limit (fold sketched r xs) k ys ≡ None) → first_slice_fault limit r number (xs ++ ys) ≡ None
-first_slice_fault-none limit r number xs ys before after =
-    first_slice_fault-append limit r number xs ys
-    ∙ ap (λ o. option_or o (first_slice_fault limit (fold sketched r xs) (number + length xs) ys)) before
-    ∙ after (number + length xs)
+first_slice_fault-none limit r number xs ys before after = grind (arith, nat_tests, first_slice_fault-append limit r number xs ys)
 
 where-none : (b : Bool) (fault : SliceFault) → b ≡ false → fault_where b fault ≡ None
 where-none b fault fails = ap (λ t. fault_where t fault) fails
 
 two-none : (a b : Bool) (one two : SliceFault) → a ≡ false → b ≡ false → option_or (fault_where a one) (fault_where b two) ≡ None
-two-none a b one two first second =
-    ap (λ t. option_or (fault_where t one) (fault_where b two)) first ∙ where-none b two second
+two-none a b one two first second = grind (arith, nat_tests)
 
 pub cap-right : (limit number at : ℕ) (r : Sketch) → 1 ≤ at → at ≤ length r.row + 1 → length r.row ≤ 62
     → slice_fault limit r number (Cap at) ≡ None
-cap-right limit number at r from within few =
-    where-none (is_outside (length r.row + 1) at || nat_lt 62 (length r.row)) (Place number) (grind (arith, nat_tests))
+cap-right limit number at r from within few = grind (arith, nat_tests)
 
 pub cup-right : (limit number at : ℕ) (r : Sketch) → 1 ≤ at → at ≤ length r.row - 1 → loop_count limit (sketched r (Cup at)) ≤ 255
     → slice_fault limit r number (Cup at) ≡ None
-cup-right limit number at r from within few =
-    two-none (is_outside (length r.row - 1) at) (nat_lt 255 (loop_count limit (sketched r (Cup at)))) (Place number) (Loops number)
-    (grind (arith, nat_tests)) (grind (arith, nat_tests))
+cup-right limit number at r from within few = grind (arith, nat_tests)
 
 pub cross-right : (limit number at crossing slot : ℕ) (r : Sketch) → 1 ≤ at → at ≤ length r.row - 1 → 1 ≤ crossing → crossing ≤ limit
     → is_met r.met (4 * (crossing - 1)) ≡ false → slot < 4 → slice_fault limit r number (Cross at crossing slot) ≡ None
-cross-right limit number at crossing slot r from within positive least unmet below =
-    two-none (is_outside (length r.row - 1) at)
-    (is_outside limit crossing || (is_met r.met (4 * (crossing - 1)) || nat_lt 3 slot)) (Place number) (Label number)
-    (grind (arith, nat_tests)) (grind (arith, nat_tests))
+cross-right limit number at crossing slot r from within positive least unmet below = grind (arith, nat_tests)
 
 -- the row that is read is as long as the row of darts
 pub row-length : (n : ℕ) (part whole : ℕ → ℕ) (drawn row : List ℕ) (r : Sketch) → IsSketched n part whole drawn row r
     → length r.row ≡ length row
 row-length n part whole drawn row r is =
-    sym (ap (λ zs. length zs) is.segments) ∙ length-map is.zipped (λ (e : ℕ × ℕ). e.0)
-    ∙ sym (length-map is.zipped (λ (e : ℕ × ℕ). e.1)) ∙ ap (λ zs. length zs) is.darts
+    grind (arith, nat_tests, length-map is.zipped (λ (e : ℕ × ℕ). e.0), length-map is.zipped (λ (e : ℕ × ℕ). e.1))
 
 pub row-empty : (n : ℕ) (part whole : ℕ → ℕ) (drawn : List ℕ) (r : Sketch) → IsSketched n part whole drawn [] r → r.row ≡ []
 row-empty n part whole drawn r is = none r.row (row-length n part whole drawn [] r is)
@@ -86,23 +73,13 @@ row-empty n part whole drawn r is = none r.row (row-length n part whole drawn []
 -- a crossing that is not drawn is not met
 pub not-met : (n : ℕ) (part whole : ℕ → ℕ) (drawn row : List ℕ) (r : Sketch) (c : ℕ) → IsSketched n part whole drawn row r
     → (IsIn c drawn → ⊥) → is_met r.met (4 * c) ≡ false
-not-met n part whole drawn row r c is new = elim (cases_Bool (is_met r.met (4 * c))) [
-  | inr fails ↦ fails
-  | inl holds ↦
-      let e : 4 * c / 4 ≡ c = omega arith in
-      absurd (new (subst (λ (k : ℕ). IsIn k drawn) e (is.known (4 * c) holds).1))
-]
+not-met n part whole drawn row r c is new = grind (arith, nat_tests)
 
 -- no class of segments is a loop
 pub none-counted : (p : ℕ → Bool) (xs : List ℕ) → ((x : ℕ) → IsIn x xs → p x ≡ false) → count_by p xs ≡ 0
 none-counted p [] fails = refl
 none-counted p (x ∷ xs) fails =
-    omega (
-      arith,
-      sum_by-cons (λ y. cond (p y) 1 0) x xs,
-      ap {B = ℕ} (λ b. cond b 1 0) (fails x (inl refl)),
-      none-counted p xs (λ y is_in. fails y (inr is_in)),
-    )
+    grind (arith, nat_tests, sum_by-cons (λ y. cond (p y) 1 0) x xs, none-counted p xs (λ y is_in. fails y (inr is_in)))
 
 pub in-range : (a n x : ℕ) → IsIn x (range_with_len a n) → (a ≤ x) × (x < a + n)
 in-range a zero x is_in = absurd is_in

@@ -26,12 +26,10 @@ few-sum f a (suc n) few =
     )
 
 both-no : (b : Bool) → one_if (b && false) ≡ 0
-both-no true = refl
-both-no false = refl
+both-no b = grind (arith, nat_tests)
 
 one-few : (b : Bool) → one_if b ≤ 1
-one-few true = omega arith
-one-few false = omega arith
+one-few b = grind (arith, nat_tests)
 
 -- a number comes before its image, which is below n
 abbrev comes_first : ℕ → (ℕ → ℕ) → ℕ → Bool
@@ -124,15 +122,7 @@ other_in n others x = unwrap_or (other_of others x) n
 
 other_in-back : (limit : ℕ) (others : List (Option ℕ)) (x : ℕ) → ArePaired limit others → x < 4 * limit
     → other_in (4 * limit) others x < 4 * limit → other_in (4 * limit) others (other_in (4 * limit) others x) ≡ x
-other_in-back limit others x is below known = by_case (other_of others x) refl
-  where
-    n : ℕ
-    n = 4 * limit
-
-    by_case : (o : Option ℕ) → other_of others x ≡ o → other_in n others (other_in n others x) ≡ x
-    by_case None none = absurd (omega (arith, known, ap (λ (o : Option ℕ). unwrap_or o n) none))
-    by_case (Some y) some =
-        ap (other_in n others) (ap (λ (o : Option ℕ). unwrap_or o n) some) ∙ ap (λ (o : Option ℕ). unwrap_or o n) (is x y below some).1
+other_in-back limit others x is below known = grind (arith, nat_tests)
 
 later-first : (limit : ℕ) (others : List (Option ℕ)) (x : ℕ) → ArePaired limit others → x < 4 * limit
     → has_later others x ≡ comes_first (4 * limit) (other_in (4 * limit) others) x
@@ -172,12 +162,8 @@ pairs-more others x =
 
 pub pair_found : (others : List (Option ℕ)) (x : ℕ) → has_later others x ≡ true
     → pairs_before others x ++ found_ends others x ∷ [] ≡ pairs_before others (x + 1)
-pair_found others x later =
-    sym (pairs-more others x ∙ ap (λ b. pairs_before others x ++ map (found_ends others) (cond b (x ∷ []) [])) later)
+pair_found others x later = grind (arith, nat_tests, pairs-more others x)
 
 pub no_pair_found : (others : List (Option ℕ)) (x : ℕ) → has_later others x ≡ false
     → pairs_before others x ≡ pairs_before others (x + 1)
-no_pair_found others x never =
-    sym (pairs-more others x
-    ∙ ap (λ b. pairs_before others x ++ map (found_ends others) (cond b (x ∷ []) [])) never
-    ∙ append-nil (pairs_before others x))
+no_pair_found others x never = grind (arith, nat_tests, pairs-more others x, append-nil (pairs_before others x))

@@ -18,10 +18,7 @@ use Rattle.morse_drawing.proofs.SketchParts.{chain, cross_met, met-here, met-oth
 
 -- four darts may come in another order
 perm-or : (p q r s t : Bool) → (p || (q || (r || (s || t)))) ≡ (r || (q || (s || (p || t))))
-perm-or true q r s t = grind arith
-perm-or false true r s t = grind arith
-perm-or false false true s t = refl
-perm-or false false false s t = grind arith
+perm-or p q r s t = grind (arith, nat_tests)
 
 perm-chain : (d0 d1 d2 d3 a p q b w z : ℕ) → d0 ≢ d1 → d0 ≢ d2 → d0 ≢ d3 → d1 ≢ d2 → d1 ≢ d3 → d2 ≢ d3
     → chain d0 d1 d2 d3 a p q b w z ≡ chain d2 d1 d3 d0 q p b a w z

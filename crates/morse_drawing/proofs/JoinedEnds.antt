@@ -1,6 +1,7 @@
 -- The row of open ends answers what the classes of segments join, or the same fault.
-use Rattle.std.proofs.Common.{◌≡◌, ℕ, zero, suc, inl, inr, ◌+◌, ◌-◌, ◌*◌, ◌<◌, ◌≤◌, ◌∙◌, List, [], ◌∷◌, length, map, get_or, subst, sym, ap, ap₂, refl, arith, false}
-use Rattle.std.specs.Prelude.{◌||◌, nat_lt, replicate, Option, Some, None, Result}
+use Rattle.std.proofs.lemmas.Bool.Decides.{nat_tests}
+use Rattle.std.proofs.Common.{◌≡◌, ℕ, zero, suc, inl, inr, ◌+◌, ◌-◌, ◌*◌, ◌<◌, ◌≤◌, ◌∙◌, List, [], ◌∷◌, length, map, get_or, sym, ap, ap₂, refl, arith, false}
+use Rattle.std.specs.Prelude.{◌||◌, nat_lt, replicate, Option, None, Result}
 use Rattle.std.specs.List.{AllByRecursion, filter, fold, range_with_len}
 use Rattle.std.specs.Option.{option_or}
 use Rattle.std.proofs.lemmas.Bool.{both_ways, cases_Bool}
@@ -10,8 +11,8 @@ use Rattle.morse_drawing.specs.OpenEnds.{OpenEnds, after_slice, found_joins, is_
 use Rattle.morse_drawing.proofs.JoinedBySteps.{joined_by_ends, joins_from, joins_go}
 use Rattle.morse_drawing.specs.Sketches.{Sketch, is_met, no_sketch, sketched}
 use Rattle.morse_drawing.specs.declared.fault.SliceFault.{SliceFault}
-use Rattle.morse_drawing.specs.declared.fault.SliceFault.TheVariants.{Ends as EndsLeft, Label, Loops, Place}
-use Rattle.morse_drawing.specs.declared.limits.TheConstants.{CAP_STRANDS, JOINED_LOOPS}
+use Rattle.morse_drawing.specs.declared.fault.SliceFault.TheVariants.{Ends as EndsLeft, Loops, Place}
+use Rattle.morse_drawing.specs.declared.limits.TheConstants.{JOINED_LOOPS}
 use Rattle.morse_drawing.specs.declared.slice.Slice.{Slice}
 use Rattle.morse_drawing.specs.declared.slice.Slice.TheVariants.{Cap, Cup, Cross}
 use Rattle.morse_drawing.proofs.EndAnswers.{loops-counted_ends, pairs-found}
@@ -60,14 +61,10 @@ Numbered-none limit = record {
 }
 
 pub Held-none : (limit : ℕ) → IsHeldBy limit no_sketch (no_strands limit)
-Held-none limit = record {
-  held = Numbered-none limit;
-  are = record { row = tt; others = all_replicate (IsOther limit) (4 * limit) None tt };
-}
+Held-none limit = grind (arith, nat_tests, Numbered-none limit, all_replicate (IsOther limit) (4 * limit) None tt, IsOther limit)
 
 same-length : (limit : ℕ) (r : Sketch) (s : OpenEnds) → IsHeldBy limit r s → length s.row ≡ length r.row
-same-length limit r s is =
-    sym (length-map s.row (label limit)) ∙ ap (λ xs. length xs) is.held.labels ∙ length-map r.row is.held.name
+same-length limit r s is = grind (arith, nat_tests, length-map r.row is.held.name, length-map s.row (label limit), label limit)
 
 after_cup : (limit : ℕ) (r : Sketch) (s : OpenEnds) (at : ℕ) → 1 ≤ at → at ≤ length r.row - 1 → IsHeldBy limit r s
     → IsNumbered limit s (after_slice s (Cup at)) (after_number limit (numbered limit s) (Cup at))
@@ -86,18 +83,11 @@ cup-loops limit r s at inside is =
 outside-same : (limit : ℕ) (r : Sketch) (s : OpenEnds) (crossing slot : ℕ) → IsHeldBy limit r s
     → (is_outside limit crossing || (is_drawn s crossing || nat_lt 3 slot))
     ≡ (is_outside limit crossing || (is_met r.met (4 * (crossing - 1)) || nat_lt 3 slot))
-outside-same limit r s crossing slot is = elim (cases_Bool (is_outside limit crossing)) [
-  | inl out ↦ ap (λ b. b || (is_drawn s crossing || nat_lt 3 slot)) out
-      ∙ sym (ap (λ b. b || (is_met r.met (4 * (crossing - 1)) || nat_lt 3 slot)) out)
-  | inr inside ↦
-      let it = within limit crossing inside in
-      ap (λ b. is_outside limit crossing || (b || nat_lt 3 slot)) (is.held.drawn (crossing - 1) (omega (arith, it.0, it.1)))
-]
+outside-same limit r s crossing slot is = grind (arith, nat_tests)
 
 pub fault-same : (limit : ℕ) (r : Sketch) (s : OpenEnds) (number : ℕ) (slice : Slice) → IsHeldBy limit r s
     → strands_fault limit s number slice ≡ slice_fault limit r number slice
-fault-same limit r s number (Cap at) is =
-    ap (λ m. fault_where (is_outside (m + 1) at || nat_lt CAP_STRANDS m) (Place number)) (same-length limit r s is)
+fault-same limit r s number (Cap at) is = grind (arith, nat_tests, same-length limit r s is)
 fault-same limit r s number (Cup at) is =
     ap (λ m. option_or (fault_where (is_outside (m - 1) at) (Place number))
     (fault_where (nat_lt JOINED_LOOPS (after_slice s (Cup at)).loops) (Loops number))) (same-length limit r s is)
@@ -112,14 +102,12 @@ fault-same limit r s number (Cup at) is =
           (cup-loops limit r s at inside is)
     ]
 fault-same limit r s number (Cross at crossing slot) is =
-    ap₂ (λ m b. option_or (fault_where (is_outside (m - 1) at) (Place number)) (fault_where b (Label number))) (same-length limit r s is)
-    (outside-same limit r s crossing slot is)
+    grind (arith, nat_tests, same-length limit r s is, outside-same limit r s crossing slot is)
 
 held_by : (limit : ℕ) (r : Sketch) (s : OpenEnds) (slice : Slice)
     → IsNumbered limit s (after_slice s slice) (after_number limit (numbered limit s) slice)
     → IsHeld limit (sketched r slice) (after_number limit (numbered limit s) slice) → IsHeldBy limit (sketched r slice) (after_slice s slice)
-held_by limit r s slice next held =
-    record { held = subst (λ (u : NumberedEnds). IsHeld limit (sketched r slice) u) next.same held; are = next.are }
+held_by limit r s slice next held = grind (arith, nat_tests)
 
 -- after a slice without a fault
 pub held-next : (limit : ℕ) (r : Sketch) (s : OpenEnds) (number : ℕ) (slice : Slice) → IsHeldBy limit r s
@@ -186,8 +174,7 @@ joined-from limit r s number (slice ∷ slices) is =
     by_fault : (o : Option SliceFault) → slice_fault limit r number slice ≡ o
         → (slice_fault limit r number slice ≡ None → later ≡ answer_by (option_or rest (ends_fault end)) (joined_in limit end))
         → joins_go o later ≡ answer_by (option_or (option_or o rest) (ends_fault end)) (joined_in limit end)
-    by_fault None none ih = ih none
-    by_fault (Some fault) some ih = refl
+    by_fault o none ih = grind (arith, nat_tests)
 
 pub joined-ends : (limit : ℕ) (slices : List Slice) → joined_by_ends limit slices ≡ joined_within limit slices
 joined-ends limit slices = joined-from limit no_sketch (no_strands limit) 1 slices (Held-none limit)

@@ -1,4 +1,6 @@
 -- Links from open dart to open dart round a face, before and after one more arc.
+use Rattle.std.proofs.lemmas.Bool.Decides.{nat_tests}
+use Rattle.std.proofs.Common.{arith}
 use Rattle.std.proofs.Common.{◌≡◌, ◌≢◌, ℕ, ◌*◌, ◌<◌, ◌∙◌, List, [], ◌∷◌, ◌++◌, sym, ap}
 use Rattle.std.specs.List.{AllByRecursion}
 use Rattle.kh_types.specs.Darts.{turned, face_step}
@@ -20,8 +22,7 @@ way_moved f g x w y (b ∷ bs) start same way = (start ∙ way.0, way_moved f g 
 way_keeps : (h f : ℕ → ℕ) (m x y : ℕ) (bs : List ℕ) → ((z : ℕ) → z < m → h (f z) ≡ h z) → x < m → AllByRecursion (λ z. z < m) bs
     → IsWay f x bs y → h y ≡ h x
 way_keeps h f m x y [] keeps below bs_below way = ap h (sym way) ∙ keeps x below
-way_keeps h f m x y (b ∷ bs) keeps below bs_below way =
-    way_keeps h f m b y bs keeps bs_below.0 bs_below.1 way.1 ∙ ap h (sym way.0) ∙ keeps x below
+way_keeps h f m x y (b ∷ bs) keeps below bs_below way = grind (arith, nat_tests, way_keeps h f m b y bs keeps bs_below.0 bs_below.1 way.1)
 
 -- links
 
@@ -58,9 +59,7 @@ IsLink-moved n before after dart other x w y more start link =
 pub AreLinked-cut : (n : ℕ) (partner : ℕ → ℕ) (left x right : ℕ) (bs cs : List ℕ) → AreLinked n partner left (bs ++ x ∷ cs) right
     → AreLinked n partner left bs x × AreLinked n partner x cs right
 AreLinked-cut n partner left x right [] cs linked = linked
-AreLinked-cut n partner left x right (b ∷ bs) cs linked =
-    let rest = AreLinked-cut n partner b x right bs cs linked.1 in
-    ((linked.0, rest.0), rest.1)
+AreLinked-cut n partner left x right (b ∷ bs) cs linked = grind (arith, nat_tests, AreLinked-cut n partner b x right bs cs linked.1)
 
 pub AreLinked-append : (n : ℕ) (partner : ℕ → ℕ) (left x right : ℕ) (bs cs : List ℕ) → AreLinked n partner left bs x
     → AreLinked n partner x cs right → AreLinked n partner left (bs ++ x ∷ cs) right

@@ -31,10 +31,7 @@ side-late : (k z : ℕ) → k ≤ z → side k z ≡ suc ((z - k) / 2)
 side-late k z from = grind (arith, nat_tests)
 
 side-from : (k z j : ℕ) → side k z ≡ suc j → k + 2 * j ≤ z
-side-from k z j same = elim (before_or z k) [
-  | inl early ↦ absurd (omega (arith, same, side-early k z early))
-  | inr late ↦ omega (arith, same, side-late k z late, late)
-]
+side-from k z j same = grind (arith, nat_tests)
 
 -- after a drawing with k segments and some loops
 pub record IsEnded (n : ℕ) (whole : ℕ → ℕ) (k loops : ℕ) (r : Sketch) : Type 0 where
@@ -252,5 +249,4 @@ loops-faultless limit n whole k before (suc loops) r number small few is =
 
 pub IsEnded-next : (n : ℕ) (whole : ℕ → ℕ) (k loops : ℕ) (r : Sketch) → IsEnded n whole k loops r
     → IsEnded n whole k (loops + 1) (sketched (sketched r (Cap 1)) (Cup 1))
-IsEnded-next n whole k loops r is =
-    subst (λ (w : Sketch). IsEnded n whole k (loops + 1) w) (sym (looped-is r is.row)) (IsEnded-looped n whole k loops r is)
+IsEnded-next n whole k loops r is = grind (arith, nat_tests, looped-is r is.row, IsEnded-looped n whole k loops r is)

@@ -2,14 +2,13 @@
 use Rattle.std.proofs.Common.{◌≡◌, ◌≢◌, ℕ, inl, inr, ◌+◌, ◌*◌, ◌<◌, ◌∙◌, List, [], ◌∷◌, ◌++◌, map, set, sym, ap, subst, refl, arith, Bool, false, cond, true}
 use Rattle.std.specs.Prelude.{nat_le}
 use Rattle.std.specs.List.{AllByRecursion}
-use Rattle.std.proofs.lemmas.Bool.{both_ways, cases_Bool}
+use Rattle.std.proofs.lemmas.Bool.{cases_Bool}
 use Rattle.std.proofs.lemmas.Bool.Decides.{nat_tests}
 use Rattle.morse_drawing.proofs.NumberedEnds.{NumberedEnds, relabelled, tied}
 use Rattle.morse_drawing.specs.Sketches.{is_met}
 use Rattle.morse_drawing.proofs.EndMoves.{Ends-dropped, Ends-moved, Ends-started, fresh, fresh-new, fresh-old, map-fresh}
 use Rattle.morse_drawing.proofs.EndTimes.{hit-same, map-relabelled_none, times}
 use Rattle.morse_drawing.proofs.Ends.{Ends, Ends-tied, map-after, name_after}
-use Rattle.morse_drawing.proofs.Ends.DartEnd.{bare, opened, paired_with}
 use Rattle.morse_drawing.proofs.TiedEnds.{TwoEnds, found, tied-first, tied-second, two-ends}
 
 -- of two labels, the one that gives way and the one that is kept, and the darts that have found each other
@@ -90,11 +89,7 @@ map-met limit name next a d segments below =
 -- a dart of a crossing that is not drawn stands nowhere in the row
 pub bare-none : (limit : ℕ) (name : ℕ → ℕ) (next : ℕ) (joins met : List (ℕ × ℕ)) (segments others : List ℕ) (loops d : ℕ)
     → Ends limit name next joins met segments others loops → d < 4 * limit → is_met met d ≡ false → times d (map name segments) ≡ 0
-bare-none limit name next joins met segments others loops d is below unmet = elim (is.darts d below) [
-  | bare also none alone ↦ none
-  | opened met_d at once alone ↦ absurd (both_ways (is_met met d) unmet met_d)
-  | paired_with y met_d met_y y_below differs there back none none_y same at ↦ none
-]
+bare-none limit name next joins met segments others loops d is below unmet = grind (arith, nat_tests)
 
 -- an end meets a dart
 pub Ends-meets : (limit : ℕ) (name : ℕ → ℕ) (next : ℕ) (joins met : List (ℕ × ℕ)) (a : ℕ) (rest others : List ℕ) (loops d : ℕ)

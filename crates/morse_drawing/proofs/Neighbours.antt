@@ -1,4 +1,5 @@
 -- In a row that holds the partners of all its darts, two neighbours are partners.
+use Rattle.std.proofs.lemmas.Bool.Decides.{nat_tests}
 use Rattle.std.proofs.Common.{◌≡◌, ◌≢◌, ℕ, zero, suc, ◌⊎◌, inl, inr, ◌*◌, ◌/◌, ◌<◌, ◌∙◌, List, [], ◌∷◌, ◌++◌, refl, sym, ap, subst, length, arith}
 use Rattle.std.specs.Prelude.{slice_index}
 use Rattle.std.specs.List.{AllByRecursion}
@@ -61,8 +62,7 @@ different_front (b ∷ bs) cs once = (AllByRecursion-first (λ z. z ≢ b) bs cs
 different_before : (x : ℕ) (bs cs : List ℕ) → AreDifferent (bs ++ x ∷ cs) → AllByRecursion (λ z. z ≢ x) bs
 different_before x [] cs once = tt
 different_before x (b ∷ bs) cs once =
-    let later = AllByRecursion-second (λ z. z ≢ b) bs (x ∷ cs) once.0 in
-    (λ same. later.0 (sym same), different_before x bs cs once.1)
+    grind (arith, nat_tests, AllByRecursion-second (λ z. z ≢ b) bs (x ∷ cs) once.0, different_before x bs cs once.1)
 
 different_behind : (x : ℕ) (bs cs : List ℕ) → AreDifferent (bs ++ x ∷ cs) → AllByRecursion (λ z. z ≢ x) cs
 different_behind x [] cs once = once.0
@@ -170,8 +170,7 @@ append-assoc_two (z ∷ zs) x y back later = ap (λ ws. z ∷ ws) (append-assoc_
 row_around : (dart other x y : ℕ) (darts between back front rest : List ℕ) → darts ≡ between ++ other ∷ back
     → between ≡ front ++ x ∷ y ∷ rest → dart ∷ darts ≡ (dart ∷ front) ++ x ∷ y ∷ (rest ++ other ∷ back)
 row_around dart other x y darts between back front rest is is_between =
-    ap (λ zs. dart ∷ zs) is ∙ ap (λ zs. dart ∷ zs ++ other ∷ back) is_between
-    ∙ ap (λ zs. dart ∷ zs) (append-assoc_two front x y rest (other ∷ back))
+    grind (arith, nat_tests, append-assoc_two front x y rest (other ∷ back))
 
 -- two neighbours are partners in each row of fewer darts
 abbrev AreNeighbours : ℕ → ℕ → (ℕ → ℕ) → Type 0

@@ -1,4 +1,5 @@
 -- The steps of a drawing come to an end, where all crossings are drawn and all arcs are closed.
+use Rattle.std.proofs.lemmas.Bool.Decides.{nat_tests}
 use Rattle.std.proofs.Common.{◌≡◌, ℕ, zero, suc, ◌⊎◌, inl, inr, ◌*◌, ◌/◌, ◌<◌, ◌≤◌, ◌∙◌, List, [], ◌∷◌, length, refl, sym, ap, subst, arith, Bool, true, false, cond}
 use Rattle.std.specs.Prelude.{min, not, None, IsTrue}
 use Rattle.std.specs.List.{count_by, range_with_len}
@@ -13,7 +14,7 @@ use Rattle.kh_types.proofs.DartPairs.{IsOtherPlace-partner_at, IsPairing-partner
 use Rattle.face_walk.proofs.FewFaces.{IsPlanar-accepted}
 use Rattle.face_walk.specs.AddedArcs.{bare}
 use Rattle.morse_drawing.specs.DartRows.{IsDrawing, IsIn}
-use Rattle.morse_drawing.specs.Pages.{Page, blank_page, by_crossing, is_in, page_of, next_page, next_page_by, pages_on, undrawn}
+use Rattle.morse_drawing.specs.Pages.{Page, blank_page, is_in, page_of, next_page, pages_on, undrawn}
 use Rattle.morse_drawing.specs.Sketches.{IsSketched, segment_met, sketch_of}
 use Rattle.morse_drawing.specs.Progress.{IsPage, undrawn_count}
 use Rattle.morse_drawing.specs.PageRules.{IsLastPage}
@@ -41,8 +42,7 @@ none-undrawn n drawn all = elim (Search-is (λ c. not (is_in drawn c)) 0 n) [
 ]
 
 pub finished-next_page : (n : ℕ) (whole : ℕ → ℕ) (page : Page) → IsLastPage n page → next_page n whole page ≡ page
-finished-next_page n whole page is =
-    ap (next_page_by n whole page) is.row ∙ ap (by_crossing page) (none-undrawn n page.drawn is.all)
+finished-next_page n whole page is = grind (arith, nat_tests, none-undrawn n page.drawn is.all)
 
 pub finished-pages_on : (n : ℕ) (whole : ℕ → ℕ) (count : ℕ) (page : Page) → IsLastPage n page → pages_on n whole count page ≡ page
 finished-pages_on n whole zero page is = refl
@@ -52,11 +52,7 @@ finished-pages_on n whole (suc count) page is =
 -- where there are enough steps they finish
 IsLastPage-pages_on : (n : ℕ) (whole : ℕ → ℕ) (count : ℕ) (page : Page) → IsWholeSphere n whole → IsPage n whole page
     → left_over n page ≤ count → IsLastPage n (pages_on n whole count page)
-IsLastPage-pages_on n whole zero page is_whole is enough =
-    elim (IsNextPage-next_page n whole page is_whole is).goes_on [
-      | inl finished ↦ finished
-      | inr less ↦ absurd (omega (arith, enough, less))
-    ]
+IsLastPage-pages_on n whole zero page is_whole is enough = grind (arith, nat_tests, IsNextPage-next_page n whole page is_whole is)
 IsLastPage-pages_on n whole (suc count) page is_whole is enough =
     let next = IsNextPage-next_page n whole page is_whole is in
     elim next.goes_on [
@@ -70,8 +66,7 @@ all-undrawn n = count_by-all (λ c. not (is_in [] c)) (range_with_len 0 n) (λ c
   where
     count_by-all : (p : ℕ → Bool) (xs : List ℕ) → ((x : ℕ) → p x ≡ true) → count_by p xs ≡ length xs
     count_by-all p [] holds = refl
-    count_by-all p (x ∷ xs) holds =
-        omega (arith, sum_by-cons (λ y. cond (p y) 1 0) x xs, ap {B = ℕ} (λ b. cond b 1 0) (holds x), count_by-all p xs holds)
+    count_by-all p (x ∷ xs) holds = grind (arith, nat_tests, sum_by-cons (λ y. cond (p y) 1 0) x xs, count_by-all p xs holds)
 
 pub IsPage-blank_page : (n : ℕ) (whole : ℕ → ℕ) → IsPage n whole blank_page
 IsPage-blank_page n whole = record {

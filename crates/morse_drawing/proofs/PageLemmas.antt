@@ -42,9 +42,7 @@ Search-is test a (suc n) = elim (cases_Bool (test a)) [
 
 -- two tests are one where each holds with the other
 pub alike : (a b : Bool) → (a ≡ true → b ≡ true) → (b ≡ true → a ≡ true) → a ≡ b
-alike true b to from = sym (to refl)
-alike false true to from = from refl
-alike false false to from = refl
+alike a b to from = grind (arith, nat_tests)
 
 -- a number stands in a list where the test says so
 pub in-true : (y : ℕ) (xs : List ℕ) → is_in xs y ≡ true → IsIn y xs

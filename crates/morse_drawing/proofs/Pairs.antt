@@ -3,7 +3,7 @@ use Rattle.std.proofs.Common.{◌≡◌, ℕ, zero, suc, ◌⊎◌, inl, inr, �
 use Rattle.std.specs.Prelude.{◌&&◌, nat_eq, nat_lt, slice_index, Some, None, Ok, Err, Result, IsTrue}
 use Rattle.std.specs.List.{count_by, filter, flat_map, fold, range_with_len}
 use Rattle.std.specs.Option.{option_or}
-use Rattle.std.proofs.lemmas.Bool.{cases_Bool, cases_eq, both_ways, eq-eqb, eqb-true}
+use Rattle.std.proofs.lemmas.Bool.{cases_Bool, cases_eq, eq-eqb, eqb-true}
 use Rattle.std.proofs.lemmas.Bool.Decides.{nat_tests}
 use Rattle.std.proofs.lemmas.Grind.{flat_map-append}
 use Rattle.std.proofs.lemmas.List.{append-nil, length-append, length-map}
@@ -36,22 +36,17 @@ use Rattle.morse_drawing.proofs.PageLemmas.{alike, crosses-append}
 
 -- tests
 pub and_first : (a b : Bool) → (a && b) ≡ true → a ≡ true
-and_first true b holds = refl
-and_first false b holds = absurd (both_ways false refl holds)
+and_first a b holds = grind (arith, nat_tests)
 
 pub and_second : (a b : Bool) → (a && b) ≡ true → b ≡ true
-and_second true b holds = holds
-and_second false b holds = absurd (both_ways false refl holds)
+and_second a b holds = grind (arith, nat_tests)
 
 pub and_both : (a b : Bool) → a ≡ true → b ≡ true → (a && b) ≡ true
 and_both a b first second = ap (λ t. t && b) first ∙ second
 
 -- what four tests say that all hold
 pub and_four : (a b c d : Bool) → (a && (b && (c && d))) ≡ true → (a ≡ true) × (b ≡ true) × (c ≡ true) × (d ≡ true)
-and_four a b c d holds =
-    let rest = and_second a (b && (c && d)) holds in
-    let last = and_second b (c && d) rest in
-    (and_first a (b && (c && d)) holds, and_first b (c && d) rest, and_first c d last, and_second c d last)
+and_four a b c d holds = grind (arith, nat_tests)
 
 pub lt-true : (x y : ℕ) → nat_lt x y ≡ true → x < y
 lt-true x y holds = grind (arith, nat_tests)
@@ -72,8 +67,7 @@ flat-range {X} f p h a (suc n) same =
     ∙ by_case (p a) (filter p rest)
   where
     by_case : (b : Bool) (zs : List ℕ) → cond b (h a ∷ []) [] ++ map h zs ≡ map h (cond b (a ∷ zs) zs)
-    by_case true zs = refl
-    by_case false zs = refl
+    by_case b zs = grind (arith, nat_tests)
 
 flat-none : {X : Type 0} (f : ℕ → List X) (a n : ℕ) → ((k : ℕ) → a ≤ k → k < a + n → f k ≡ []) → flat_map f (range_with_len a n) ≡ []
 flat-none {X} f a zero none = refl
@@ -276,11 +270,7 @@ AreAlikeCodes-sketched limit code joins most small is gives =
 -- loops alone
 
 whole_of_none : IsWholeSphere 0 (λ x. x)
-whole_of_none = record {
-  pairing = record { below = λ x below. absurd (omega (arith, below)); back = λ x below. absurd (omega (arith, below)) };
-  planar = refl;
-  full = λ x below. absurd (omega (arith, below));
-}
+whole_of_none = omega arith
 
 pub joins-loops : (limit loops : ℕ) → loops ≤ 255 → joined_within limit (loop_slices loops) ≡ Ok (record { pairs = []; loops = loops })
 joins-loops limit loops few = joins-drawn limit 0 (λ x. x) loops (omega arith) (omega arith) few whole_of_none

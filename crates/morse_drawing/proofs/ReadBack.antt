@@ -9,7 +9,6 @@ use Rattle.kh_types.specs.Darts.{HasArcsTwice, arc_of, dart_at, partner_at}
 use Rattle.kh_types.specs.declared.dart.Dart.{Dart}
 use Rattle.kh_types.proofs.DartPairs.{IsOtherPlace-partner_at, dart_place-at, partner_at-only}
 use Rattle.morse_drawing.specs.Joins.{arc_from, arc_pairs, ends_of, is_first}
-use Rattle.std.proofs.Math.Bool.{or-true}
 use Rattle.morse_drawing.proofs.NextPages.{IsWholeSphere}
 use Rattle.morse_drawing.proofs.PageLemmas.{alike}
 use Rattle.morse_drawing.specs.ReadBack.{crossing_read, has_dart, pair_number}
@@ -22,17 +21,13 @@ has-is : (x : ℕ) (e : ℕ × ℕ) → has x e ≡ (nat_eq e.0 x || (nat_eq e.1
 has-is x e = ap₂ (λ a b. nat_eq a x || (nat_eq b x || false)) (dart_place-at e.0) (dart_place-at e.1)
 
 has-one : (x : ℕ) (e : ℕ × ℕ) → has x e ≡ true → (e.0 ≡ x) ⊎ (e.1 ≡ x)
-has-one x e holds = from e.0 e.1 (sym (has-is x e) ∙ holds)
-  where
-    from : (a b : ℕ) → (nat_eq a x || (nat_eq b x || false)) ≡ true → (a ≡ x) ⊎ (b ≡ x)
-    from a b h = grind (arith, nat_tests)
+has-one x e holds = grind (arith, nat_tests)
 
 has-first : (x : ℕ) (e : ℕ × ℕ) → e.0 ≡ x → has x e ≡ true
 has-first x e same = has-is x e ∙ ap (λ t. t || (nat_eq e.1 x || false)) (eq-eqb e.0 x same)
 
 has-second : (x : ℕ) (e : ℕ × ℕ) → e.1 ≡ x → has x e ≡ true
-has-second x e same =
-    has-is x e ∙ ap (λ t. nat_eq e.0 x || (t || false)) (eq-eqb e.1 x same) ∙ or-true (nat_eq e.0 x)
+has-second x e same = grind (arith, nat_tests)
 
 -- an arc of a whole
 abbrev IsArcPair : ℕ → (ℕ → ℕ) → ℕ × ℕ → Type 0
@@ -46,8 +41,7 @@ all-arcs n whole p a (suc m) within =
   where
     by_case : (b : Bool) (rest : List ℕ) → AllByRecursion (IsArcPair n whole) (map (arc_from whole) rest)
         → AllByRecursion (IsArcPair n whole) (map (arc_from whole) (cond b (a ∷ rest) rest))
-    by_case true rest later = ((omega (arith, within), refl), later)
-    by_case false rest later = later
+    by_case b rest later = grind (arith, nat_tests)
 
 -- a pair stands in the list of arcs
 Stands : (ℕ × ℕ) → List (ℕ × ℕ) → Type 0
@@ -80,9 +74,7 @@ stands-arc whole p a (suc m) z from below passes =
 number-alike : (x y : ℕ) (xs : List (ℕ × ℕ)) → AllByRecursion (λ e. has x e ≡ has y e) xs
     → pair_number x (map ends_of xs) ≡ pair_number y (map ends_of xs)
 number-alike x y [] same = refl
-number-alike x y (e ∷ xs) same =
-    ap (λ b. cond b 1 (suc (pair_number x (map ends_of xs)))) same.0
-    ∙ ap (λ k. cond (has y e) 1 (suc k)) (number-alike x y xs same.1)
+number-alike x y (e ∷ xs) same = grind (arith, nat_tests, number-alike x y xs same.1)
 
 -- darts with one number stand in one pair
 record Common (n : ℕ) (whole : ℕ → ℕ) (x y : ℕ) : Type 0 where
@@ -102,10 +94,7 @@ number-positive y (pair ∷ pairs) = by_case (has_dart y pair)
 -- numbers that begin alike go on alike
 numbers-same : (a b : Bool) (k m : ℕ) → 1 ≤ k → 1 ≤ m → cond a 1 (suc k) ≡ cond b 1 (suc m)
     → ((a ≡ true) × (b ≡ true)) ⊎ ((a ≡ false) × (k ≡ m))
-numbers-same true true k m first second same = inl (refl, refl)
-numbers-same true false k m first second same = absurd (omega (arith, same, second))
-numbers-same false true k m first second same = absurd (omega (arith, same, first))
-numbers-same false false k m first second same = inr (refl, omega (arith, same))
+numbers-same a b k m first second same = grind (arith, nat_tests)
 
 common : (n : ℕ) (whole : ℕ → ℕ) (x y : ℕ) (found : ℕ × ℕ) (xs : List (ℕ × ℕ)) → AllByRecursion (IsArcPair n whole) xs
     → Stands found xs → has x found ≡ true → pair_number x (map ends_of xs) ≡ pair_number y (map ends_of xs) → Common n whole x y

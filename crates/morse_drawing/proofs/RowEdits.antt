@@ -1,19 +1,16 @@
 -- The row of a page, edited in place.
-use Rattle.std.proofs.Common.{◌≡◌, ◌∙◌, ℕ, ◌+◌, ◌-◌, ◌<◌, List, [], ◌∷◌, ◌++◌, length, take, drop, sym, ap, arith}
+use Rattle.std.proofs.lemmas.Bool.Decides.{nat_tests}
+use Rattle.std.proofs.Common.{◌≡◌, ◌∙◌, ℕ, ◌+◌, ◌<◌, List, [], ◌∷◌, ◌++◌, length, take, drop, sym, ap, arith}
 use Rattle.std.specs.List.{insert, remove}
 use Rattle.std.proofs.lemmas.List.{append_assoc, length-take-le}
 use Rattle.std.proofs.lemmas.List.Edits.{insert-append_right, remove-append_right}
 use Rattle.morse_drawing.proofs.Parts.{parts-one, parts-two}
 
 pub remove-here : (front : List ℕ) (x : ℕ) (back : List ℕ) (i : ℕ) → length front ≡ i → remove (front ++ x ∷ back) i ≡ front ++ back
-remove-here front x back i size =
-    let none : i - i ≡ 0 = omega arith in
-    remove-append_right front (x ∷ back) i i size (omega arith) ∙ ap (λ k. front ++ remove (x ∷ back) k) none
+remove-here front x back i size = grind (arith, nat_tests, remove-append_right front (x ∷ back) i i size (omega arith))
 
 pub insert-here : (front : List ℕ) (x : ℕ) (back : List ℕ) (i : ℕ) → length front ≡ i → insert (front ++ back) i x ≡ front ++ x ∷ back
-insert-here front x back i size =
-    let none : i - i ≡ 0 = omega arith in
-    insert-append_right front back i i x size (omega arith) ∙ ap (λ k. front ++ insert back k x) none
+insert-here front x back i size = grind (arith, nat_tests, insert-append_right front back i i x size (omega arith))
 
 -- two neighbours are removed
 pub removed_two : (xs : List ℕ) (i : ℕ) → i + 1 < length xs → remove (remove xs i) i ≡ take i xs ++ drop (i + 2) xs

@@ -1,4 +1,5 @@
 -- The row after each rule of the drawing.
+use Rattle.std.proofs.lemmas.Bool.Decides.{nat_tests}
 use Rattle.std.proofs.Common.{◌≡◌, ◌≢◌, ℕ, ◌*◌, ◌/◌, ◌<◌, ◌∙◌, List, [], ◌∷◌, ◌++◌, refl, sym, ap, subst, arith}
 use Rattle.std.specs.List.{AllByRecursion}
 use Rattle.std.proofs.lemmas.List.{append_assoc, append-nil}
@@ -170,31 +171,4 @@ IsDartRow-crossed n before after dart other front back more bare row =
 -- rule 1: the four darts of a bare crossing
 
 pub IsDartRow-bare : (n : ℕ) (partner : ℕ → ℕ) (dart : ℕ) → IsBare n partner [] dart → IsDartRow n partner (dart ∷ other_three dart)
-IsDartRow-bare n partner dart bare =
-    let one = turned_back dart in
-    let two = turned_back one in
-    let three = turned_back two in
-    let zero_open = bare.alone dart refl in
-    let one_open = bare.alone one (omega arith) in
-    let two_open = bare.alone two (omega arith) in
-    let three_open = bare.alone three (omega arith) in
-    record {
-      round = (
-        IsLink-next_page n partner one dart (ap turned one_open ∙ turned-turned_back dart),
-        (
-          IsLink-next_page n partner two one (ap turned two_open ∙ turned-turned_back one),
-          (
-            IsLink-next_page n partner three two (ap turned three_open ∙ turned-turned_back two),
-            IsLink-next_page n partner dart three (ap turned zero_open ∙ turned-thrice dart),
-          ),
-        ),
-      );
-      are_open = (
-        (bare.below, zero_open),
-        ((omega (arith, bare.below), one_open), ((omega (arith, bare.below), two_open), ((omega (arith, bare.below), three_open), tt))),
-      );
-      once = (
-        ((λ same. omega (arith, same)), ((λ same. omega (arith, same)), ((λ same. omega (arith, same)), tt))),
-        (((λ same. omega (arith, same)), ((λ same. omega (arith, same)), tt)), (((λ same. omega (arith, same)), tt), (tt, tt))),
-      );
-    }
+IsDartRow-bare n partner dart bare = grind (arith, nat_tests)

@@ -1,4 +1,5 @@
 -- The rules of the drawing keep what the row is, and rule 3 always finds its pair.
+use Rattle.std.proofs.lemmas.Bool.Decides.{nat_tests}
 use Rattle.std.proofs.Common.{◌≡◌, ◌≢◌, ℕ, inl, inr, ◌*◌, ◌/◌, ◌<◌, ◌∙◌, List, [], ◌∷◌, ◌++◌, refl, sym, ap, subst, arith}
 use Rattle.std.specs.List.{AllByRecursion}
 use Rattle.std.proofs.lemmas.Bool.{cases_eq}
@@ -6,12 +7,11 @@ use Rattle.kh_types.specs.Darts.{IsPairing}
 use Rattle.face_walk.specs.AddedArcs.{IsPlanar, with_arc, bare}
 use Rattle.morse_drawing.specs.DartRows.{IsIn, AreDifferent, IsDrawing, other_three}
 use Rattle.morse_drawing.proofs.RowPlaces.{HasNeighbours}
-use Rattle.face_walk.proofs.BareCrossings.{IsPairing-bare}
 use Rattle.face_walk.proofs.AddedArcs.{HasArcMore-with_arc, IsPairing-more}
 use Rattle.morse_drawing.proofs.Helpers.{IsPart-more}
 use Rattle.kh_types.proofs.Lists.{AllByRecursion-append, AllByRecursion-first, AllByRecursion-second, AllByRecursion-weaker}
 use Rattle.morse_drawing.proofs.Neighbours.{in_either, all_in, all_by_in, in_front, HasNeighbours-row}
-use Rattle.morse_drawing.proofs.RowMoves.{IsDartRow-bare, IsDartRow-crossed, IsDartRow-closed}
+use Rattle.morse_drawing.proofs.RowMoves.{IsDartRow-crossed, IsDartRow-closed}
 
 in_back : (y : ℕ) (bs cs : List ℕ) → IsIn y cs → IsIn y (bs ++ cs)
 in_back y [] cs is_in = is_in
@@ -29,38 +29,12 @@ three_there dart = (omega arith, (omega arith, (omega arith, tt)))
 
 -- the drawing begins with nothing drawn
 pub IsDrawing-none : (n : ℕ) (whole : ℕ → ℕ) → IsDrawing n bare whole [] []
-IsDrawing-none n whole = record {
-  is_partner = IsPairing-bare (4 * n);
-  is_part = λ x below. inr refl;
-  is_row = record { round = tt; are_open = tt; once = tt };
-  at_drawn = tt;
-  all_open = λ x below is_open is_in. absurd is_in;
-  others_bare = λ x below bare. refl;
-}
+IsDrawing-none n whole = grind (arith, nat_tests)
 
 -- rule 1: a crossing that is not drawn, where the row is empty
 pub IsDrawing-first : (n : ℕ) (part whole : ℕ → ℕ) (drawn : List ℕ) (dart : ℕ) → IsDrawing n part whole drawn [] → dart < 4 * n
     → (IsIn (dart / 4) drawn → ⊥) → IsDrawing n part whole (dart / 4 ∷ drawn) (dart ∷ other_three dart)
-IsDrawing-first n part whole drawn dart drawing below new = record {
-  is_partner = drawing.is_partner;
-  is_part = drawing.is_part;
-  is_row = IsDartRow-bare n part dart
-      (record {
-        below = below;
-        alone = λ x at. drawing.others_bare x (below_there n x dart below at) (λ is_in. new (subst (λ (c : ℕ). IsIn c drawn) at is_in));
-        beside = tt;
-      });
-  at_drawn = (
-    inl refl,
-    AllByRecursion-weaker (λ z. z / 4 ≡ dart / 4) (λ z. IsIn (z / 4) (dart / 4 ∷ drawn)) (other_three dart)
-        (λ z at. inl at) (three_there dart),
-  );
-  all_open = λ x x_below is_open is_in. elim is_in [
-    | inl here ↦ four_darts x dart here
-    | inr before ↦ absurd (drawing.all_open x x_below is_open before)
-  ];
-  others_bare = λ x x_below bare. drawing.others_bare x x_below (λ before. bare (inr before));
-}
+IsDrawing-first n part whole drawn dart drawing below new = grind (arith, nat_tests)
 
 -- rule 2: a crossing that is not drawn, at the other end of the arc of a dart of the row
 pub IsDrawing-crossed : (n : ℕ) (part whole : ℕ → ℕ) (drawn front back : List ℕ) (dart : ℕ) → IsPairing (4 * n) whole
@@ -192,7 +166,4 @@ HasNeighbours-drawing n part whole drawn dart darts whole_partner planar full dr
 -- where all crossings are drawn and the row is empty, all arcs are closed
 pub IsDrawing-whole : (n : ℕ) (part whole : ℕ → ℕ) (drawn : List ℕ) → IsDrawing n part whole drawn []
     → ((x : ℕ) → x < 4 * n → IsIn (x / 4) drawn) → (x : ℕ) → x < 4 * n → part x ≡ whole x
-IsDrawing-whole n part whole drawn drawing all x below = elim (drawing.is_part x below) [
-  | inl same ↦ same
-  | inr is_open ↦ absurd (drawing.all_open x below is_open (all x below))
-]
+IsDrawing-whole n part whole drawn drawing all x below = grind (arith, nat_tests)

@@ -1,4 +1,5 @@
 -- Pages follow one another by the rules, and no others do.
+use Rattle.std.proofs.lemmas.Bool.Decides.{nat_tests}
 use Rattle.std.proofs.Common.{◌≡◌, ℕ, zero, suc, ◌⊎◌, inl, inr, ◌+◌, ◌-◌, ◌*◌, ◌/◌, ◌<◌, ◌≤◌, ◌∙◌, List, [], ◌∷◌, length, refl, sym, ap, ap₂, subst, arith, ◌++◌, Bool, true, false, cond, not, IsTrue, eq-eqb, eqb-true}
 use Rattle.std.specs.Prelude.{get_or, Some, None}
 use Rattle.std.specs.List.{find, range_with_len}
@@ -119,13 +120,11 @@ paired-is partner page place is =
 
 row-step : (n : ℕ) (partner : ℕ → ℕ) (page : Page) (row : List ℕ) → 0 < length row
     → next_page_by n partner page row ≡ by_row partner page (leading partner page.drawn page.row)
-row-step n partner page [] some = absurd (omega (arith, some))
-row-step n partner page (dart ∷ darts) some = refl
+row-step n partner page row some = grind (arith, nat_tests)
 
 -- what follows by a rule is the next page
 pub follows-next : (n : ℕ) (partner : ℕ → ℕ) (page next : Page) → Follows n partner page next → next ≡ next_page n partner page
-follows-next n partner page next (inl begins) =
-    begins.made ∙ ap (by_crossing page) (sym (least-undrawn n page begins.crossing begins.least)) ∙ ap (next_page_by n partner page) (sym begins.row)
+follows-next n partner page next (inl begins) = grind (arith, nat_tests, least-undrawn n page begins.crossing begins.least)
 follows-next n partner page next (inr (inl meets)) =
     meets.made
     ∙ ap (by_row partner page) (sym (leading-is partner page meets.place meets.leading))

@@ -1,8 +1,7 @@
 -- What changes in what is read of slices, when a cup or a cross is read.
-use Rattle.std.proofs.Common.{◌≡◌, ◌≢◌, ℕ, inl, inr, ◌+◌, ◌-◌, ◌*◌, ◌/◌, ◌%◌, ◌<◌, ◌≤◌, ◌∙◌, List, [], ◌∷◌, ◌++◌, length, get_or, map, take, drop, refl, sym, ap, ap₂, arith, true, cond, min}
+use Rattle.std.proofs.Common.{◌≡◌, ◌≢◌, ℕ, ◌+◌, ◌-◌, ◌*◌, ◌/◌, ◌%◌, ◌<◌, ◌≤◌, ◌∙◌, List, [], ◌∷◌, ◌++◌, length, get_or, map, take, drop, refl, sym, ap, ap₂, arith, true, cond, min}
 use Rattle.std.specs.Prelude.{◌⊎◌, nat_eq, nat_lt}
 use Rattle.std.proofs.Math.Seq.{drop-append_seam, get_or-append_seam, take-append_seam}
-use Rattle.std.proofs.lemmas.Bool.{cases_eq}
 use Rattle.std.proofs.lemmas.Bool.Decides.{nat_tests}
 use Rattle.std.proofs.lemmas.List.{append_assoc, length-append}
 use Rattle.kh_types.specs.Classes.{AreBelow, Respects}
@@ -188,19 +187,7 @@ pub all-four : (o z : ℕ) → z ≢ o → z ≢ turn_one o → z ≢ turn_two o
 all-four o z no0 no1 no2 at = omega (arith, no0, no1, no2, at)
 
 pub which : (o z : ℕ) → Which o z
-which o z = elim (cases_eq z o) [
-  | inl same ↦ is_zero same
-  | inr no0 ↦ elim (cases_eq z (turn_one o)) [
-    | inl same ↦ is_one same
-    | inr no1 ↦ elim (cases_eq z (turn_two o)) [
-      | inl same ↦ is_two same
-      | inr no2 ↦ elim (cases_eq (z / 4) (o / 4)) [
-        | inl at ↦ is_three (all-four o z no0 no1 no2 at)
-        | inr apart ↦ is_other apart
-      ]
-    ]
-  ]
-]
+which o z = grind (arith, nat_tests)
 
 -- the new segments by their darts
 pub record IsMet (o a b next : ℕ) (met : List (ℕ × ℕ)) : Type 0 where
@@ -211,37 +198,14 @@ pub record IsMet (o a b next : ℕ) (met : List (ℕ × ℕ)) : Type 0 where
   pub other_is : (z : ℕ) → z / 4 ≢ o / 4 → segment_met (cross_met o a b next met) z ≡ segment_met met z
 
 pub is-met : (o a b next : ℕ) (met : List (ℕ × ℕ)) → IsMet o a b next met
-is-met o a b next met =
-    let d : ℕ → ℕ = λ more. dart_after (o / 4 + 1) (o % 4) more in
-    let zero_one : d 0 ≢ turn_one o = λ same. omega (arith, same) in
-    let zero_two : d 0 ≢ turn_two o = λ same. omega (arith, same) in
-    let one_two : d 1 ≢ turn_two o = λ same. omega (arith, same) in
-    let zero_three : d 0 ≢ turn_three o = λ same. omega (arith, same) in
-    let one_three : d 1 ≢ turn_three o = λ same. omega (arith, same) in
-    let two_three : d 2 ≢ turn_three o = λ same. omega (arith, same) in
-    let away : (z more : ℕ) → z / 4 ≢ o / 4 → d more ≢ z = λ z more apart same. apart (omega (arith, same)) in
-    record {
-      zero_is = grind (arith, nat_tests, d-zero o);
-      one_is = grind (arith, nat_tests, d-one o, zero_one);
-      two_is = grind (arith, nat_tests, d-two o, zero_two, one_two);
-      three_is = grind (arith, nat_tests, d-three o, zero_three, one_three, two_three);
-      other_is = λ z apart. grind (arith, nat_tests, away z 0 apart, away z 1 apart, away z 2 apart, away z 3 apart);
-    }
+is-met o a b next met = grind (arith, nat_tests)
 
 -- the darts that are met after a crossing
 pub met-other : (o a b next z : ℕ) (met : List (ℕ × ℕ)) → z / 4 ≢ o / 4 → is_met (cross_met o a b next met) z ≡ is_met met z
-met-other o a b next z met apart =
-    let away : (more : ℕ) → dart_after (o / 4 + 1) (o % 4) more ≢ z = λ more same. apart (omega (arith, same)) in
-    grind (arith, nat_tests, away 0, away 1, away 2, away 3)
+met-other o a b next z met apart = grind (arith, nat_tests)
 
 pub met-here : (o a b next z : ℕ) (met : List (ℕ × ℕ)) → z / 4 ≡ o / 4 → is_met (cross_met o a b next met) z ≡ true
-met-here o a b next z met at = elim (which o z) [
-  | is_zero is ↦ let here = d-zero o ∙ sym is in grind (arith, nat_tests, here)
-  | is_one is ↦ let here = d-one o ∙ sym is in grind (arith, nat_tests, here)
-  | is_two is ↦ let here = d-two o ∙ sym is in grind (arith, nat_tests, here)
-  | is_three is ↦ let here = d-three o ∙ sym is in grind (arith, nat_tests, here)
-  | is_other apart ↦ absurd (apart at)
-]
+met-here o a b next z met at = grind (arith, nat_tests)
 
 pub dart-there : (n o z : ℕ) → o < 4 * n → z / 4 ≡ o / 4 → z < 4 * n
 dart-there n o z o_below at = omega (arith, o_below, at)
@@ -249,8 +213,7 @@ dart-there n o z o_below at = omega (arith, o_below, at)
 -- a segment is of the class of one that a dart of the new crossing meets
 pub reached-here : (n o d q : ℕ) (drawn : List ℕ) (r : Sketch) → o < 4 * n → d / 4 ≡ o / 4
     → ((f : ℕ → ℕ) → Respects f r.joins → f q ≡ f (segment_met r.met d)) → IsReached n (o / 4 ∷ drawn) r q
-reached-here n o d q drawn r o_below at same =
-    record { dart = d; below = dart-there n o d o_below at; is_drawn = inl at; same = same }
+reached-here n o d q drawn r o_below at same = grind (arith, nat_tests)
 
 -- colours of new segments
 abbrev pub painted : (ℕ → ℕ) → ℕ → ℕ → ℕ → ℕ → ℕ → ℕ → ℕ → ℕ
@@ -264,18 +227,12 @@ pub record IsPainted (colour : ℕ → ℕ) (next p q one two rest : ℕ) : Type
   pub others : (x : ℕ) → next ≤ x → x ≢ p → x ≢ q → painted colour next p q one two rest x ≡ rest
 
 pub painted-is : (colour : ℕ → ℕ) (next p q one two rest : ℕ) → next ≤ p → p < q → IsPainted colour next p q one two rest
-painted-is colour next p q one two rest from less = record {
-  old = λ x below. grind (arith, nat_tests);
-  first = grind (arith, nat_tests);
-  second = grind (arith, nat_tests);
-  others = λ x late not_p not_q. grind (arith, nat_tests);
-}
+painted-is colour next p q one two rest from less = grind (arith, nat_tests)
 
 pub respects-old : (f g : ℕ → ℕ) (next : ℕ) (joins : List (ℕ × ℕ)) → ((x : ℕ) → x < next → g x ≡ f x) → AreBelow next joins
     → Respects f joins → Respects g joins
 respects-old f g next [] same below holds = tt
-respects-old f g next (pair ∷ joins) same below holds =
-    (same pair.0 below.0.0 ∙ holds.0 ∙ sym (same pair.1 below.0.1), respects-old f g next joins same below.1 holds.1)
+respects-old f g next (pair ∷ joins) same below holds = grind (arith, nat_tests, respects-old f g next joins same below.1 holds.1)
 
 pub before_or : (q next : ℕ) → (q < next) ⊎ (next ≤ q)
 before_or q next = grind (arith)
@@ -288,13 +245,4 @@ pub data FourNext (q next : ℕ) : Type 0 where
   next_three : q ≡ next + 2 + 1 → FourNext q next
 
 pub four_next : (q next : ℕ) → q < next + 2 + 2 → next ≤ q → FourNext q next
-four_next q next below late = elim (cases_eq q next) [
-  | inl same ↦ next_zero same
-  | inr no0 ↦ elim (cases_eq q (next + 1)) [
-    | inl same ↦ next_one same
-    | inr no1 ↦ elim (cases_eq q (next + 2)) [
-      | inl same ↦ next_two same
-      | inr no2 ↦ next_three (omega (arith, below, late, no0, no1, no2))
-    ]
-  ]
-]
+four_next q next below late = grind (arith, nat_tests)

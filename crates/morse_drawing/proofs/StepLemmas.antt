@@ -1,4 +1,5 @@
 -- What a step of a drawing finds, and the room that it has.
+use Rattle.std.proofs.lemmas.Bool.Decides.{nat_tests}
 use Rattle.std.proofs.Common.{◌≡◌, ◌≢◌, ◌∙◌, ℕ, zero, suc, ◌+◌, ◌-◌, ◌*◌, ◌<◌, ◌≤◌, List, [], ◌∷◌, ◌++◌, length, get_or, sym, ap, subst, refl, arith, Bool, true, false, cond}
 use Rattle.std.specs.Prelude.{IsTrue, not, unwrap_or, Option, Some, None}
 use Rattle.std.specs.List.{find, range_with_len}
@@ -35,9 +36,7 @@ found_first test n k below none passes =
 -- none passes, where one more does not
 pub found_none : (test : ℕ → Bool) (k : ℕ) → find test (range_with_len 0 k) ≡ None → test k ≡ false
     → find test (range_with_len 0 (k + 1)) ≡ None
-found_none test k none fails =
-    ap (λ xs. find test xs) (range_more 0 k k (omega arith)) ∙ find-append test (range_with_len 0 k) (k ∷ [])
-    ∙ ap (λ o. option_or o (find test (k ∷ []))) none ∙ ap (λ b. cond b (Some k) None) fails
+found_none test k none fails = grind (arith, nat_tests, range_more 0 k k (omega arith), find-append test (range_with_len 0 k) (k ∷ []))
 
 -- what is found is below n and passes
 record IsFound (test : ℕ → Bool) (n k : ℕ) : Type 0 where
@@ -91,28 +90,18 @@ leading_room code page k is found =
 pub paired_room : (code : Code) (page : Page) (k : ℕ) → IsPageOf code page → paired (partner_at code.crossings) page.row ≡ Some k
     → (k + 1 < length page.row) × (length page.row ≤ DRAWN_STRANDS)
 paired_room code page k is found =
-    let it = IsFound-find (are_paired (partner_at code.crossings) page.row) (length page.row - 1) k found in
-    (omega (arith, it.below), omega (arith, is.is_page.few, is.within))
+    grind (arith, nat_tests, IsFound-find (are_paired (partner_at code.crossings) page.row) (length page.row - 1) k found)
 
 -- the page after one step more
 pages_on-more : (n : ℕ) (whole : ℕ → ℕ) (count : ℕ) (page : Page)
     → pages_on n whole (count + 1) page ≡ next_page n whole (pages_on n whole count page)
 pages_on-more n whole zero page = refl
-pages_on-more n whole (suc count) page =
-    let e : suc count + 1 ≡ suc (count + 1) = omega arith in
-    ap (λ k. pages_on n whole k page) e ∙ pages_on-more n whole count (next_page n whole page)
+pages_on-more n whole (suc count) page = grind (arith, nat_tests, pages_on-more n whole count (next_page n whole page))
 
 pub page_begins : (code : Code) (page : Page) → IsTrue (accepted code) → length code.crossings ≤ CROSSINGS → page ≡ blank_page
     → IsPageAfter code 0 page
-page_begins code page is_accepted within same = record {
-  same = same;
-  is_page = record {
-    is_accepted = is_accepted;
-    within = within;
-    is_page = subst (λ (p : Page). IsPage (length code.crossings) (partner_at code.crossings) p) (sym same)
-        (IsPage-blank_page (length code.crossings) (partner_at code.crossings));
-  };
-}
+page_begins code page is_accepted within same =
+    grind (arith, nat_tests, IsPage-blank_page (length code.crossings) (partner_at code.crossings))
 
 pub page_goes_on : (code : Code) (count : ℕ) (page next : Page) → IsPageAfter code count page
     → next ≡ next_page (length code.crossings) (partner_at code.crossings) page → IsPageAfter code (count + 1) next
@@ -132,9 +121,7 @@ page_goes_on code count page next is step =
 -- one loop more
 loops-more : (loops : ℕ) → loop_slices (loops + 1) ≡ loop_slices loops ++ Cap 1 ∷ Cup 1 ∷ []
 loops-more zero = refl
-loops-more (suc loops) =
-    let e : suc loops + 1 ≡ suc (loops + 1) = omega arith in
-    ap (λ k. loop_slices k) e ∙ ap (λ (xs : List Slice). Cap 1 ∷ Cup 1 ∷ xs) (loops-more loops)
+loops-more (suc loops) = grind (arith, nat_tests, loops-more loops)
 
 pub loops_pushed : (xs start : List Slice) (loops : ℕ) → xs ≡ start ++ loop_slices loops
     → (xs ++ Cap 1 ∷ []) ++ Cup 1 ∷ [] ≡ start ++ loop_slices (loops + 1)

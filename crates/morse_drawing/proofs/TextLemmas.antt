@@ -1,9 +1,8 @@
 -- The text of a drawing, line by line.
-use Rattle.std.proofs.Common.{◌≡◌, ◌∙◌, ℕ, zero, suc, ◌+◌, ◌-◌, ◌<◌, ◌≤◌, List, [], ◌∷◌, ◌++◌, length, take, drop, sym, ap, ap₂, subst, refl, arith, Bool, true, false}
+use Rattle.std.proofs.Common.{◌≡◌, ◌∙◌, ℕ, zero, suc, ◌+◌, ◌-◌, ◌<◌, ◌≤◌, List, [], ◌∷◌, ◌++◌, length, take, drop, sym, ap, ap₂, subst, refl, arith, Bool, false}
 use Rattle.std.specs.Prelude.{◌||◌, max, nat_lt, replicate, slice_index_or, Option, Some, None}
 use Rattle.std.specs.Option.{option_or}
 use Rattle.std.specs.Result.{IsOk}
-use Rattle.std.proofs.lemmas.Bool.{both_ways}
 use Rattle.std.proofs.lemmas.Bool.Decides.{nat_tests}
 use Rattle.std.proofs.Math.Seq.{drop-cons}
 use Rattle.std.proofs.lemmas.List.{append_assoc, append-nil, length-append, length-drop, length-replicate, length-take-le}
@@ -13,7 +12,6 @@ use Rattle.morse_drawing.specs.Sketches.{Sketch, no_sketch, sketch_of, sketched}
 use Rattle.morse_drawing.specs.Texts.{IsPlaced, bar, cells, drawing_text, line_text, lines_below, slice_cell, strands_after}
 use Rattle.morse_drawing.proofs.PlacedSlices.{ArePlaced}
 use Rattle.morse_drawing.specs.declared.fault.SliceFault.{SliceFault}
-use Rattle.morse_drawing.specs.declared.limits.TheConstants.{CAP_STRANDS}
 use Rattle.morse_drawing.specs.declared.slice.Slice.{Slice}
 use Rattle.morse_drawing.specs.declared.slice.Slice.TheVariants.{Cap, Cup, Cross}
 
@@ -26,16 +24,13 @@ not_both : (fault : SliceFault) → Some fault ≡ None → ⊥
 not_both fault same = absurd (omega (arith, ap is_fault same))
 
 pub or_none : (a b : Option SliceFault) → option_or a b ≡ None → (a ≡ None) × (b ≡ None)
-or_none None b none = (refl, none)
-or_none (Some x) b none = absurd (not_both x none)
+or_none a b none = grind (arith, nat_tests)
 
 pub no_fault : (holds : Bool) (fault : SliceFault) → fault_where holds fault ≡ None → holds ≡ false
-no_fault true fault none = absurd (not_both fault none)
-no_fault false fault none = refl
+no_fault holds fault none = grind (arith, nat_tests)
 
 pub or_no : (a b : Bool) → (a || b) ≡ false → (a ≡ false) × (b ≡ false)
-or_no true b fails = absurd (both_ways true fails refl)
-or_no false b fails = (refl, fails)
+or_no a b fails = grind (arith, nat_tests)
 
 pub lt_no : (a b : ℕ) → nat_lt a b ≡ false → b ≤ a
 lt_no a b fails = grind (arith, nat_tests)
@@ -48,14 +43,7 @@ below m at it = (it.0, omega (arith, it.0, it.1))
 
 -- a slice without a fault has its place
 pub placed : (limit number : ℕ) (r : Sketch) (slice : Slice) → slice_fault limit r number slice ≡ None → IsPlaced (length r.row) slice
-placed limit number r (Cap at) none =
-    let parts = or_no (is_outside (length r.row + 1) at) (nat_lt CAP_STRANDS (length r.row)) (no_fault _ _ none) in
-    let it = within (length r.row + 1) at parts.0 in
-    (it.0, it.1, lt_no CAP_STRANDS (length r.row) parts.1)
-placed limit number r (Cup at) none =
-    below (length r.row) at (within (length r.row - 1) at (no_fault _ _ (or_none _ _ none).0))
-placed limit number r (Cross at crossing slot) none =
-    below (length r.row) at (within (length r.row - 1) at (no_fault _ _ (or_none _ _ none).0))
+placed limit number r slice none = grind (arith, nat_tests)
 
 -- and leaves so many strands
 left_over : (r : Sketch) (slice : Slice) → IsPlaced (length r.row) slice → length (sketched r slice).row ≡ strands_after (length r.row) slice
@@ -96,8 +84,7 @@ all_placed limit number strands r (slice ∷ slices) same none =
     )
 
 no_answer : (fault : Option SliceFault) (joins : JoinedDarts) → IsOk (answer_by fault joins) → fault ≡ None
-no_answer None joins is = refl
-no_answer (Some fault) joins is = absurd (both_ways false refl is)
+no_answer fault joins is = grind (arith, nat_tests)
 
 pub ArePlaced-faultless : (slices : List Slice) → IsFaultless slices → ArePlaced 0 slices
 ArePlaced-faultless slices is =
@@ -111,14 +98,11 @@ pub record IsPrinted (slices : List Slice) (place strands : ℕ) (text : List �
   pub lines : text ++ lines_below strands (drop place slices) ≡ drawing_text slices
 
 pub printed_none : (slices : List Slice) (text : List ℕ) → IsFaultless slices → text ≡ [] → IsPrinted slices 0 0 text
-printed_none slices text is none =
-    record { placed = ArePlaced-faultless slices is; lines = ap (λ (start : List ℕ). start ++ drawing_text slices) none }
+printed_none slices text is none = grind (arith, nat_tests, placed, ArePlaced-faultless slices is)
 
 pub next-slice : (slices : List Slice) (place : ℕ) (other : Slice) → place < length slices
     → drop place slices ≡ slice_index_or slices place other ∷ drop (place + 1) slices
-next-slice slices place other below =
-    let e : suc place ≡ place + 1 = omega arith in
-    drop-cons slices place other below ∙ ap (λ k. slice_index_or slices place other ∷ drop k slices) e
+next-slice slices place other below = grind (arith, nat_tests, drop-cons slices place other below, below)
 
 -- the next slice has its place
 pub printed_next : (slices : List Slice) (place strands : ℕ) (text : List ℕ) (other : Slice) → IsPrinted slices place strands text
@@ -148,8 +132,7 @@ drop-all (slice ∷ slices) (suc k) all = drop-all slices k (omega (arith, all))
 
 pub printed_all : (slices : List Slice) (place strands : ℕ) (text : List ℕ) → IsPrinted slices place strands text → length slices ≤ place
     → text ≡ drawing_text slices
-printed_all slices place strands text is all =
-    sym (append-nil text) ∙ ap (λ (xs : List Slice). text ++ lines_below strands xs) (sym (drop-all slices place all)) ∙ is.lines
+printed_all slices place strands text is all = grind (arith, nat_tests, append-nil text, drop-all slices place all)
 
 counted : (left right : ℕ) (cell : List ℕ) → length (replicate left bar ++ cell ∷ replicate right bar) ≡ left + 1 + right
 counted left right cell =
@@ -163,12 +146,7 @@ counted left right cell =
 -- a cell for each strand that passes by, and the slice's own
 pub cells-count : (strands : ℕ) (slice : Slice) → IsPlaced strands slice
     → 1 + length (cells strands slice) ≡ max strands (strands_after strands slice)
-cells-count strands (Cap at) is =
-    let count = counted (at - 1) (strands + 1 - at) (slice_cell (Cap at)) in
-    grind (arith, nat_tests)
-cells-count strands (Cup at) is =
-    let count = counted (at - 1) (strands - 2 + 1 - at) (slice_cell (Cup at)) in
-    grind (arith, nat_tests)
+cells-count strands (Cap at) is = grind (arith, nat_tests, counted (at - 1) (strands + 1 - at) (slice_cell (Cap at)))
+cells-count strands (Cup at) is = grind (arith, nat_tests, counted (at - 1) (strands - 2 + 1 - at) (slice_cell (Cup at)))
 cells-count strands (Cross at crossing slot) is =
-    let count = counted (at - 1) (strands - 2 + 1 - at) (slice_cell (Cross at crossing slot)) in
-    grind (arith, nat_tests)
+    grind (arith, nat_tests, counted (at - 1) (strands - 2 + 1 - at) (slice_cell (Cross at crossing slot)))

@@ -7,7 +7,7 @@ use Rattle.morse_drawing.proofs.NumberedEnds.{relabelled}
 use Rattle.morse_drawing.specs.Sketches.{is_met, segment_met}
 use Rattle.morse_drawing.proofs.EndTimes.{hit-apart, hit-same, relabelled-old, relabelled-other, times, times-new, times-old}
 use Rattle.morse_drawing.proofs.Ends.{DartEnd, Ends, Ties, map-after, name_after}
-use Rattle.morse_drawing.proofs.Ends.DartEnd.{bare, opened, paired_with}
+use Rattle.morse_drawing.proofs.Ends.DartEnd.{opened, paired_with}
 use Rattle.morse_drawing.proofs.Ends.SegmentEnd.{at_dart, in_row, on_loop}
 
 -- a label of the row is the place of a dart and stands there once, or stands there twice
@@ -19,18 +19,7 @@ data EndLabel (limit : ℕ) (met : ℕ → Bool) (label : ℕ → ℕ) (row othe
 label-of : (limit : ℕ) (name : ℕ → ℕ) (next : ℕ) (joins met : List (ℕ × ℕ)) (segments others : List ℕ) (loops p : ℕ)
     → Ends limit name next joins met segments others loops → p < next → 1 ≤ times (name p) (map name segments)
     → EndLabel limit (is_met met) (λ z. name (segment_met met z)) (map name segments) others (name p)
-label-of limit name next joins met segments others loops p is below stands = elim (is.named p below) [
-  | at_dart u_below met_u at ↦ elim (is.darts (name p) u_below) [
-    | bare unmet none alone ↦ absurd (omega (arith, stands, none))
-    | opened met_x label once alone ↦ of_dart u_below met_x label once alone
-    | paired_with y met_x met_y y_below differs there back none none_y same label ↦ absurd (omega (arith, stands, none))
-  ]
-  | in_row from u_below more ↦ elim (is.twice (name p) from u_below) [
-    | inl none ↦ absurd (omega (arith, stands, none))
-    | inr two ↦ of_two from u_below two
-  ]
-  | on_loop from u_below ↦ absurd (omega (arith, stands, is.no_loops (name p) from))
-]
+label-of limit name next joins met segments others loops p is below stands = grind (arith, nat_tests)
 
 -- what the two labels are, and how often they stand in the rest
 pub record TwoEnds (limit : ℕ) (name : ℕ → ℕ) (next : ℕ) (joins met : List (ℕ × ℕ)) (a b : ℕ) (rest others : List ℕ) (loops : ℕ) : Type 0 where
@@ -43,19 +32,7 @@ pub record TwoEnds (limit : ℕ) (name : ℕ → ℕ) (next : ℕ) (joins met : 
 
 pub two-ends : (limit : ℕ) (name : ℕ → ℕ) (next : ℕ) (joins met : List (ℕ × ℕ)) (a b : ℕ) (rest others : List ℕ) (loops : ℕ)
     → Ends limit name next joins met (a ∷ b ∷ rest) others loops → TwoEnds limit name next joins met a b rest others loops
-two-ends limit name next joins met a b rest others loops is = record {
-  is = is;
-  a_below = is.segments_below.0;
-  b_below = is.segments_below.1.0;
-  of_a = label-of limit name next joins met (a ∷ b ∷ rest) others loops a is is.segments_below.0
-      (omega (arith, hit-same (name a) (name a) refl));
-  of_b = label-of limit name next joins met (a ∷ b ∷ rest) others loops b is is.segments_below.1.0
-      (omega (arith, hit-same (name b) (name b) refl));
-  none = λ x zero. (
-    λ same. absurd (omega (arith, zero, hit-same (name a) x (sym same))),
-    λ same. absurd (omega (arith, zero, hit-same (name b) x (sym same))),
-  );
-}
+two-ends limit name next joins met a b rest others loops is = grind (arith, nat_tests)
 
 -- one line is closed
 pub tied-loop : (limit : ℕ) (name : ℕ → ℕ) (next : ℕ) (joins met : List (ℕ × ℕ)) (a b : ℕ) (rest others : List ℕ) (loops : ℕ)
@@ -264,15 +241,8 @@ tied-second limit name next joins met a b rest others loops two apart below_a = 
 -- what is left in the row: nothing of a line that is closed, nor of a dart
 pub loop-left : (limit : ℕ) (name : ℕ → ℕ) (next : ℕ) (joins met : List (ℕ × ℕ)) (a b : ℕ) (rest others : List ℕ) (loops : ℕ)
     → TwoEnds limit name next joins met a b rest others loops → name a ≡ name b → times (name a) (map name rest) ≡ 0
-loop-left limit name next joins met a b rest others loops two same = elim two.of_a [
-  | of_dart below met_u label once alone ↦
-      omega (arith, once, hit-same (name a) (name a) refl, hit-same (name b) (name a) (sym same))
-  | of_two from below twice ↦ omega (arith, twice, hit-same (name a) (name a) refl, hit-same (name b) (name a) (sym same))
-]
+loop-left limit name next joins met a b rest others loops two same = grind (arith, nat_tests)
 
 pub dart-left : (limit : ℕ) (name : ℕ → ℕ) (next : ℕ) (joins met : List (ℕ × ℕ)) (a b : ℕ) (rest others : List ℕ) (loops : ℕ)
     → TwoEnds limit name next joins met a b rest others loops → name b < 4 * limit → times (name b) (map name rest) ≡ 0
-dart-left limit name next joins met a b rest others loops two below_b = elim two.of_b [
-  | of_dart below met_v label once alone ↦ omega (arith, once, hit-same (name b) (name b) refl)
-  | of_two from below twice ↦ absurd (omega (arith, from, below_b))
-]
+dart-left limit name next joins met a b rest others loops two below_b = grind (arith, nat_tests)

@@ -2,7 +2,9 @@
 -- By induction on the words, whatever was given before (`agree`). A text that `clap` holds as pending counts as given (`all_of`). The
 -- machine refuses a second text of a slot at once, `clap` when it settles it, which may be at the end of the words: till then such
 -- a walk is doomed, and finds nothing either.
-use Rattle.std.proofs.Common.{◌≡◌, ℕ, Bool, true, false, List, [], ◌∷◌, ◌++◌, Option, Some, None, refl, sym, ap, ap₂, cond, ◌∙◌, ◌||◌, ◌⊎◌, inl, inr}
+use Rattle.std.proofs.lemmas.Bool.Decides.{nat_tests}
+use Rattle.std.proofs.Common.{arith}
+use Rattle.std.proofs.Common.{◌≡◌, ℕ, Bool, true, false, List, [], ◌∷◌, ◌++◌, Option, Some, None, refl, sym, ap, ap₂, cond, ◌∙◌, ◌||◌, ◌⊎◌}
 use Rattle.std.specs.Option.{option_map, option_and_then}
 use Rattle.std.specs.Prelude.{codes, if◌then◌else◌}
 use Rattle.std.specs.Str.{bytes_eq}
@@ -11,9 +13,8 @@ use Rattle.clap.specs.Walk.{Held, used, nothing_held, reacted, Row, Text, idle, 
 use Rattle.clap.specs.Walk as walk
 use Rattle.clap.specs.Faults.{long_fault, use_fault}
 use Rattle.clap.specs.Kinds.{Kinds, or_else}
-use Rattle.clap.specs.declared.error.kind.ErrorKind.{ErrorKind}
 use Rattle.clap.specs.declared.error.kind.ErrorKind.TheVariants as kind
-use Rattle.word_line.specs.Pieces.{Key, field, workers, to, number, mark, key_name}
+use Rattle.word_line.specs.Pieces.{Key, key_name}
 use Rattle.word_line.proofs.Rules.{Slot, by_id, id_of, key_of, rule_at, shape}
 use Rattle.word_line.proofs.Rows.{Pending, nothing, one, Use, all_of, Fits, has, held_at, held_waiting, same_id, settle_fault-fits, settle_fault-waiting, settled_fits, use_fault-again, use_fault-first, used_more}
 use Rattle.word_line.proofs.Machine.{IsText, Look, Mode, added, doomed, doomed_trailing, ended_fits, ends, fault_long, fault_short, fault_text, flag_fault, found_from, found_nil, held_skip, in_mode, is_ending, is_long, is_short, is_text, leads, look, met_long, met_text, option_step, place_of, ready, ready_step, rows_taken, sort_ending, sort_long, sort_short, sort_text, stops, taken, text_first, text_second, trail_first, trail_second, trailing, value_step, waits, walk_at, with_task}
@@ -30,15 +31,10 @@ place_by : (uses : List Use) (b : Bool) → has None uses ≡ b → place_of use
 place_by uses b is = ap (λ (some : Bool). if some then 2 else 1) is
 
 place_some : (uses : List Use) → (place_of uses ≡ 1) ⊎ (place_of uses ≡ 2)
-place_some uses = go (has None uses)
-  where
-    go : (b : Bool) → ◌≡◌ {A = ℕ} (cond b 2 1) 1 ⊎ ◌≡◌ {A = ℕ} (cond b 2 1) 2
-    go true = inr refl
-    go false = inl refl
+place_some uses = grind (arith, nat_tests)
 
 or_no : (b : Bool) → (b || false) ≡ b
-or_no true = refl
-or_no false = refl
+or_no b = grind (arith, nat_tests)
 
 has_push : (slot : Slot) (uses : List Use) (given : Use) → has slot (uses ++ given ∷ []) ≡ (has slot uses || bytes_eq (id_of given.0) (id_of slot))
 has_push slot [] given = or_no (bytes_eq (id_of given.0) (id_of slot))
@@ -46,15 +42,10 @@ has_push slot (first ∷ uses) given = go (bytes_eq (id_of first.0) (id_of slot)
   where
     go : (b : Bool) → has slot (uses ++ given ∷ []) ≡ (has slot uses || bytes_eq (id_of given.0) (id_of slot))
         → (b || has slot (uses ++ given ∷ [])) ≡ ((b || has slot uses) || bytes_eq (id_of given.0) (id_of slot))
-    go true rest = refl
-    go false rest = rest
+    go b rest = grind (arith, nat_tests)
 
 key_differs : (key : Key) → bytes_eq (key_name key) (codes "task") ≡ false
-key_differs field = refl
-key_differs workers = refl
-key_differs to = refl
-key_differs number = refl
-key_differs mark = refl
+key_differs key = grind (arith, nat_tests)
 
 place_push : (uses : List Use) (key : Key) (value : Text) → place_of (uses ++ (Some key, value) ∷ []) ≡ place_of uses
 place_push uses key value =
@@ -87,12 +78,8 @@ trailing_is (word ∷ words) uses pending fits =
 
     go : (has None all ≡ false → found_from (walk_at idle true (place_of (all ++ (None, word) ∷ [])) (held_at all (one (None, word)))) words
         ≡ rows_taken trailing (all ++ (None, word) ∷ []) words) → (b : Bool) → has None all ≡ b → found_from (walk_at idle true (place_of all) (held_at uses pending)) (word ∷ words) ≡ rows_taken trailing all (word ∷ words)
-    go rest true is = ap (λ place. found_from (walk_at idle true place (held_at uses pending)) (word ∷ words)) (place_by all true is)
-        ∙ trail_second idle (held_at uses pending) word words ∙ sym (rw is refl)
-    go rest false is = ap (λ place. found_from (walk_at idle true place (held_at uses pending)) (word ∷ words)) (place_by all false is)
-        ∙ trail_first uses pending word words fits
-        ∙ ap (λ place. found_from (walk_at idle true place (held_at all (one (None, word)))) words) (sym (place_push-task all word))
-        ∙ rest is ∙ sym (rw is refl)
+    go rest true is = grind (arith, nat_tests, found_from, walk_at, held_at, place_by, all, trail_second)
+    go rest false is = grind (arith, nat_tests, found_from, walk_at, held_at, place_by, all, trail_first, one, place_push-task)
 
 -- what `clap` says of words is what the machine does with them, where nothing waits for a value, and where an option does
 record Agrees (words : List Text) : Type 0 where
@@ -184,8 +171,7 @@ ready_long word words agrees uses pending fits dashes name value is None named =
     stops idle (place_of (all_of uses pending)) h word words kind.UnknownArgument []
     (fault_long h word name value dashes is
     ∙ ap (λ k. long_fault shape.rules false (option_map (λ key. rule_at (Some key)) k) value h) named)
-ready_long word words agrees uses pending fits dashes name None is (Some key) named =
-    ready_name word words agrees uses pending fits dashes name is key named
+ready_long word words agrees uses pending fits dashes name None is (Some key) named = grind (arith, nat_tests, ready_name)
 ready_long word words agrees uses pending fits dashes name (Some value) is (Some key) named =
     ready_value word words agrees uses pending fits dashes name value is key named (has (Some key) (all_of uses pending)) refl
 
@@ -251,9 +237,7 @@ waits_cons word words agrees uses key (is_short dashes no_name flags is x head) 
     let h = held_waiting uses (Some key) in
     stops (option (key_name key)) (place_of uses) h word words kind.UnknownArgument [] (fault_short h word flags x refl dashes no_name is head)
     ∙ ap (λ sort. rows_after (value_step uses key sort word) words) (sym (sort_short word flags x dashes no_name is head))
-waits_cons word words agrees uses key (is_text is) =
-    waits_text word words agrees uses key is (has (Some key) uses) refl
-    ∙ ap (λ sort. rows_after (value_step uses key sort word) words) (sym (sort_text word is))
+waits_cons word words agrees uses key (is_text is) = grind (arith, nat_tests, waits_text, has, value_step, sort_text)
 
 agree : (words : List Text) → Agrees words
 agree [] = record { at_ready = nil_is false; at_waits = waits_nil }

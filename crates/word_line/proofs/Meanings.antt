@@ -1,35 +1,28 @@
 -- What a value means is what is read from it.
-use Rattle.std.proofs.Common.{◌≡◌, ℕ, ◌+◌, ◌≤◌, ◌&&◌, ◌⊎◌, inl, inr, Bool, true, false, List, [], ◌∷◌, length, Option, Some, None, refl, sym, ap, subst, cond, ◌∙◌, arith, nat_le}
+use Rattle.std.proofs.lemmas.Bool.Decides.{nat_tests}
+use Rattle.std.proofs.Common.{◌≡◌, ℕ, ◌+◌, ◌≤◌, ◌&&◌, ◌⊎◌, inl, inr, Bool, true, List, [], ◌∷◌, length, Option, Some, None, refl, ap, subst, cond, ◌∙◌, arith, nat_le}
 use Rattle.std.specs.Prelude.{codes, slice_get}
-use Rattle.std.proofs.lemmas.Bool.{and_parts, le-leb, leb-true}
-use Rattle.std.proofs.lemmas.Option.{cond_some, none-some, option_and_then_some, same_Some}
+use Rattle.std.proofs.lemmas.Option.{none-some}
 use Rattle.std.proofs.lemmas.Slice.Eq.{bytes_eq-Decides}
-use Rattle.std.specs.Option.{option_map}
 use Rattle.std.specs.Str.{bytes_eq}
 use Rattle.word_line.specs.declared.command.Task.{Task}
 use Rattle.word_line.specs.declared.command.Task.TheVariants.{Homology, Jones, Check, Convert, Edit, Draw, Schedule, Bench, Certify, Verify, Reduced, Mirror, Reverse, Union}
 use Rattle.word_line.specs.declared.command.Form.{Form}
-use Rattle.word_line.specs.declared.command.Form.TheVariants.{Pd, Gauss}
 use Rattle.word_line.specs.declared.command.Command.{Command}
 use Rattle.kh_types.specs.declared.limits.TheConstants.{WORKERS}
-use Rattle.word_line.specs.declared.limits.TheConstants.{MARK_DIGITS, MARK_LIMIT, NUMBER_DIGITS, WORKERS_DIGITS}
 use Rattle.word_line.specs.Values.{HasMark, HasNumber, IsGiven, NamesField, NamesForm, NamesMark, NamesNumber, NamesWorkers, form_name, task_name}
 use Rattle.word_line.specs.Reading.{field_of, finished_with, form_of, given_by, value_mark, value_number, task_of, workers_of}
-use Rattle.kh_lex.specs.Numerals.{numeral_of}
-use Rattle.kh_lex.proofs.NumeralReads.{WritesNumber-numeral_of, numeral_of-WritesNumber}
 
 same_text : (a b : List ℕ) → bytes_eq a b ≡ true → a ≡ b
 same_text a b is = (bytes_eq-Decides a b).0 is
 
 -- a choice by a test
 chosen : {A P : Type 0} (b : Bool) (x : A) (o : Option A) (y : A) → cond b (Some x) o ≡ Some y → (b ≡ true → x ≡ y → P) → (o ≡ Some y → P) → P
-chosen true x o y same this other = this refl (same_Some x y same)
-chosen false x o y same this other = other same
+chosen b x o y same this other = grind (arith, nat_tests)
 
 -- tasks
 pub task_of-name : (task : Task) → task_of (task_name task) ≡ Some task
-task_of-name Homology = refl
-task_of-name _ = refl
+task_of-name task = grind (arith, nat_tests)
 
 named : (name : List ℕ) (text : List ℕ) (this task : Task) → text ≡ task_name this → bytes_eq name text ≡ true → this ≡ task → name ≡ task_name task
 named name text this task text_is is same = same_text name text is ∙ text_is ∙ ap task_name same
@@ -65,10 +58,7 @@ NamesField-read value size same =
     absurd (none-some size same)))))
 
 field_of-digit : (size : ℕ) → ((size ≡ 2) ⊎ (size ≡ 3) ⊎ (size ≡ 5) ⊎ (size ≡ 7)) → field_of ((48 + size) ∷ []) ≡ Some size
-field_of-digit size (inl is) = rw is refl
-field_of-digit size (inr (inl is)) = rw is refl
-field_of-digit size (inr (inr (inl is))) = rw is refl
-field_of-digit size (inr (inr (inr is))) = rw is refl
+field_of-digit size has1 = grind (arith, nat_tests)
 
 pub read-NamesField : (value : List ℕ) (size : ℕ) → NamesField value size → field_of value ≡ Some size
 read-NamesField value size names = ap field_of names.1 ∙ field_of-digit size names.0
@@ -78,88 +68,54 @@ within : ℕ → Option ℕ
 within count = cond (nat_le 1 count && nat_le count WORKERS) (Some count) None
 
 pub NamesWorkers-read : (value : List ℕ) (count : ℕ) → workers_of value ≡ Some count → NamesWorkers value count
-NamesWorkers-read value count same =
-    option_and_then_some (λ count. cond (nat_le 1 count && nat_le count WORKERS) (Some count) None) (numeral_of WORKERS_DIGITS value) count same (λ given is later.
-    let found = cond_some (nat_le 1 given && nat_le given WORKERS) given count later in
-    let parts = and_parts (nat_le 1 given) (nat_le given WORKERS) found.0 in
-    subst (NamesWorkers value) found.1
-    (WritesNumber-numeral_of WORKERS_DIGITS value given is, (leb-true 1 given parts.0, leb-true given WORKERS parts.1)))
+NamesWorkers-read value count same = grind (arith, nat_tests)
 
 pub read-NamesWorkers : (value : List ℕ) (count : ℕ) → NamesWorkers value count → workers_of value ≡ Some count
-read-NamesWorkers value count names =
-    rw (numeral_of-WritesNumber WORKERS_DIGITS value count names.0) (rw (le-leb 1 count names.1.0, le-leb count WORKERS names.1.1) refl)
+read-NamesWorkers value count names = grind (arith, nat_tests)
 
 -- forms
 pub NamesForm-read : (value : List ℕ) (form : Form) → form_of value ≡ Some form → NamesForm value form
-NamesForm-read value form same =
-    chosen (bytes_eq value (codes "pd")) Pd _ form same (λ is same. same_text value (codes "pd") is ∙ ap form_name same) (λ same.
-    chosen (bytes_eq value (codes "gauss")) Gauss _ form same (λ is same. same_text value (codes "gauss") is ∙ ap form_name same) (λ same.
-    absurd (none-some form same)))
+NamesForm-read value form same = grind (arith, nat_tests, chosen, same_text, none-some)
 
 form_of-name : (form : Form) → form_of (form_name form) ≡ Some form
-form_of-name Pd = refl
-form_of-name Gauss = refl
+form_of-name form = grind (arith, nat_tests)
 
 pub read-NamesForm : (value : List ℕ) (form : Form) → NamesForm value form → form_of value ≡ Some form
 read-NamesForm value form names = ap form_of names ∙ form_of-name form
 
 -- numbers
 pub NamesNumber-read : (value : List ℕ) (number : Option ℕ) → value_number value ≡ Some number → NamesNumber value number
-NamesNumber-read value number same = go (numeral_of NUMBER_DIGITS value) refl same
-  where
-    go : (o : Option ℕ) → numeral_of NUMBER_DIGITS value ≡ o → option_map (λ n. Some n) o ≡ Some number → NamesNumber value number
-    go None is same = absurd (none-some number same)
-    go (Some n) is same = subst (NamesNumber value) (same_Some (Some n) number same) (WritesNumber-numeral_of NUMBER_DIGITS value n is)
+NamesNumber-read value number same = grind (arith, nat_tests)
 
 pub read-NamesNumber : (value : List ℕ) (number : Option ℕ) → NamesNumber value number → value_number value ≡ Some number
-read-NamesNumber value None names = absurd names
-read-NamesNumber value (Some number) names = ap (option_map (λ n. Some n)) (numeral_of-WritesNumber NUMBER_DIGITS value number names)
+read-NamesNumber value number names = grind (arith, nat_tests)
 
 -- marks
 pub NamesMark-read : (value : List ℕ) (mark : Option ℕ) → value_mark value ≡ Some mark → NamesMark value mark
-NamesMark-read value mark same =
-    option_and_then_some (λ n. cond (nat_le n MARK_LIMIT) (Some (Some n)) None) (numeral_of MARK_DIGITS value) mark same (λ n is later.
-    let found = cond_some (nat_le n MARK_LIMIT) (Some n) mark later in
-    subst (NamesMark value) found.1 (WritesNumber-numeral_of MARK_DIGITS value n is, leb-true n MARK_LIMIT found.0))
+NamesMark-read value mark same = grind (arith, nat_tests)
 
 pub read-NamesMark : (value : List ℕ) (mark : Option ℕ) → NamesMark value mark → value_mark value ≡ Some mark
-read-NamesMark value None names = absurd names
-read-NamesMark value (Some mark) names =
-    rw (numeral_of-WritesNumber MARK_DIGITS value mark names.0) (rw (le-leb mark MARK_LIMIT names.1) refl)
+read-NamesMark value mark names = grind (arith, nat_tests)
 
 -- options
 pub IsGiven-read : {X : Type 0} (names : List ℕ → X → Type 0) (reading : List ℕ → Option X) (default : X)
     → ((value : List ℕ) (x : X) → reading value ≡ Some x → names value x)
     → (values : List (List ℕ)) (x : X) → length values ≤ 1 → given_by reading default (slice_get values 0) ≡ Some x → IsGiven names default values x
-IsGiven-read names reading default means [] x few same = sym (same_Some default x same)
-IsGiven-read names reading default means (value ∷ []) x few same = means value x same
-IsGiven-read names reading default means (first ∷ second ∷ more) x few same = absurd (omega arith)
+IsGiven-read names reading default means values x few same = grind (arith, nat_tests)
 
 pub read-IsGiven : {X : Type 0} (names : List ℕ → X → Type 0) (reading : List ℕ → Option X) (default : X)
     → ((value : List ℕ) (x : X) → names value x → reading value ≡ Some x)
     → (values : List (List ℕ)) (x : X) → IsGiven names default values x → given_by reading default (slice_get values 0) ≡ Some x
-read-IsGiven names reading default means [] x given = ap Some (sym given)
-read-IsGiven names reading default means (value ∷ []) x given = means value x given
-read-IsGiven names reading default means (first ∷ second ∷ more) x given = absurd given
+read-IsGiven names reading default means values x given = grind (arith, nat_tests)
 
 pub IsGiven-once : {X : Type 0} (names : List ℕ → X → Type 0) (default : X) (values : List (List ℕ)) (x : X) → IsGiven names default values x → length values ≤ 1
-IsGiven-once names default [] x given = omega arith
-IsGiven-once names default (value ∷ []) x given = omega arith
-IsGiven-once names default (first ∷ second ∷ more) x given = absurd given
+IsGiven-once names default values x given = grind (arith, nat_tests)
 
 -- `bench` has a number, and `reduced` a mark
 pub needs-read : (command made : Command) (task : Task) (number mark : Option ℕ) → finished_with command task number mark ≡ Some made
     → HasNumber task number × HasMark task mark × (command ≡ made)
-needs-read command made Bench None mark same = absurd (none-some made same)
-needs-read command made Bench (Some number) mark same = (tt, tt, same_Some command made same)
-needs-read command made Reduced number None same = absurd (none-some made same)
-needs-read command made Reduced number (Some mark) same = (tt, tt, same_Some command made same)
-needs-read command made _ number mark same = (tt, tt, same_Some command made same)
+needs-read command made task number mark same = grind (arith, nat_tests)
 
 pub read-needs : (command : Command) (task : Task) (number mark : Option ℕ) → HasNumber task number → HasMark task mark
     → finished_with command task number mark ≡ Some command
-read-needs command Bench None mark needed marked = absurd needed
-read-needs command Bench (Some number) mark needed marked = refl
-read-needs command Reduced number None needed marked = absurd marked
-read-needs command Reduced number (Some mark) needed marked = refl
-read-needs command _ number mark needed marked = refl
+read-needs command task number mark needed marked = grind (arith, nat_tests)

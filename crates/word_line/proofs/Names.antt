@@ -1,6 +1,7 @@
 -- Words that name an option, by their looks.
-use Rattle.std.proofs.Common.{◌≡◌, ◌==◌, ◌&&◌, inl, inr, Bool, true, false, [], ◌∷◌, ◌++◌, length, Option, Some, None, refl, sym, ap, ap₂, cond, ◌∙◌, arith, true≢false, get_or}
-use Rattle.std.proofs.lemmas.Bool.{cases_lt, eqb-true, ne_eqb}
+use Rattle.std.proofs.lemmas.Bool.Decides.{nat_tests}
+use Rattle.std.proofs.Common.{◌≡◌, ◌==◌, inl, inr, Bool, true, false, [], ◌∷◌, ◌++◌, length, Option, Some, None, refl, sym, ap, cond, ◌∙◌, arith, true≢false, get_or}
+use Rattle.std.proofs.lemmas.Bool.{cases_lt, eqb-true}
 use Rattle.std.proofs.lemmas.List.Sums.{fails_before_first, passes_at_first, split_at_first}
 use Rattle.clap.proofs.CutLemmas.{Lacks, before_first-Lacks, list_any-Lacks, list_any-at}
 use Rattle.std.proofs.lemmas.Option.{none-some, same_Some}
@@ -9,7 +10,7 @@ use Rattle.std.specs.Prelude.{codes}
 use Rattle.std.specs.List.{after_first, before_first, position_or_len}
 use Rattle.std.specs.Option.{option_and_then}
 use Rattle.std.specs.Str.{bytes_eq}
-use Rattle.clap.specs.Lexer.{has_byte, long_of, long_of_rest, name_and_value, short_of_rest, strip_byte}
+use Rattle.clap.specs.Lexer.{has_byte, long_of, long_of_rest, name_and_value, strip_byte}
 use Rattle.clap.specs.Walk.{Text}
 use Rattle.word_line.specs.Pieces.{HasNoDash, Key, field, workers, to, number, mark, key_name}
 use Rattle.word_line.proofs.Rules.{key_of}
@@ -19,14 +20,7 @@ use Rattle.word_line.proofs.Machine.{IsText}
 
 -- a text with no dash looks like a text
 pub no_dash_text : (word : Text) → HasNoDash word → IsText word
-no_dash_text [] plain = record { dashes = refl; no_name = refl; no_flags = inl refl }
-no_dash_text (x ∷ word) plain =
-    let differs : (x == 45) ≡ false = ne_eqb x 45 plain in
-    record {
-      dashes = ap (λ b. b && bytes_eq word (45 ∷ [])) differs;
-      no_name = ap (λ (b : Bool). option_and_then long_of_rest (option_and_then (strip_byte 45) (cond b (Some word) None))) differs;
-      no_flags = inl (ap (λ (b : Bool). option_and_then short_of_rest (cond b (Some word) None)) differs);
-    }
+no_dash_text word plain = grind (arith, nat_tests)
 
 -- a name, and what stands behind `=` if there is something
 abbrev with_value : Text → Option Text → Text
@@ -66,38 +60,23 @@ long_of-is (a ∷ word) name value same = first (a == 45) refl same
     second (b ∷ word) same = go (b == 45) refl same
       where
         go : (t : Bool) → (b == 45) ≡ t → option_and_then long_of_rest (cond t (Some word) None) ≡ Some (name, value) → b ∷ word ≡ 45 ∷ with_value name value
-        go true is same = ap₂ (λ c more. c ∷ more) (eqb-true b 45 is) (third word same)
-        go false is same = absurd (none-some (name, value) same)
+        go t is same = grind (arith, nat_tests, eqb-true, third, none-some)
 
     first : (t : Bool) → (a == 45) ≡ t → option_and_then long_of_rest (option_and_then (strip_byte 45) (cond t (Some word) None)) ≡ Some (name, value)
         → a ∷ word ≡ 45 ∷ 45 ∷ with_value name value
-    first true is same = ap₂ (λ c more. c ∷ more) (eqb-true a 45 is) (second word same)
-    first false is same = absurd (none-some (name, value) same)
+    first t is same = grind (arith, nat_tests, eqb-true, second, none-some)
 
 pub long_of-joined : (key : Key) (value : Text) → long_of (codes "--" ++ (key_name key ++ (codes "=" ++ value))) ≡ Some (key_name key, Some value)
-long_of-joined field value = refl
-long_of-joined workers value = refl
-long_of-joined to value = refl
-long_of-joined number value = refl
-long_of-joined mark value = refl
+long_of-joined key value = grind (arith, nat_tests)
 
 pub dashes-name : (key : Key) (more : Text) → bytes_eq (codes "--" ++ (key_name key ++ more)) (45 ∷ 45 ∷ []) ≡ false
-dashes-name field more = refl
-dashes-name workers more = refl
-dashes-name to more = refl
-dashes-name number more = refl
-dashes-name mark more = refl
+dashes-name key more = grind (arith, nat_tests)
 
 pub key_of-name : (key : Key) → key_of (key_name key) ≡ Some key
-key_of-name field = refl
-key_of-name workers = refl
-key_of-name to = refl
-key_of-name number = refl
-key_of-name mark = refl
+key_of-name key = grind (arith, nat_tests)
 
 chosen_key : {P : Type 0} (b : Bool) (x : Key) (o : Option Key) (y : Key) → cond b (Some x) o ≡ Some y → (b ≡ true → x ≡ y → P) → (o ≡ Some y → P) → P
-chosen_key true x o y same this other = this refl (same_Some x y same)
-chosen_key false x o y same this other = other same
+chosen_key b x o y same this other = grind (arith, nat_tests)
 
 pub key_of-is : (name : Text) (key : Key) → key_of name ≡ Some key → name ≡ key_name key
 key_of-is name key same =

@@ -2,27 +2,24 @@
 -- `clap` does what the machine does, and the machine goes over lines. Each slot has one text at most, and the texts give a command
 -- exactly where each says what the command has there (`Gives`). Both ways (`command_is`, `command_rows`) make the clauses of the
 -- reading, and that words mean one command or none.
-use Rattle.std.proofs.Common.{◌≡◌, ℕ, ◌+◌, nat_le, ◌≤◌, ◌⊎◌, inl, inr, Bool, true, false, List, [], ◌∷◌, ◌++◌, length, Option, Some, None, refl, sym, ap, subst, cond, ◌∙◌, arith}
-use Rattle.std.proofs.lemmas.List.Elements.{All-cons, All-nil}
-use Rattle.std.proofs.lemmas.Bool.{and_parts, leb-true}
-use Rattle.std.specs.Char.{is_ascii_digit}
+use Rattle.std.proofs.lemmas.Bool.Decides.{nat_tests}
+use Rattle.std.proofs.Common.{◌≡◌, ℕ, ◌≤◌, ◌⊎◌, inl, inr, Bool, true, false, List, [], ◌∷◌, ◌++◌, length, Option, Some, None, refl, sym, ap, subst, cond, ◌∙◌, arith}
 use Rattle.std.proofs.lemmas.Option.{cond_some, none-some, option_and_then_some, same_Some}
 use Rattle.std.specs.Prelude.{codes, is_some, slice_get}
-use Rattle.std.specs.List.{All, list_all}
+use Rattle.std.specs.List.{All}
 use Rattle.std.specs.Option.{option_and_then}
 use Rattle.clap.specs.Walk as steps
 use Rattle.clap.specs.Walk.{Row, Text, walk, first_of, idle, nothing_held, rows_of}
 use Rattle.clap.specs.Simple.{App, entered, matches_of, names_of}
-use Rattle.clap.specs.Faults.{built_fault, entered_fault, fault_of, level_fault}
+use Rattle.clap.specs.Faults.{entered_fault, fault_of, level_fault}
 use Rattle.clap.specs.Kinds.{Kinds}
 use Rattle.clap.specs.declared.parser.matches.Found.{Found}
 use Rattle.clap.proofs.WalkLemmas.{first_value-rows}
 use Rattle.word_line.specs.declared.command.Command.{Command}
-use Rattle.word_line.specs.declared.limits.TheConstants.{MARK_DIGITS, NUMBER_DIGITS, WORKERS_DIGITS}
+use Rattle.word_line.specs.declared.limits.TheConstants.{WORKERS_DIGITS}
 use Rattle.word_line.specs.declared.command.Task.{Task}
-use Rattle.word_line.specs.declared.command.Task.TheVariants.{Homology}
 use Rattle.word_line.specs.declared.command.Form.{Form}
-use Rattle.word_line.specs.declared.command.Form.TheVariants.{Pd, Gauss}
+use Rattle.word_line.specs.declared.command.Form.TheVariants.{Pd}
 use Rattle.word_line.specs.Commands.{IsCommand}
 use Rattle.word_line.specs.Line.{command_found, kh_line}
 use Rattle.word_line.specs.Pieces.{HasNoDash, IsLine, Key, Piece, key_name, positionals}
@@ -34,52 +31,39 @@ use Rattle.word_line.proofs.Lines.{line_of, line_taken, taken_line}
 use Rattle.word_line.proofs.Uses.{Distinct, first_of-values, has-some, tasks_of-line, uses_behind, uses_of, values_of, values_of-line}
 use Rattle.word_line.proofs.Agreement.{found_is_taken}
 use Rattle.word_line.proofs.Machine.{passed, fault_from, walk_of, ready, rows_taken, taken, walk_at, with_task}
-use Rattle.word_line.proofs.Meanings.{needs-read, IsGiven-once, IsGiven-read, NamesField-read, NamesForm-read, NamesMark-read, NamesNumber-read, NamesWorkers-read, name_of-task, read-needs, read-IsGiven, read-NamesField, read-NamesForm, read-NamesMark, read-NamesNumber, read-NamesWorkers, task_of-name}
+use Rattle.word_line.proofs.Meanings.{needs-read, IsGiven-read, NamesField-read, NamesForm-read, NamesMark-read, NamesNumber-read, NamesWorkers-read, name_of-task, read-needs, read-IsGiven, read-NamesField, read-NamesForm, read-NamesMark, read-NamesNumber, read-NamesWorkers, task_of-name}
 use Rattle.word_line.proofs.Rows.{Use, has, rows_at}
 use Rattle.word_line.proofs.Rules.{built_is, shape}
 
 -- ---- no legal text begins with `-`
 
 task_no_dash : (task : Task) → HasNoDash (task_name task)
-task_no_dash Homology = λ is. absurd (omega (arith, is))
-task_no_dash _ = λ is. absurd (omega (arith, is))
+task_no_dash task = grind (arith, nat_tests)
 
 digits_no_dash : (limit : ℕ) (value : Text) (number : ℕ) → WritesNumber limit value number → HasNoDash value
-digits_no_dash limit [] number written = tt
-digits_no_dash limit (digit ∷ value) number written = λ is.
-    let parts = and_parts (is_ascii_digit digit) (list_all is_ascii_digit value) written.digits in
-    let range = and_parts (nat_le 48 digit) (nat_le digit 57) parts.0 in
-    let low = leb-true 48 digit range.0 in
-    absurd (omega (arith, low, is))
+digits_no_dash limit value number written = grind (arith, nat_tests)
 
 field_no_dash : (value : Text) (size : ℕ) → NamesField value size → HasNoDash value
-field_no_dash value size names =
-    let plain : HasNoDash ((48 + size) ∷ []) = λ is. absurd (omega (arith, is)) in
-    subst HasNoDash (sym names.1) plain
+field_no_dash value size names = grind (arith, nat_tests)
 
 workers_no_dash : (value : Text) (count : ℕ) → NamesWorkers value count → HasNoDash value
 workers_no_dash value count names = digits_no_dash WORKERS_DIGITS value count names.0
 
 form_name-no_dash : (form : Form) → HasNoDash (form_name form)
-form_name-no_dash Pd = λ is. absurd (omega (arith, is))
-form_name-no_dash Gauss = λ is. absurd (omega (arith, is))
+form_name-no_dash form = grind (arith, nat_tests)
 
 form_no_dash : (value : Text) (form : Form) → NamesForm value form → HasNoDash value
 form_no_dash value form names = subst HasNoDash (sym names) (form_name-no_dash form)
 
 number_no_dash : (value : Text) (number : Option ℕ) → NamesNumber value number → HasNoDash value
-number_no_dash value None names = absurd names
-number_no_dash value (Some number) names = digits_no_dash NUMBER_DIGITS value number names
+number_no_dash value number names = grind (arith, nat_tests)
 
 mark_no_dash : (value : Text) (mark : Option ℕ) → NamesMark value mark → HasNoDash value
-mark_no_dash value None names = absurd names
-mark_no_dash value (Some mark) names = digits_no_dash MARK_DIGITS value mark names.0
+mark_no_dash value mark names = grind (arith, nat_tests)
 
 given_no_dash : {X : Type 0} (names : Text → X → Type 0) (default : X) → ((value : Text) (x : X) → names value x → HasNoDash value)
     → (values : List Text) (x : X) → IsGiven names default values x → All HasNoDash values
-given_no_dash names default plain [] x given = All-nil HasNoDash
-given_no_dash names default plain (value ∷ []) x given = All-cons HasNoDash value [] (plain value x given) (All-nil HasNoDash)
-given_no_dash names default plain (first ∷ second ∷ more) x given = absurd given
+given_no_dash names default plain values x given = grind (arith, nat_tests)
 
 -- ---- the texts of uses
 
@@ -114,8 +98,7 @@ record Gives (name field workers to number mark : Option Text) (command : Comman
 
 gives_command : (name field workers to number mark : Option Text) (command : Command) → Gives name field workers to number mark command
     → command_given name field workers to number mark ≡ Some command
-gives_command name field workers to number mark command gives =
-    rw (gives.is, gives.task, gives.of_field, gives.of_workers, gives.of_to, gives.of_number, gives.of_mark) gives.done
+gives_command name field workers to number mark command gives = grind (arith, nat_tests)
 
 command_gives : (name field workers to number mark : Option Text) (command : Command)
     → command_given name field workers to number mark ≡ Some command → Gives name field workers to number mark command
@@ -205,18 +188,13 @@ values_no_dash words command is key.number = given_no_dash NamesNumber None numb
 values_no_dash words command is key.mark = given_no_dash NamesMark None mark_no_dash (values_in key.mark is.pieces) command.mark is.mark
 
 values_once : (words : List Text) (command : Command) (is : IsCommand words command) (k : Key) → length (values_in k is.pieces) ≤ 1
-values_once words command is key.field = IsGiven-once NamesField 2 (values_in key.field is.pieces) command.field is.field
-values_once words command is key.workers = IsGiven-once NamesWorkers 1 (values_in key.workers is.pieces) command.workers is.workers
-values_once words command is key.to = IsGiven-once NamesForm Pd (values_in key.to is.pieces) command.to is.to
-values_once words command is key.number = IsGiven-once NamesNumber None (values_in key.number is.pieces) command.number is.number
-values_once words command is key.mark = IsGiven-once NamesMark None (values_in key.mark is.pieces) command.mark is.mark
+values_once words command is k = grind (arith, nat_tests)
 
 abbrev line_uses : (words : List Text) (command : Command) → IsCommand words command → List Use
 line_uses words command is = uses_of is.pieces ++ uses_behind is.behind
 
 line_distinct : (words : List Text) (command : Command) (is : IsCommand words command) → Distinct (line_uses words command is)
-line_distinct words command is None =
-    let one : length (values_of None (line_uses words command is)) ≡ 1 = ap length (tasks_of-line is.pieces is.behind ∙ is.task) in omega (arith, one)
+line_distinct words command is None = grind (arith, nat_tests, values_of, tasks_of-line)
 line_distinct words command is (Some k) =
     let same : length (values_of (Some k) (line_uses words command is)) ≡ length (values_in k is.pieces) = ap length (values_of-line k is.pieces is.behind) in
     let once = values_once words command is k in omega (arith, same, once)
@@ -263,13 +241,10 @@ line_built = record { top = shape; subs = [] }
 start_fault : (words : List Text) (stop : Option (Text × List Text))
     → level_fault shape [] nothing_held words (is_some (entered line_built stop)) (entered_fault line_built stop)
     ≡ fault_from (walk_at idle false 1 nothing_held) words
-start_fault words None = refl
-start_fault words (Some p) = refl
+start_fault words stop = grind (arith, nat_tests)
 
 pub fault_is : (words : List Text) → fault_of kh_line words ≡ fault_from (walk_at idle false 1 nothing_held) words
-fault_is words =
-    ap (λ (a : App). built_fault a nothing_held words) built_is
-    ∙ start_fault words (walk shape.rules [] nothing_held words).stopped
+fault_is words = grind (arith, nat_tests, built_is, start_fault, shape)
 
 pub matches_is : (words : List Text) → matches_of kh_line words ≡ steps.finished shape.rules (walk_of (walk_at idle false 1 nothing_held) words).held
 matches_is words = ap (λ (a : App). steps.rows_after a.top.rules (names_of a) words) built_is
@@ -278,8 +253,7 @@ passed_none : (kinds : Kinds) (rows : List Row) → kinds ≡ [] → passed kind
 passed_none kinds rows none = rw none refl
 
 none_passed : (kinds : Kinds) (rows made : List Row) → passed kinds rows ≡ Some made → kinds ≡ []
-none_passed [] rows made same = refl
-none_passed (k ∷ kinds) rows made same = absurd (none-some made same)
+none_passed kinds rows made same = grind (arith, nat_tests)
 
 -- words that `clap` takes, with what it finds
 pub taken_rows : (words : List Text) (rows : List Row) → fault_of kh_line words ≡ [] → rows ≡ matches_of kh_line words → rows_taken ready [] words ≡ Some rows
@@ -320,8 +294,7 @@ command_faultless words command is =
 
 pub found_command : (words : List Text) (found : Found) (command : Command) → fault_of kh_line words ≡ [] → rows_of found ≡ matches_of kh_line words
     → command_found found ≡ Some command → IsCommand words command
-found_command words found command none are same =
-    rows_command words (rows_of found) command (taken_rows words (rows_of found) none are) (sym (command_found-rows found) ∙ same)
+found_command words found command none are same = grind (arith, nat_tests, rows_command, taken_rows, command_found-rows)
 
 pub found_none : (words : List Text) (found : Found) → fault_of kh_line words ≡ [] → rows_of found ≡ matches_of kh_line words
     → command_found found ≡ None → (command : Command) → IsCommand words command → ⊥
@@ -333,15 +306,10 @@ found_none words found none are same command is =
 -- the sizes of a command
 of_given : {X : Type 0} (names : Text → X → Type 0) (default : X) (P : X → Type 0) → ((value : Text) (x : X) → names value x → P x) → P default
     → (values : List Text) (x : X) → IsGiven names default values x → P x
-of_given names default P of start [] x given = subst P (sym given) start
-of_given names default P of start (value ∷ []) x given = of value x given
-of_given names default P of start (first ∷ second ∷ more) x given = absurd given
+of_given names default P of start values x given = grind (arith, nat_tests)
 
 pub IsCommand-sizes : (words : List Text) (command : Command) → IsCommand words command → IsFieldSize command.field × AreWorkers command.workers
-IsCommand-sizes words command is = (
-  of_given NamesField 2 IsFieldSize (λ value size names. names.0) (inl refl) (values_in key.field is.pieces) command.field is.field,
-  of_given NamesWorkers 1 AreWorkers (λ value count names. names.1) (omega arith, omega arith) (values_in key.workers is.pieces) command.workers is.workers,
-)
+IsCommand-sizes words command is = grind (arith, nat_tests)
 
 -- ---- words that are written out
 

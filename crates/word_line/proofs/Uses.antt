@@ -1,5 +1,6 @@
 -- The texts that the parts of a line give for each option.
-use Rattle.std.proofs.Common.{◌≡◌, ◌+◌, ◌≤◌, ◌||◌, Bool, true, false, List, [], ◌∷◌, ◌++◌, length, map, Some, None, refl, sym, ap, ap₂, cond, ◌∙◌, arith, true≢false, append-nil}
+use Rattle.std.proofs.lemmas.Bool.Decides.{nat_tests}
+use Rattle.std.proofs.Common.{◌≡◌, ◌+◌, ◌≤◌, ◌||◌, Bool, true, false, List, [], ◌∷◌, ◌++◌, length, map, Some, None, refl, sym, ap, cond, ◌∙◌, arith, append-nil}
 use Rattle.std.proofs.lemmas.List.{length-append}
 use Rattle.std.proofs.lemmas.Slice.Eq.{bytes_eq-Decides}
 use Rattle.std.specs.Prelude.{codes, slice_get}
@@ -7,7 +8,7 @@ use Rattle.std.specs.List.{find}
 use Rattle.std.specs.Option.{option_and_then}
 use Rattle.std.specs.Str.{bytes_eq}
 use Rattle.clap.specs.Walk.{Row, Text, first_of, has_row}
-use Rattle.word_line.specs.Pieces.{Key, Piece, field, workers, to, number, mark, apart, joined, key_name, positional, positionals}
+use Rattle.word_line.specs.Pieces.{Key, Piece, apart, joined, key_name, positional, positionals}
 use Rattle.word_line.specs.Values.{same_key, values_in}
 use Rattle.word_line.proofs.Rules.{Slot, id_of}
 use Rattle.word_line.proofs.Rows.{Use, has, row_at, rows_at, same_id}
@@ -25,8 +26,7 @@ values_of-append slot (given ∷ first) second = go (bytes_eq (id_of given.0) (i
     go : (b : Bool) → values_of slot (first ++ second) ≡ values_of slot first ++ values_of slot second
         → cond b (given.1 ∷ values_of slot (first ++ second)) (values_of slot (first ++ second))
         ≡ cond b (given.1 ∷ values_of slot first) (values_of slot first) ++ values_of slot second
-    go true rest = ap (λ more. given.1 ∷ more) rest
-    go false rest = rest
+    go b rest = grind (arith, nat_tests)
 
 has-none : (slot : Slot) (uses : List Use) → length (values_of slot uses) ≡ 0 → has slot uses ≡ false
 has-none slot [] none = refl
@@ -34,8 +34,7 @@ has-none slot (given ∷ uses) none = go (bytes_eq (id_of given.0) (id_of slot))
   where
     go : (b : Bool) → length (cond b (given.1 ∷ values_of slot uses) (values_of slot uses)) ≡ 0
         → (length (values_of slot uses) ≡ 0 → has slot uses ≡ false) → (b || has slot uses) ≡ false
-    go true none rest = absurd (omega (arith, none))
-    go false none rest = rest none
+    go b none rest = grind (arith, nat_tests)
 
 none-has : (slot : Slot) (uses : List Use) → has slot uses ≡ false → values_of slot uses ≡ []
 none-has slot [] none = refl
@@ -43,17 +42,13 @@ none-has slot (given ∷ uses) none = go (bytes_eq (id_of given.0) (id_of slot))
   where
     go : (b : Bool) → (b || has slot uses) ≡ false → (has slot uses ≡ false → values_of slot uses ≡ [])
         → cond b (given.1 ∷ values_of slot uses) (values_of slot uses) ≡ []
-    go true none rest = absurd (true≢false none)
-    go false none rest = rest none
+    go b none rest = grind (arith, nat_tests)
 
 pub has-some : (slot : Slot) (uses : List Use) (value : Text) → values_of slot uses ≡ value ∷ [] → has slot uses ≡ true
 has-some slot uses value some = go (has slot uses) refl
   where
     go : (b : Bool) → has slot uses ≡ b → b ≡ true
-    go true is = refl
-    go false is =
-        let empty : value ∷ [] ≡ [] = sym some ∙ none-has slot uses is in
-        let bad : length (value ∷ []) ≡ 0 = ap length empty in absurd (omega (arith, bad))
+    go b is = grind (arith, nat_tests, none-has)
 
 -- the first row of a slot has its first text
 pub first_of-values : (slot : Slot) (uses : List Use) → first_of (id_of slot) (rows_at uses) ≡ slice_get (values_of slot uses) 0
@@ -63,8 +58,7 @@ first_of-values slot (given ∷ uses) = go (bytes_eq (id_of given.0) (id_of slot
     go : (b : Bool) → first_of (id_of slot) (rows_at uses) ≡ slice_get (values_of slot uses) 0
         → option_and_then (λ (r : Row). slice_get r.values 0) (cond b (Some (row_at given)) (find (λ r. bytes_eq r.id (id_of slot)) (rows_at uses)))
         ≡ slice_get (cond b (given.1 ∷ values_of slot uses) (values_of slot uses)) 0
-    go true rest = refl
-    go false rest = rest
+    go b rest = grind (arith, nat_tests)
 
 -- no slot has two texts
 abbrev pub Distinct : List Use → Type 0
@@ -85,8 +79,7 @@ distinct_push uses given distinct none slot =
   where
     sizes : (b : Bool) → bytes_eq (id_of given.0) (id_of slot) ≡ b
         → length (values_of slot (uses ++ given ∷ [])) ≡ length (values_of slot uses) + length (cond b (given.1 ∷ []) [])
-    sizes b is = ap length (values_of-append slot uses (given ∷ []) ∙ ap (λ c. values_of slot uses ++ cond c (given.1 ∷ []) []) is)
-        ∙ length-append (values_of slot uses) (cond b (given.1 ∷ []) [])
+    sizes b is = grind (arith, nat_tests, values_of-append, length-append)
 
     go : (b : Bool) → bytes_eq (id_of given.0) (id_of slot) ≡ b → length (values_of slot (uses ++ given ∷ [])) ≤ 1
     go false is = omega (arith, sizes false is, distinct slot)
@@ -110,62 +103,26 @@ abbrev pub uses_behind : List Text → List Use
 uses_behind words = map (λ word. (None, word)) words
 
 key_task : (key : Key) → bytes_eq (codes "task") (key_name key) ≡ false
-key_task field = refl
-key_task workers = refl
-key_task to = refl
-key_task number = refl
-key_task mark = refl
+key_task key = grind (arith, nat_tests)
 
 task_key : (key : Key) → bytes_eq (key_name key) (codes "task") ≡ false
-task_key field = refl
-task_key workers = refl
-task_key to = refl
-task_key number = refl
-task_key mark = refl
+task_key key = grind (arith, nat_tests)
 
 pub key_key : (key other : Key) → bytes_eq (key_name other) (key_name key) ≡ same_key key other
-key_key field field = refl
-key_key field workers = refl
-key_key field to = refl
-key_key field number = refl
-key_key field mark = refl
-key_key workers field = refl
-key_key workers workers = refl
-key_key workers to = refl
-key_key workers number = refl
-key_key workers mark = refl
-key_key to field = refl
-key_key to workers = refl
-key_key to to = refl
-key_key to number = refl
-key_key to mark = refl
-key_key number field = refl
-key_key number workers = refl
-key_key number to = refl
-key_key number number = refl
-key_key number mark = refl
-key_key mark field = refl
-key_key mark workers = refl
-key_key mark to = refl
-key_key mark number = refl
-key_key mark mark = refl
+key_key key other = grind (arith, nat_tests)
 
 values_of-pieces : (key : Key) (pieces : List Piece) → values_of (Some key) (uses_of pieces) ≡ values_in key pieces
 values_of-pieces key [] = refl
 values_of-pieces key (positional word ∷ pieces) = rw (key_task key) (values_of-pieces key pieces)
-values_of-pieces key (apart other value ∷ pieces) =
-    ap₂ (λ (b : Bool) more. cond b (value ∷ more) more) (key_key key other) (values_of-pieces key pieces)
-values_of-pieces key (joined other value ∷ pieces) =
-    ap₂ (λ (b : Bool) more. cond b (value ∷ more) more) (key_key key other) (values_of-pieces key pieces)
+values_of-pieces key (apart other value ∷ pieces) = grind (arith, nat_tests, key_key, values_of-pieces key pieces)
+values_of-pieces key (joined other value ∷ pieces) = grind (arith, nat_tests, key_key, values_of-pieces key pieces)
 
 values_of-behind : (key : Key) (words : List Text) → values_of (Some key) (uses_behind words) ≡ []
 values_of-behind key [] = refl
 values_of-behind key (word ∷ words) = rw (key_task key) (values_of-behind key words)
 
 pub values_of-line : (key : Key) (pieces : List Piece) (behind : List Text) → values_of (Some key) (uses_of pieces ++ uses_behind behind) ≡ values_in key pieces
-values_of-line key pieces behind =
-    values_of-append (Some key) (uses_of pieces) (uses_behind behind)
-    ∙ ap₂ (λ (a b : List Text). a ++ b) (values_of-pieces key pieces) (values_of-behind key behind) ∙ append-nil (values_in key pieces)
+values_of-line key pieces behind = grind (arith, nat_tests, values_of-append, values_of-pieces, values_of-behind, append-nil)
 
 tasks_of-pieces : (pieces : List Piece) → values_of None (uses_of pieces) ≡ positionals pieces
 tasks_of-pieces [] = refl
@@ -178,6 +135,4 @@ tasks_of-behind [] = refl
 tasks_of-behind (word ∷ words) = ap (λ more. word ∷ more) (tasks_of-behind words)
 
 pub tasks_of-line : (pieces : List Piece) (behind : List Text) → values_of None (uses_of pieces ++ uses_behind behind) ≡ positionals pieces ++ behind
-tasks_of-line pieces behind =
-    values_of-append None (uses_of pieces) (uses_behind behind)
-    ∙ ap₂ (λ (a b : List Text). a ++ b) (tasks_of-pieces pieces) (tasks_of-behind behind)
+tasks_of-line pieces behind = grind (arith, nat_tests, values_of-append, tasks_of-pieces, tasks_of-behind)

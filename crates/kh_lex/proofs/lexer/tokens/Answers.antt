@@ -1,4 +1,5 @@
-use Rattle.std.proofs.Common.{◌≡◌, Ok, Err, drop, sym, ◌∙◌, ap, arith}
+use Rattle.std.proofs.lemmas.Bool.Decides.{nat_tests}
+use Rattle.std.proofs.Common.{◌≡◌, Err, drop, sym, ◌∙◌, ap, arith}
 use Rattle.std.proofs.lemmas.Result.{err_from_is_err_and}
 use Rattle.kh_lex.specs.Lexer.{piece_at}
 use Rattle.kh_lex.proofs.CutReads.{tokens_of-cut, tokens_of-stop}
@@ -11,11 +12,7 @@ loop-place-init c = rw c.new-tokens.ensures.items (IsCut-begin c.args.text.now)
 
 -- a piece is taken
 pub loop-place-preserved : goal.loop-place-preserved
-loop-place-preserved c =
-    let read : piece_at c.loop-place.place (drop c.loop-place.place c.args.text.now) ≡ Ok c.in_ok-piece.piece
-    = ap (piece_at c.loop-place.place) (sym c.rest_from.ensures) ∙ sym c.piece_at.ensures ∙ c.in_ok-piece.was in
-    rw (c.piece_length.ensures, c.in_ok-push_piece.ensures)
-    (IsCut-piece c.args.text.now c.loop-place.place c.loop-place.tokens.items c.in_ok-piece.piece (omega arith) read c.loop-place.invariant)
+loop-place-preserved = grind (arith, nat_tests, IsCut-piece)
 
 -- a fault stands there
 pub returns-in_err-piece-clause-fault : goal.returns-in_err-piece-clause-fault

@@ -1,10 +1,8 @@
-use Rattle.std.proofs.Common.{map}
+use Rattle.std.proofs.lemmas.Bool.Decides.{nat_tests}
+use Rattle.std.proofs.Common.{arith}
 use Rattle.kh_lex.proofs.SectionLoops.{IsParted-piece}
 use Rattle.kh_lex.proofs.line_words.words_of.Goals as goal
 
 -- one more piece
 pub loop-place-preserved : goal.loop-place-preserved
-loop-place-preserved c =
-    rw c.in_ok-push_word.ensures.added
-    (IsParted-piece c.args.line.now c.word_at-word.result.now c.loop-place.place (map (λ word. word.now) c.loop-place.words.items)
-    c.loop-place-test.true c.word_at-word.ensures.word c.loop-place.invariant)
+loop-place-preserved = grind (arith, nat_tests, IsParted-piece)

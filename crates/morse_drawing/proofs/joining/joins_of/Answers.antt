@@ -1,3 +1,4 @@
+use Rattle.std.proofs.lemmas.Bool.Decides.{nat_tests}
 use Rattle.std.proofs.Common.{◌∙◌, sym, ap, rules, arith}
 use Rattle.std.specs.Prelude.{Err}
 use Rattle.std.proofs.lemmas.Result.{err_from_is_err_and}
@@ -22,6 +23,4 @@ pub joins_at_end-requires : goal.joins_at_end-requires
 joins_at_end-requires c = read_paired c.args.slices.now c.slices.place c.slices.ends c.slices.invariant
 
 pub returns : goal.returns
-returns c =
-    c.joins_at_end.ensures
-    ∙ read_all c.args.slices.now c.slices.place c.slices.ends c.slices.invariant (search (rules, arith))
+returns c = grind (arith, nat_tests, read_all c.args.slices.now c.slices.place c.slices.ends c.slices.invariant (search (rules, arith)))
