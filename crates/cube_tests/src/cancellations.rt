@@ -7,7 +7,7 @@ ghost use Rattle.sparse_block.specs.Complexes.{HaveEntries, SquaresToZero};
 ghost use Rattle.sparse_block.specs.Inside.{entries_in, lines_in, lists_in};
 ghost use Rattle.cube_tests.specs.Squares.{square, square_columns, square_names};
 
-use cancel_step::{Foreign, Pivot, apply, cancel_in_place, copy, find, look, patch};
+use cancel_step::{Foreign, Pivot, apply, cancel_in_place, copy, find, finish, look, patch};
 use kh_types::NoMemory;
 use prime_field::{F5, PrimeField};
 use smallvec::SmallVec;
@@ -153,8 +153,8 @@ fn a_cancellation_in_place_is_the_same(rt: HostRuntime) -> Result<(), Fail> {
     Ok(())
 }
 
-/// Each row is the complex, and how many places are left alive at each degree, once no pivot is found
-/// any more; there are three at most. The determinant is 4x + 2y.
+/// Each row is the complex, and how many places `finish` leaves alive at each degree. The
+/// determinant is 4x + 2y.
 #[test]
 fn all_pivots_are_cancelled(rt: HostRuntime) -> Result<(), Fail> {
     let alloc = rt.alloc();
@@ -165,11 +165,7 @@ fn all_pivots_are_cancelled(rt: HostRuntime) -> Result<(), Fail> {
         (true, true, 0),
     ] {
         let mut complex = square(alloc, other_x, other_y)?;
-        for _ in 0..3 {
-            if let Some(found) = look(&complex, 0) {
-                cancel_in_place(alloc, &mut complex, found)?;
-            }
-        }
+        finish(alloc, &mut complex)?;
         assert!(rt; complex.is_zero() && look(&complex, 0).is_none());
         assert!(rt; complex.alive(-2) == alive && complex.alive(-1) == alive);
         check_lines(&rt, &complex, [[0; 3]; 3]);
