@@ -4,7 +4,6 @@ use Rattle.std.proofs.Common.{◌+◌, ◌≤◌, ℕ, IsTrue, arith}
 use Rattle.kh_types.specs.declared.dart.Dart.{Dart}
 use Rattle.kh_types.specs.declared.limits.TheConstants.{COMPONENTS}
 use Rattle.kh_types.specs.Code.{Code, IsArc}
-use Rattle.kh_types.specs.Components.{component_count}
 use Rattle.kh_types.specs.Darts.{IsDart, arc_of}
 use Rattle.kh_types.specs.Acceptance.{accepted}
 use Rattle.kh_types.proofs.AcceptedLemmas.{HasArcsTwice-accepted, IsAccepted-is}

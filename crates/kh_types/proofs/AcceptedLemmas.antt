@@ -1,14 +1,14 @@
 -- Each rule of acceptance is broken nowhere exactly where its fact holds, and so a code breaks no rule exactly where it is accepted
 -- in the words of the subject.
-use Rattle.std.proofs.Common.{◌≡◌, ◌≢◌, ◌↔◌, ℕ, ◌⊎◌, inl, inr, ◌+◌, ◌-◌, ◌<◌, ◌≤◌, ◌∙◌, List, length, refl, sym, ap, subst, arith, Bool, true, false, not, ◌&&◌}
-use Rattle.std.specs.Prelude.{Option, Some, None, IsTrue, nat_eq, nat_lt, ◌||◌}
+use Rattle.std.proofs.Common.{◌≡◌, ◌≢◌, ◌↔◌, ℕ, ◌⊎◌, inl, inr, ◌+◌, ◌-◌, ◌<◌, ◌≤◌, ◌∙◌, List, length, sym, ap, subst, arith, Bool, true, false, not, ◌&&◌}
+use Rattle.std.specs.Prelude.{Option, None, IsTrue, nat_eq, nat_lt, ◌||◌}
 use Rattle.std.specs.List.{list_any, range_with_len}
 use Rattle.std.specs.Option.{option_or}
 use Rattle.std.proofs.lemmas.Bool.{cases_Bool, and_parts, and_left, and_right, both_ways, eq-eqb, eqb-true, not-false}
 use Rattle.std.proofs.lemmas.Bool.Decides.{nat_tests}
 use Rattle.kh_types.specs.declared.dart.Dart.{Dart}
 use Rattle.kh_types.specs.declared.fault.CodeFault.{CodeFault}
-use Rattle.kh_types.specs.declared.fault.CodeFault.TheVariants.{ArcRange, ArcTimes, Interval, Under, Over, TwoArc, Genus, Components}
+use Rattle.kh_types.specs.declared.fault.CodeFault.TheVariants.{ArcTimes, Interval, Under, Over, TwoArc}
 use Rattle.kh_types.specs.declared.limits.TheConstants.{COMPONENTS}
 use Rattle.kh_types.specs.Code.{Code, IsArc, IsCrossing, arc_in, place_of, slots_of, arc_count}
 use Rattle.kh_types.specs.Components.{components_of, component_of, component_count, arcs_in, is_interval, next}
@@ -209,9 +209,6 @@ two_arc_fault-none crossings = grind (arith, nat_tests, crossings-none, two_arc_
 pub genus_fault-none : (crossings : List (List ℕ))
     → (genus_fault crossings ≡ None) ↔ (face_count crossings ≡ planar_face_count crossings)
 genus_fault-none crossings = grind (arith, nat_tests)
-
-none-most : (most count : ℕ) (fault : CodeFault) → (fault_if (nat_lt most count) fault ≡ None) ↔ (count ≤ most)
-none-most most count fault = (λ none. grind (arith, nat_tests), λ few. grind (arith, nat_tests))
 
 pub components_fault-none : (code : Code)
     → (components_fault code ≡ None) ↔ (component_count code.crossings + code.loops ≤ COMPONENTS)

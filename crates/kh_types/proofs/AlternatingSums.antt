@@ -1,5 +1,5 @@
 -- Sums over the degrees from -n to n with alternating signs.
-use Rattle.std.proofs.Common.{◌≡◌, ℕ, zero, suc, ◌+◌, ◌*◌, ◌%◌, ◌∙◌, ◌⊎◌, inl, inr, List, [], ◌∷◌, ℤ, pos, negsuc, neg_ℤ, ◌+ℤ◌, ◌-ℤ◌, sym, refl, map, ap, ap₂, arith, Bool, true, false, cond}
+use Rattle.std.proofs.Common.{◌≡◌, ℕ, zero, suc, ◌+◌, ◌*◌, ◌%◌, ◌∙◌, ◌⊎◌, List, [], ◌∷◌, ℤ, pos, neg_ℤ, ◌+ℤ◌, ◌-ℤ◌, sym, map, ap, ap₂, arith, Bool, true, false, cond}
 use Rattle.std.specs.Prelude.{nat_eq}
 use Rattle.std.specs.List.{sum_by, range_with_len}
 use Rattle.std.proofs.lemmas.Bool.Decides.{nat_tests}
@@ -20,12 +20,6 @@ alternating n numbers = int_sum (map (λ i. signed_by i (numbers i)) (from_minus
 abbrev sign_of : Bool → ℕ → ℤ
 sign_of even x = cond even (pos x) (neg_ℤ (pos x))
 
-sign_of-add : (even : Bool) (x y : ℕ) → sign_of even (x + y) ≡ sign_of even x +ℤ sign_of even y
-sign_of-add even x y = grind (arith, nat_tests)
-
-sign_of-zero : (even : Bool) → sign_of even 0 ≡ pos 0
-sign_of-zero even = grind (arith, nat_tests)
-
 pub signed_by-add : (i : ℤ) (x y : ℕ) → signed_by i (x + y) ≡ signed_by i x +ℤ signed_by i y
 signed_by-add i x y = grind (arith, nat_tests)
 
@@ -38,16 +32,10 @@ parity-next : (k : ℕ)
     → ((nat_eq (k % 2) 0 ≡ true) × (nat_eq (suc k % 2) 0 ≡ false)) ⊎ ((nat_eq (k % 2) 0 ≡ false) × (nat_eq (suc k % 2) 0 ≡ true))
 parity-next k = grind (arith, nat_tests)
 
-signed_by_parity-next : (k x : ℕ) → signed_by_parity k x +ℤ signed_by_parity (suc k) x ≡ pos 0
-signed_by_parity-next k x = grind (arith, nat_tests)
-
 pub signed_by-next : (i j : ℤ) (x : ℕ) → i +ℤ pos 1 ≡ j → signed_by i x +ℤ signed_by j x ≡ pos 0
 signed_by-next i j x next = grind (arith, nat_tests)
 
 -- numbers of one parity have one sign, and a difference has that of the sum
-
-pub signed_by_parity-alike : (x y size : ℕ) → x % 2 ≡ y % 2 → signed_by_parity x size ≡ signed_by_parity y size
-signed_by_parity-alike x y size same = ap (λ bit. cond (nat_eq bit 0) (pos size) (neg_ℤ (pos size))) same
 
 pub signed_by-less : (degree : ℤ) (a b size : ℕ) → degree ≡ pos a -ℤ pos b → signed_by degree size ≡ signed_by_parity (a + b) size
 signed_by-less degree a b size is = grind (arith, nat_tests)

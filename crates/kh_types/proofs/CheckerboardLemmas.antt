@@ -1,6 +1,6 @@
 -- The checkerboard condition and its fault.
 use Rattle.std.proofs.lemmas.Bool.Decides.{nat_tests}
-use Rattle.std.proofs.Common.{◌≡◌, ℕ, ◌-◌, ◌+◌, ◌*◌, ◌^◌, ◌∙◌, List, [], ◌∷◌, length, refl, sym, ap, arith, Bool, true, false, not}
+use Rattle.std.proofs.Common.{◌≡◌, ℕ, ◌-◌, ◌+◌, ◌*◌, ◌^◌, ◌∙◌, List, [], ◌∷◌, length, refl, sym, ap, arith, Bool, true, not}
 use Rattle.std.specs.Prelude.{None}
 use Rattle.kh_types.specs.declared.fault.CodeFault.{CodeFault}
 use Rattle.kh_types.specs.declared.fault.CodeFault.TheVariants.{Checkerboard}

@@ -4,7 +4,7 @@
 -- (`position-counted`). From this count follow all the facts below: numbers are below the number of circles, the list of names has the
 -- circle's at that place, the order of numbers is that of names, and two circles with one number are one.
 use Rattle.std.proofs.lemmas.Bool.Decides.{nat_tests}
-use Rattle.std.proofs.Common.{◌≡◌, ℕ, ◌⊎◌, inl, inr, ◌+◌, ◌-◌, ◌<◌, ◌≤◌, ◌∙◌, List, ◌∷◌, ◌++◌, sym, ap, subst, length, arith, cond, IsTrue}
+use Rattle.std.proofs.Common.{◌≡◌, ℕ, ◌⊎◌, inl, inr, ◌+◌, ◌-◌, ◌<◌, ◌≤◌, ◌∙◌, List, ◌∷◌, ◌++◌, sym, ap, length, arith, cond, IsTrue}
 use Rattle.std.specs.Prelude.{nat_eq, slice_index, min, max}
 use Rattle.std.specs.List.{filter, position_or_len, range_with_len}
 use Rattle.std.proofs.lemmas.Bool.{eq-eqb}

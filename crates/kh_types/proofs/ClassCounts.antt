@@ -1,5 +1,5 @@
 -- How many classes there are after more pairs and among more numbers, and how components and circles count classes.
-use Rattle.std.proofs.Common.{◌≡◌, ℕ, suc, inl, inr, ◌+◌, ◌<◌, ◌≤◌, ◌∙◌, List, [], ◌∷◌, ◌++◌, sym, length, ap, ap₂, arith, cond, eq-eqb}
+use Rattle.std.proofs.Common.{◌≡◌, ℕ, ◌+◌, ◌<◌, ◌≤◌, ◌∙◌, List, [], ◌∷◌, ◌++◌, sym, length, ap, ap₂, arith, eq-eqb}
 use Rattle.std.specs.Prelude.{slice_index, nat_eq}
 use Rattle.std.specs.List.{fold, filter, flat_map, range_with_len}
 use Rattle.std.proofs.lemmas.Bool.{cases_eq}

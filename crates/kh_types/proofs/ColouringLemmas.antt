@@ -4,8 +4,8 @@
 -- solution: where an arc ties two classes it joins them, and turns the colours of one if need be; where it lies within one class, it must
 -- hold already, else no choice solves all. For any choice that solves the equations agrees with the colours on all of a class or on none of
 -- it (`forced`), so that a contradiction within a class is one for every choice.
-use Rattle.std.proofs.Common.{◌≡◌, ℕ, zero, suc, inl, inr, ◌-◌, ◌+◌, ◌*◌, ◌/◌, ◌%◌, ◌^◌, ◌<◌, ◌≤◌, ◌∙◌, List, [], ◌∷◌, length, refl, sym, ap, subst, arith, Bool, true, false, true≢false, not, ◌&&◌}
-use Rattle.std.specs.Prelude.{◌≢◌, Some, None, nat_eq, slice_index}
+use Rattle.std.proofs.Common.{◌≡◌, ℕ, zero, suc, inl, inr, ◌+◌, ◌*◌, ◌/◌, ◌%◌, ◌^◌, ◌<◌, ◌≤◌, ◌∙◌, List, [], ◌∷◌, length, sym, ap, subst, arith, Bool, true, false, true≢false, not, ◌&&◌}
+use Rattle.std.specs.Prelude.{Some, None, nat_eq, slice_index}
 use Rattle.std.specs.List.{list_all, range_with_len}
 use Rattle.std.proofs.Math.Nat.{div-div-eq-div-mul, pow-succ'}
 use Rattle.std.proofs.lemmas.Bool.{cases_lt, eqb-true, eq-eqb, false_from_ne_true}
@@ -15,9 +15,9 @@ use Rattle.kh_types.specs.declared.acceptance.checkerboard.Equation.{Equation}
 use Rattle.kh_types.specs.declared.fault.CodeFault.TheVariants.{Checkerboard}
 use Rattle.kh_types.specs.Code.{place_of, IsCrossing}
 use Rattle.kh_types.specs.Bits.{bit}
-use Rattle.kh_types.specs.Classes.{joined, merged}
+use Rattle.kh_types.specs.Classes.{joined}
 use Rattle.kh_types.specs.Checkerboard.{equation_of, is_solved, solves_at, solves_up_to, has_choice}
-use Rattle.kh_types.specs.Colouring.{tie_of, is_coloured, is_tied, contradicts, changes, changed_colour, colour_after, colours_after}
+use Rattle.kh_types.specs.Colouring.{tie_of, is_coloured, is_tied, contradicts, changed_colour, colour_after, colours_after}
 use Rattle.kh_types.specs.Acceptance.{checkerboard_at, fault_if}
 use Rattle.kh_types.proofs.BitLemmas.{bit-past}
 use Rattle.kh_types.proofs.ClassLemmas.{IsOneOnClasses, one_on_joined, slice_index-joined, length-joined, merged-both}

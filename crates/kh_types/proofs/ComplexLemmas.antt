@@ -4,9 +4,8 @@
 -- numbers. Past the end of a list sizes are 0 and entries are 0, so nothing is left to test there: a degree either has a number or has no
 -- places, a product of two matrices has the entry 0 outside of both, and a dead place is within its degree.
 use Rattle.std.proofs.lemmas.Bool.Decides.{nat_tests}
-use Rattle.std.proofs.Common.{◌≡◌, ℕ, ◌+◌, ◌*◌, ◌%◌, ◌<◌, ◌≤◌, ◌∙◌, ◌⊎◌, inl, inr, List, [], ◌∷◌, ℤ, pos, negsuc, ◌+ℤ◌, ◌-ℤ◌, length, ap, sym, ap₂, subst, subst₂, refl, arith, Bool, true, IsTrue, sum_by}
+use Rattle.std.proofs.Common.{◌≡◌, ℕ, ◌+◌, ◌<◌, ◌≤◌, ◌∙◌, ◌⊎◌, inl, inr, List, [], ◌∷◌, ℤ, pos, negsuc, ◌+ℤ◌, ◌-ℤ◌, length, ap, sym, ap₂, subst, subst₂, refl, arith, Bool, true, IsTrue, sum_by}
 use Rattle.std.specs.Prelude.{nat_eq, slice_index_or}
-use Rattle.std.specs.List.{range_with_len}
 use Rattle.std.proofs.lemmas.Bool.{and_from, and_parts, eqb-true, eq-eqb}
 use Rattle.std.proofs.lemmas.Bool.Decides.{leb_tells}
 use Rattle.std.proofs.lemmas.Int.{ints}
@@ -15,7 +14,7 @@ use Rattle.std.proofs.lemmas.List.Sums.{sum_by-cons}
 use Rattle.std.proofs.Math.Nat.{zero-mod}
 use Rattle.kh_types.specs.Complex.{Complex, Degree, IsComplex, empty_degree, degree_number, degree_from, degree_of, entry_in, product_of, product_entry, squares_to_zero}
 use Rattle.kh_types.specs.ComplexTests.{all_below, has_size, entries_fit, matrix_fits, is_complex}
-use Rattle.kh_types.proofs.MatrixTests.{HasSize, EntriesFit, all_below-at, all_below-from, size-from_test, test-from_size, entry-past_rows, entry-past_columns, fits-zero, entries-from_test, test-from_entries}
+use Rattle.kh_types.proofs.MatrixTests.{HasSize, EntriesFit, all_below-at, all_below-from, size-from_test, test-from_size, entry-past_rows, entry-past_columns, entries-from_test, test-from_entries}
 
 sum_by-zeros : (f : ℕ → ℕ) (xs : List ℕ) → ((x : ℕ) → f x ≡ 0) → sum_by f xs ≡ 0
 sum_by-zeros f [] zeros = refl

@@ -1,12 +1,12 @@
 -- Classes that correspond are as many.
 use Rattle.std.proofs.lemmas.Bool.Decides.{nat_tests}
-use Rattle.std.proofs.Common.{List, ap, ap₂, arith, inl, inr, length, map, refl, subst, suc, sym, zero, ℕ, ◌*◌, ◌+◌, ◌<◌, ◌∙◌, ◌≡◌, ◌≤◌}
+use Rattle.std.proofs.Common.{List, ap, ap₂, arith, inl, inr, map, refl, subst, suc, sym, zero, ℕ, ◌*◌, ◌+◌, ◌<◌, ◌∙◌, ◌≡◌, ◌≤◌}
 use Rattle.std.proofs.lemmas.Bool.{cases_eq, eq-eqb, ne_eqb}
 use Rattle.std.proofs.lemmas.List.Sums.{length-filter}
 use Rattle.std.specs.List.{range_with_len, sum_by}
 use Rattle.std.specs.Prelude.{nat_eq, slice_index}
 use Rattle.kh_types.proofs.ListSums.{sum_by-none, sum_by-range_alike, sum_by-single, sum_by-turned}
-use Rattle.kh_types.specs.Classes.{AreBelow, IsNamed, Respects, class_count, is_least}
+use Rattle.kh_types.specs.Classes.{AreBelow, IsNamed, Respects, class_count}
 use Rattle.kh_types.specs.Bits.{one_if}
 
 -- numbers below m stand for numbers below n, and back, so that they are together here where they are together there

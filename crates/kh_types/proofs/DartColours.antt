@@ -1,8 +1,7 @@
 -- A checkerboard choice gives each arc one dart of either colour.
 use Rattle.std.proofs.lemmas.Bool.Decides.{nat_tests}
-use Rattle.std.proofs.Common.{◌≡◌, ◌≢◌, ℕ, ◌⊎◌, inl, inr, ◌+◌, ◌-◌, ◌*◌, ◌%◌, ◌<◌, ◌∙◌, List, [], length, refl, sym, ap, subst, arith, IsTrue, true}
+use Rattle.std.proofs.Common.{◌≡◌, ◌≢◌, ℕ, ◌⊎◌, inl, inr, ◌+◌, ◌-◌, ◌*◌, ◌%◌, ◌<◌, ◌∙◌, List, [], length, refl, ap, arith, IsTrue, true}
 use Rattle.std.specs.Prelude.{slice_index_or}
-use Rattle.std.proofs.lemmas.Bool.{eqb-true}
 use Rattle.kh_types.specs.declared.dart.Dart.{Dart}
 use Rattle.kh_types.specs.Code.{Code, IsArc, arc_in, place_of}
 use Rattle.kh_types.specs.Bits.{bit}
@@ -87,21 +86,3 @@ colour-dart_of choice place slot = ap (λ p. colour_at choice p slot) (place_bac
 pub IsDart-dart_of : (crossings : List (List ℕ)) (place slot : ℕ) → place < length crossings → slot < 4
     → IsDart crossings (dart_of place slot)
 IsDart-dart_of crossings place slot below slot_below = omega arith
-
-pub arcs-places : (crossings : List (List ℕ)) (choice place slot : ℕ) → IsColoured crossings choice → place < length crossings
-    → slot < 4 → IsArc crossings (arc_at crossings place slot)
-arcs-places crossings choice place slot oriented below slot_below =
-    subst (λ (arc : ℕ). IsArc crossings arc) (arc_of-dart_of crossings place slot)
-    (oriented.arcs (dart_of place slot) (IsDart-dart_of crossings place slot below slot_below))
-
-pub once-places : (crossings : List (List ℕ)) (choice place slot other other_slot : ℕ) → IsColoured crossings choice
-    → place < length crossings → slot < 4 → other < length crossings → other_slot < 4
-    → arc_at crossings place slot ≡ arc_at crossings other other_slot
-    → colour_at choice place slot ≡ colour_at choice other other_slot → (place ≡ other) × (slot ≡ other_slot)
-once-places crossings choice place slot other other_slot oriented below slot_below other_below other_slot_below same alike =
-    let same_dart = oriented.once (dart_of place slot) (dart_of other other_slot)
-    (IsDart-dart_of crossings place slot below slot_below) (IsDart-dart_of crossings other other_slot other_below other_slot_below)
-    (arc_of-dart_of crossings place slot ∙ same ∙ sym (arc_of-dart_of crossings other other_slot))
-    (colour-dart_of choice place slot ∙ alike ∙ sym (colour-dart_of choice other other_slot)) in
-    let same_crossing : place + 1 ≡ other + 1 = ap (λ (dart : Dart). dart.crossing) same_dart in
-    (omega (arith, same_crossing), ap (λ (dart : Dart). dart.slot) same_dart)

@@ -1,6 +1,6 @@
 -- Searches over darts as searches over their places.
 use Rattle.std.proofs.lemmas.Bool.Decides.{nat_tests}
-use Rattle.std.proofs.Common.{arith, ◌≡◌, ℕ, ◌*◌, ◌∙◌, List, length, sym, Bool}
+use Rattle.std.proofs.Common.{arith, ◌≡◌, ℕ, ◌*◌, List, length, Bool}
 use Rattle.std.specs.Prelude.{nat_eq}
 use Rattle.std.specs.List.{filter, range_with_len}
 use Rattle.std.proofs.lemmas.List.Sums.{length-filter}

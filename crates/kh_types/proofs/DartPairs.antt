@@ -4,14 +4,14 @@
 -- without the dart itself one is left, which the search for a partner finds, and which is the only one (`partner_at-only`). So the partner
 -- of the partner is the dart. All is said by places first, then carried over to darts.
 use Rattle.std.proofs.lemmas.Bool.Decides.{nat_tests}
-use Rattle.std.proofs.Common.{◌≡◌, ◌≢◌, ℕ, ◌⊎◌, inl, inr, ◌+◌, ◌-◌, ◌*◌, ◌/◌, ◌%◌, ◌<◌, ◌≤◌, ◌∙◌, List, refl, sym, ap, subst, length, arith, Bool, true, false, not, ◌&&◌}
-use Rattle.std.specs.Prelude.{nat_eq, Option, Some, None, unwrap_or}
+use Rattle.std.proofs.Common.{◌≡◌, ◌≢◌, ℕ, ◌⊎◌, inl, inr, ◌*◌, ◌<◌, ◌∙◌, List, refl, sym, ap, subst, length, arith, Bool, true, false, not, ◌&&◌}
+use Rattle.std.specs.Prelude.{nat_eq, Option, unwrap_or}
 use Rattle.std.specs.List.{count_by, find, range_with_len}
 use Rattle.std.specs.Option.{option_map}
-use Rattle.std.proofs.lemmas.Bool.{and_parts, and_from, and_right, both_ways, cases_Bool, cases_eq, eq-eqb, eqb-true, false_from_ne_true, not-true}
+use Rattle.std.proofs.lemmas.Bool.{and_right, eq-eqb, eqb-true, false_from_ne_true}
 use Rattle.kh_types.specs.declared.dart.Dart.{Dart}
 use Rattle.kh_types.specs.Code.{IsArc}
-use Rattle.kh_types.specs.Darts.{dart_at, dart_place, arc_of, times, first_dart, is_same_dart, is_partner, partner, partner_at, IsDart, IsDartOf, HasArcsTwice, IsOtherDart, HasPairedDarts, IsPairing}
+use Rattle.kh_types.specs.Darts.{dart_at, dart_place, arc_of, times, first_dart, is_same_dart, partner, partner_at, IsDart, IsDartOf, HasArcsTwice, IsOtherDart, HasPairedDarts, IsPairing}
 use Rattle.kh_types.proofs.Lists.{count_by-map}
 use Rattle.kh_types.proofs.Ranges.{find-map}
 use Rattle.kh_types.proofs.RangeCounts.{count_by-one_more, found-counted, only-counted}
@@ -27,17 +27,6 @@ IsDart-at crossings place below = omega arith
 
 pub dart_place-below : (crossings : List (List ℕ)) (dart : Dart) → IsDart crossings dart → dart_place dart < 4 * length crossings
 dart_place-below crossings dart is = omega arith
-
-crossing_back : (crossing slot : ℕ) → 1 ≤ crossing → slot < 4 → (4 * (crossing - 1) + slot) / 4 + 1 ≡ crossing
-crossing_back crossing slot positive below = omega arith
-
-slot_back : (place slot : ℕ) → slot < 4 → (4 * place + slot) % 4 ≡ slot
-slot_back place slot below = omega arith
-
-same_parts : (crossing other slot other_slot : ℕ) → crossing ≡ other → slot ≡ other_slot
-    → (let dart : Dart = record { crossing = crossing; slot = slot } in
-    let other_dart : Dart = record { crossing = other; slot = other_slot } in dart ≡ other_dart)
-same_parts crossing other slot other_slot same same_slot = cc
 
 pub dart_at-place : (crossings : List (List ℕ)) (dart : Dart) → IsDart crossings dart → dart_at (dart_place dart) ≡ dart
 dart_at-place crossings dart is = grind (arith, nat_tests)

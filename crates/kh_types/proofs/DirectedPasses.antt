@@ -4,7 +4,7 @@
 -- three ways: in components of three arcs or more from the numbers of its two arcs, in smaller ones from the first under pass of the
 -- component, or from the first over pass where there is none. In each case the pass leads from the arc of its head to the next arc.
 use Rattle.std.proofs.Common.{◌≡◌, ◌≢◌, ℕ, zero, suc, ◌⊎◌, inl, inr, ◌+◌, ◌%◌, ◌<◌, ◌≤◌, ◌∙◌, List, refl, sym, ap, arith, Bool, true, false, not}
-use Rattle.std.specs.Prelude.{nat_eq, nat_le, ◌||◌, if◌then◌else◌, Option, Some, None, is_some, unwrap_or}
+use Rattle.std.specs.Prelude.{nat_eq, nat_le, ◌||◌, if◌then◌else◌, Some, None}
 use Rattle.std.proofs.lemmas.Bool.{cases_lt, eqb-true}
 use Rattle.std.proofs.lemmas.Bool.Decides.{nat_tests}
 use Rattle.kh_types.specs.declared.dart.Dart.{Dart}
@@ -13,7 +13,7 @@ use Rattle.kh_types.specs.Components.{components_of, arcs_in, next}
 use Rattle.kh_types.specs.Darts.{arc_of, IsDart}
 use Rattle.kh_types.specs.Directions.{first_under, first_over, is_positive_by_next, is_positive_by_under, is_positive_by_order, is_positive_of_two, is_positive, is_head}
 use Rattle.kh_types.specs.Accepted.{IsDirected}
-use Rattle.kh_types.proofs.PassPairs.{dart_with, IsArc-at}
+use Rattle.kh_types.proofs.PassPairs.{IsArc-at}
 use Rattle.kh_types.proofs.NextArcs.{component, size_at, component-next, next-twice}
 
 -- the dart across its crossing, at the other end of its pass
@@ -58,9 +58,6 @@ head-cases crossings dart is = grind (arith, nat_tests)
 -- the test by which a crossing is positive, in components of three arcs or more and in smaller ones
 pub by_size : (m : ℕ) (large small : Bool) → 2 < m → (if nat_le 3 m then large else small) ≡ large
 by_size m large small above = grind (arith, nat_tests)
-
-pub by_smallness : (m : ℕ) (large small : Bool) → m ≤ 2 → (if nat_le 3 m then large else small) ≡ small
-by_smallness m large small within = grind (arith, nat_tests)
 
 -- in a component of at most two arcs each arc of the over pass is the next of the other
 over-both : (crossings : List (List ℕ)) (crossing : ℕ) → IsDirected crossings → IsCrossing crossings crossing

@@ -6,7 +6,7 @@
 use Rattle.std.proofs.Common.{◌≡◌, ◌≢◌, ℕ, ◌⊎◌, inl, inr, ◌+◌, ◌*◌, ◌<◌, ◌≤◌, ◌∙◌, [], ◌∷◌, refl, sym, ap, subst, length, arith, Bool, true, false, ◌&&◌, not, IsTrue}
 use Rattle.std.specs.Prelude.{nat_eq, ◌||◌, min, max, slice_index}
 use Rattle.std.specs.List.{filter}
-use Rattle.std.proofs.lemmas.Bool.{eq-eqb, and_from, and_right, cases_lt}
+use Rattle.std.proofs.lemmas.Bool.{cases_lt}
 use Rattle.std.proofs.lemmas.Bool.Decides.{nat_tests}
 use Rattle.std.proofs.lemmas.List.{get_or_past}
 use Rattle.kh_types.specs.Acceptance.{accepted}
@@ -84,12 +84,6 @@ circle-positive code state x is from below =
 -- whether one of four numbers is x
 abbrev one_of : ℕ → ℕ → ℕ → ℕ → ℕ → Bool
 one_of a b c d x = nat_eq a x || (nat_eq b x || (nat_eq c x || (nat_eq d x || false)))
-
-is_touched-slots : (code : Code) (state crossing circle : ℕ)
-    → is_touched code state crossing circle
-    ≡ one_of (circle_at code state crossing 0) (circle_at code state crossing 1) (circle_at code state crossing 2)
-    (circle_at code state crossing 3) circle
-is_touched-slots code state crossing circle = refl
 
 hit : (a b c d k g x : ℕ) → ((a ≡ k) × (c ≡ g)) ⊎ ((a ≡ g) × (c ≡ k)) → (x ≡ k) ⊎ (x ≡ g) → one_of a b c d x ≡ true
 hit a b c d k g x two is = grind (arith, nat_tests)

@@ -1,7 +1,6 @@
 -- Where two images of a permutation are exchanged, two cycles become one or one becomes two, and what that does to their number.
 use Rattle.std.proofs.Common.{◌≡◌, ◌≢◌, ℕ, ◌⊎◌, inl, inr, ◌+◌, ◌<◌, ◌∙◌, List, sym, ap, arith, cond}
 use Rattle.std.specs.Prelude.{nat_eq, slice_index}
-use Rattle.std.proofs.lemmas.Bool.{cases_eq}
 use Rattle.std.proofs.lemmas.Bool.Decides.{nat_tests}
 use Rattle.kh_types.specs.Classes.{class_count, IsNamed}
 use Rattle.kh_types.specs.Permutations.{IsPermutation, IsExchange, AreJoined, cycles_of}
@@ -9,10 +8,6 @@ use Rattle.kh_types.proofs.ClassLemmas.{slice_index-joined, merged-both}
 use Rattle.kh_types.proofs.JoinedClasses.{class_count-joined}
 use Rattle.kh_types.proofs.Cycles.{AreCycles-cycles_of, IsNamed-cycles_of}
 use Rattle.kh_types.proofs.Exchanges.{AreJoined-exchanged}
-
--- which of two numbers a number is, or neither
-one_or_other : (x y z : ℕ) → ((z ≡ x) ⊎ (z ≡ y)) ⊎ ((z ≢ x) × (z ≢ y))
-one_or_other x y z = grind (arith, nat_tests)
 
 -- what has two images exchanged stays below n
 exchange-below : (n : ℕ) (f other : ℕ → ℕ) (x y : ℕ) → ((z : ℕ) → z < n → f z < n) → IsExchange n f other x y

@@ -1,7 +1,6 @@
 -- A permutation of which two images are exchanged: two cycles become one, or one becomes two.
 use Rattle.std.proofs.Common.{◌≡◌, ◌≢◌, ℕ, ◌⊎◌, inl, inr, ◌<◌, ◌∙◌, List, sym, ap, arith}
 use Rattle.std.specs.Prelude.{slice_index}
-use Rattle.std.proofs.lemmas.Bool.{cases_eq}
 use Rattle.std.proofs.lemmas.Bool.Decides.{nat_tests}
 use Rattle.std.proofs.lemmas.List.{ext_get_or}
 use Rattle.kh_types.specs.Classes.{merged, joined}

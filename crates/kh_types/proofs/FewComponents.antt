@@ -3,8 +3,8 @@
 -- Count the least arcs of components among the numbers 1 to 2n. No arc is its own next, so the number behind a least arc is in its
 -- component, and is the least of none; nor is the last arc the least of one. Numbers of which no two are neighbours are at most half of a
 -- range (`count_by-half`), so there are at most n components. Then no fault is one of components before the code breaks another rule.
-use Rattle.std.proofs.Common.{◌≡◌, ◌≢◌, ℕ, zero, suc, inl, inr, ◌+◌, ◌*◌, ◌<◌, ◌≤◌, ◌∙◌, List, [], ◌∷◌, length, refl, ap, arith, Bool, true, false, cond}
-use Rattle.std.specs.Prelude.{Option, Some, None, unwrap_or, nat_eq, nat_lt, slice_index, if◌then◌else◌}
+use Rattle.std.proofs.Common.{◌≡◌, ◌≢◌, ℕ, zero, suc, inl, inr, ◌+◌, ◌*◌, ◌<◌, ◌≤◌, ◌∙◌, List, [], ◌∷◌, length, ap, arith, Bool, true, false, cond}
+use Rattle.std.specs.Prelude.{Option, Some, None, nat_eq, nat_lt, slice_index, if◌then◌else◌}
 use Rattle.std.specs.List.{range_with_len, count_by}
 use Rattle.std.specs.Option.{option_or}
 use Rattle.std.proofs.lemmas.Bool.{cases_Bool, cases_lt, eqb-true, false_from_ne_true}
@@ -14,13 +14,12 @@ use Rattle.std.proofs.lemmas.List.Sums.{length-filter, sum_by-cons}
 use Rattle.kh_types.specs.declared.fault.CodeFault.{CodeFault}
 use Rattle.kh_types.specs.declared.fault.CodeFault.TheVariants.{Components}
 use Rattle.kh_types.specs.declared.limits.TheConstants.{CROSSINGS, LOOPS, COMPONENTS}
-use Rattle.kh_types.specs.Code.{Code, arc_count, arcs, crossing_numbers, IsArc}
+use Rattle.kh_types.specs.Code.{Code, arc_count, arcs, IsArc}
 use Rattle.kh_types.specs.Classes.{is_least}
 use Rattle.kh_types.specs.Components.{components_of, component_of, component_count}
-use Rattle.kh_types.specs.Darts.{dart_count}
 use Rattle.kh_types.specs.Directions.{HasNoSingleArcs}
 use Rattle.kh_types.specs.Accepted.{IsDirected}
-use Rattle.kh_types.specs.Acceptance.{fault_if, first_of, arc_range_at, arc_range_fault, arc_times_at, arc_times_fault, interval_at, interval_fault, under_at, under_fault, over_at, over_fault, two_arc_at, two_arc_fault, direction_fault, checkerboard_at, checkerboard_fault, genus_fault, components_fault, first_fault}
+use Rattle.kh_types.specs.Acceptance.{fault_if, first_of, direction_fault, checkerboard_at, checkerboard_fault, genus_fault, components_fault, first_fault}
 use Rattle.kh_types.proofs.AcceptedLemmas.{direction_fault-none}
 use Rattle.kh_types.proofs.CheckerboardLemmas.{choice-from_none}
 use Rattle.kh_types.proofs.Heads.{HasNoSingleArcs-checkerboard}

@@ -27,12 +27,6 @@ merged-twice x y class = grind (arith, nat_tests)
 pub merged-same : (x y class : ℕ) → x ≡ y → merged x y class ≡ class
 merged-same x y class same = grind (arith, nat_tests)
 
-merged-swapped : (x y class : ℕ) → merged y x class ≡ merged x y class
-merged-swapped x y class = grind (arith, nat_tests)
-
-merged-cases : (x y class : ℕ) → (merged x y class ≡ class) ⊎ ((merged x y class ≡ x) ⊎ (merged x y class ≡ y))
-merged-cases x y class = grind (arith, nat_tests)
-
 -- what leaves each of three numbers as it is leaves the merged number as it is
 merged-fixed : (f : ℕ → ℕ) (x y class : ℕ) → f x ≡ x → f y ≡ y → f class ≡ class → f (merged x y class) ≡ merged x y class
 merged-fixed f x y class at_x at_y at_class = grind (arith, nat_tests)

@@ -4,7 +4,7 @@
 -- that leads back when done twice, stays at its crossing, and changes the colour where each crossing has a bit. A function has one value on
 -- all pairs that the smoothings of a state join exactly where it has one value at the arcs of each dart and of the dart across.
 use Rattle.std.proofs.lemmas.Bool.Decides.{nat_tests}
-use Rattle.std.proofs.Common.{◌≡◌, ℕ, zero, suc, ◌⊎◌, inl, inr, ◌+◌, ◌-◌, ◌*◌, ◌/◌, ◌%◌, ◌<◌, ◌∙◌, List, [], ◌∷◌, refl, sym, ap, subst, length, arith, Bool, true, false, cond}
+use Rattle.std.proofs.Common.{◌≡◌, ℕ, zero, suc, ◌+◌, ◌-◌, ◌*◌, ◌/◌, ◌%◌, ◌<◌, ◌∙◌, List, [], ◌∷◌, sym, ap, subst, length, arith, Bool, cond}
 use Rattle.std.specs.Prelude.{nat_eq, slice_index_or}
 use Rattle.std.specs.List.{flat_map, enumerate_from}
 use Rattle.kh_types.specs.Bits.{bit}
@@ -16,18 +16,8 @@ use Rattle.kh_types.specs.CircleSteps.{arc_at, joined_slot, across}
 
 -- the slot that a smoothing joins a slot with
 
-joined_slot-cases : (smoothing slot : ℕ)
-    → (joined_slot smoothing slot ≡ slot + 1 - 2 * (slot % 2)) ⊎ (joined_slot smoothing slot ≡ 3 - slot)
-joined_slot-cases smoothing slot = grind (arith, nat_tests)
-
 pub joined_slot-below : (smoothing slot : ℕ) → slot < 4 → joined_slot smoothing slot < 4
 joined_slot-below smoothing slot below = grind (arith, nat_tests)
-
-joined_slot-odd : (smoothing slot : ℕ) → slot < 4 → (slot + joined_slot smoothing slot) % 2 ≡ 1
-joined_slot-odd smoothing slot below = grind (arith, nat_tests)
-
-joined_slot-twice : (smoothing slot : ℕ) → slot < 4 → joined_slot smoothing (joined_slot smoothing slot) ≡ slot
-joined_slot-twice smoothing slot below = grind (arith, nat_tests)
 
 -- the dart that it joins a dart with
 
@@ -40,9 +30,6 @@ slot-below place = omega arith
 
 pub across-crossing : (state place : ℕ) → across state place / 4 ≡ place / 4
 across-crossing state place = omega (arith, joined_slot-below (bit state (place / 4)) (place % 4) (slot-below place))
-
-pub across-slot_of : (state place : ℕ) → across state place % 4 ≡ joined_slot (bit state (place / 4)) (place % 4)
-across-slot_of state place = omega (arith, joined_slot-below (bit state (place / 4)) (place % 4) (slot-below place))
 
 pub across-below : (n state place : ℕ) → place < 4 * n → across state place < 4 * n
 across-below n state place below = grind (arith, nat_tests)

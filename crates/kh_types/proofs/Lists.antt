@@ -2,8 +2,8 @@
 --
 -- What std does not have: facts about all elements of a list by recursion, elements of lists that are made of others, searches, counts, and
 -- lists of which one has an element more (`HasMore`), as the names of classes do before a pair is joined.
-use Rattle.std.proofs.Common.{◌≡◌, ◌≢◌, ℕ, zero, suc, ◌+◌, ◌-◌, ◌<◌, ◌≤◌, ◌∙◌, List, [], ◌∷◌, ◌++◌, length, map, get_or, refl, sym, ap, arith, Bool, true, false, cond, take, drop, not, unwrap_or, ◌⊎◌, inl, inr}
-use Rattle.std.specs.Prelude.{Some, None}
+use Rattle.std.proofs.Common.{◌≡◌, ◌≢◌, ℕ, zero, suc, ◌+◌, ◌-◌, ◌<◌, ◌≤◌, ◌∙◌, List, [], ◌∷◌, ◌++◌, length, map, get_or, refl, sym, ap, arith, Bool, true, false, cond, not, unwrap_or, ◌⊎◌}
+use Rattle.std.specs.Prelude.{None}
 use Rattle.std.specs.List.{All, AllByRecursion, Contains, filter, flat_map, find, count_by, range_with_len, enumerate_from, position, position_or_len, remove}
 use Rattle.std.proofs.lemmas.List.{length-append, length-map, get_or-map, take-map, drop-map, map-append}
 use Rattle.std.proofs.lemmas.List.Elements.{filter-append, All-nil, All-append, All-head, Contains-append_left, Contains-append_right, All-contains, All-from_recursion}

@@ -4,10 +4,9 @@
 -- keeps the size. So what a cancellation does is one formula for an entry (`entry_cancelled`), which is 0 in the row and in the column of
 -- the pivot, and the entry less the way through the pivot elsewhere; and that is what PivotLemmas asks of entries that a pivot leaves.
 use Rattle.std.proofs.lemmas.Bool.Decides.{nat_tests}
-use Rattle.std.proofs.Common.{◌≡◌, ℕ, ◌+◌, ◌-◌, ◌*◌, ◌%◌, ◌≤◌, ◌<◌, ◌≢◌, ◌∙◌, ◌⊎◌, inl, inr, List, [], length, map, refl, ap, sym, subst, arith, Bool, true, false, ◌||◌}
+use Rattle.std.proofs.Common.{◌≡◌, ℕ, ◌+◌, ◌*◌, ◌≤◌, ◌<◌, ◌≢◌, ◌∙◌, ◌⊎◌, inl, inr, List, [], length, map, ap, sym, arith, Bool, true, false, ◌||◌}
 use Rattle.std.specs.Prelude.{nat_eq, slice_index, slice_index_or, if◌then◌else◌}
 use Rattle.std.specs.List.{enumerate_from}
-use Rattle.std.proofs.lemmas.Nat.{mod_below}
 use Rattle.std.proofs.lemmas.Bool.Decides.{eqb_tells, leb_tells}
 use Rattle.std.proofs.lemmas.List.{length-map, get_or-map, get_or_past}
 use Rattle.std.proofs.lemmas.List.FromFn.{length-enumerate_from, get_or-enumerate_from}

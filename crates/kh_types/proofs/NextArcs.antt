@@ -4,7 +4,7 @@
 -- (`component-inside`). So an arc has a place in it, and the next arc is the number behind, or the least where there is none
 -- (`HasPlace-directed`). From places follows the rest: next keeps the component, is one to one, and comes back after two steps in twos.
 use Rattle.std.proofs.Common.{◌≡◌, ◌≢◌, ℕ, ◌⊎◌, inl, inr, ◌+◌, ◌<◌, ◌≤◌, ◌∙◌, List, refl, sym, ap, arith, true}
-use Rattle.std.specs.Prelude.{slice_index, min, nat_eq, if◌then◌else◌}
+use Rattle.std.specs.Prelude.{slice_index, nat_eq, if◌then◌else◌}
 use Rattle.std.specs.List.{flat_map}
 use Rattle.std.proofs.lemmas.List.{get_or_past}
 use Rattle.std.proofs.lemmas.Bool.{cases_lt, eq-eqb}

@@ -1,15 +1,14 @@
 -- Steps that are not needed, and rows without an entry, do not change a rank.
-use Rattle.std.proofs.Common.{◌≡◌, ℕ, zero, suc, ◌+◌, ◌-◌, ◌*◌, ◌%◌, ◌≤◌, ◌∙◌, List, [], ◌∷◌, length, map, refl, ap, arith, Bool, true, false, cond, not}
-use Rattle.std.specs.Prelude.{Option, Some, None, nat_eq, nat_lt, slice_index, slice_index_or}
-use Rattle.std.specs.List.{position, position_or_len, remove, zip, All}
+use Rattle.std.proofs.Common.{◌≡◌, ℕ, zero, suc, ◌+◌, ◌*◌, ◌≤◌, ◌∙◌, List, [], ◌∷◌, length, map, refl, ap, arith, Bool, false, cond, not}
+use Rattle.std.specs.Prelude.{Option, Some, None, nat_eq, slice_index, slice_index_or}
+use Rattle.std.specs.List.{position, remove, zip, All}
 use Rattle.std.specs.Option.{option_map, option_map_or}
-use Rattle.std.proofs.Math.Nat.{mod_self}
 use Rattle.std.proofs.lemmas.List.Folds.{list_any_none}
 use Rattle.std.proofs.lemmas.List.{length-map}
 use Rattle.std.proofs.lemmas.List.Edits.{length-remove}
 use Rattle.std.proofs.lemmas.List.Quantifiers.{position-Some}
 use Rattle.std.proofs.lemmas.Bool.Decides.{nat_tests}
-use Rattle.kh_types.specs.Rank.{has_entry, lead_of, inverse, minus_mod, cleared, reduced_by, rank_within, rank}
+use Rattle.kh_types.specs.Rank.{has_entry, lead_of, minus_mod, cleared, reduced_by, rank_within, rank}
 
 -- a place counted from one later
 place_later : (b : Bool) (at : ℕ) → cond b (Some (suc at)) None ≡ option_map suc (cond b (Some at) None)

@@ -1,6 +1,6 @@
 -- A list after one of its elements is removed, and a matrix after a row and a column of zeros are.
 use Rattle.std.proofs.lemmas.Bool.Decides.{nat_tests}
-use Rattle.std.proofs.Common.{◌≡◌, ℕ, zero, suc, ◌+◌, ◌*◌, ◌%◌, ◌≤◌, ◌<◌, ◌∙◌, ◌⊎◌, inl, inr, List, [], ◌∷◌, get_or, refl, ap, sym, arith}
+use Rattle.std.proofs.Common.{◌≡◌, ℕ, zero, suc, ◌+◌, ◌*◌, ◌≤◌, ◌<◌, ◌⊎◌, inl, inr, List, [], ◌∷◌, get_or, refl, ap, arith}
 use Rattle.std.specs.List.{remove}
 use Rattle.kh_types.specs.Residues.{Same}
 use Rattle.kh_types.specs.Products.{sum_below, Factors}

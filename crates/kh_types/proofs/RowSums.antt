@@ -1,13 +1,12 @@
 -- The graded Euler characteristic of a table that shows the rows of some dimensions.
 use Rattle.std.proofs.lemmas.Bool.Decides.{nat_tests}
-use Rattle.std.proofs.Common.{◌≡◌, ◌≢◌, ℕ, inl, inr, ◌∙◌, List, ℤ, pos, sym, refl, map, ap, arith, subst, Bool, true, false, cond}
+use Rattle.std.proofs.Common.{◌≡◌, ◌≢◌, ℕ, inl, inr, ◌∙◌, List, ℤ, pos, sym, refl, map, ap, arith, subst, cond}
 use Rattle.std.specs.List.{filter, flat_map}
 use Rattle.std.specs.Ordering.{int_eq}
-use Rattle.std.proofs.lemmas.Bool.{cases_lt, lt-ltb}
 use Rattle.std.proofs.lemmas.Bool.Decides.{Decides-int_eq}
 use Rattle.kh_types.specs.StateSum.{euler, int_sum, signed_by}
 use Rattle.kh_types.specs.Table.{IsWithin, Row, from_minus, is_shown}
-use Rattle.kh_types.proofs.AlternatingSums.{alternating, signed_by-zero}
+use Rattle.kh_types.proofs.AlternatingSums.{alternating}
 use Rattle.kh_types.proofs.Integers.{int_eq-other}
 use Rattle.kh_types.proofs.IntSums.{int_sum-alike, int_sum-filter, int_sum-flat_map, int_sum-map, int_sum-outside, int_sum-within, int_sum-cond}
 use Rattle.kh_types.proofs.QuantumDegrees.{within_or_not}

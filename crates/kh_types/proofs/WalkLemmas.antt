@@ -3,12 +3,12 @@
 -- This is the invariant of each loop that labels cycles. From the least number p of a cycle the walk gives p to one number after the other,
 -- until it is back at p. On the way the numbers with p are a stretch of the cycle (`IsOnWalk`), whose end is new or p, since f is one to
 -- one. When the walk is back, the numbers with p are closed under f, so they are the whole cycle, by the finest property of cycles.
-use Rattle.std.proofs.Common.{◌≡◌, ◌≢◌, ℕ, ◌⊎◌, inl, inr, ◌+◌, ◌<◌, ◌∙◌, List, length, refl, sym, ap, arith, cond, not}
+use Rattle.std.proofs.Common.{◌≡◌, ◌≢◌, ℕ, ◌⊎◌, inl, inr, ◌+◌, ◌<◌, ◌∙◌, List, length, sym, ap, arith, cond, not}
 use Rattle.std.specs.Prelude.{nat_eq, slice_index}
 use Rattle.std.specs.List.{count_by, range_with_len}
 use Rattle.std.proofs.Math.ListN.{set}
 use Rattle.std.proofs.lemmas.Bool.Decides.{nat_tests}
-use Rattle.std.proofs.lemmas.Bool.{cases_eq, eq-eqb, eqb-true, false_from_ne_true, cases_lt}
+use Rattle.std.proofs.lemmas.Bool.{cases_eq, eq-eqb, eqb-true, false_from_ne_true}
 use Rattle.std.proofs.lemmas.List.{ext_get_or, get_or-set_same, get_or-set_other, length-set}
 use Rattle.std.proofs.lemmas.List.FromFn.{length-range_with_len}
 use Rattle.std.proofs.lemmas.List.Sums.{sum_by-set}
@@ -93,15 +93,6 @@ IsOnWalk-more m f back cycles initial classes p x are p_below not_p on =
       others = λ y below other.
           at_other classes x p y (λ same. other (ap (λ z. slice_index cycles z) same ∙ on.cycle)) ∙ on.others y below other;
     }
-
--- a number that is still its own class is the least of its cycle, and no other number has its class
-own_is_least : (cycles classes : List ℕ) (m p : ℕ) → IsNamed m cycles → IsWalked cycles classes p → p < m
-    → slice_index classes p ≡ p → slice_index cycles p ≡ p
-own_is_least cycles classes m p named walked below own = grind (arith, nat_tests)
-
-only_own : (cycles classes : List ℕ) (m p y : ℕ) → IsNamed m cycles → IsWalked cycles classes p → y < m
-    → slice_index classes y ≡ p → y ≡ p
-only_own cycles classes m p y named walked below has = grind (arith, nat_tests)
 
 -- the walk begins behind the least number of a cycle
 pub IsOnWalk-first : (m : ℕ) (f back : ℕ → ℕ) (cycles classes : List ℕ) (p : ℕ) → AreCycles m f back cycles → p < m

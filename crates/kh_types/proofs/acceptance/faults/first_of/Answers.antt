@@ -1,7 +1,5 @@
 use Rattle.std.proofs.lemmas.Bool.Decides.{nat_tests}
-use Rattle.std.proofs.Common.{◌≡◌, ◌+◌, ◌-◌, ◌∙◌, sym, ap, arith}
-use Rattle.std.specs.List.{range_with_len}
-use Rattle.kh_types.specs.Acceptance.{first_of}
+use Rattle.std.proofs.Common.{◌-◌, ◌∙◌, sym, arith}
 use Rattle.kh_types.proofs.FaultLemmas.{first_of_at, none_of_more}
 use Rattle.kh_types.proofs.acceptance.faults.first_of.Goals as goal
 

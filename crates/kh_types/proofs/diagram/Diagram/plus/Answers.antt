@@ -1,6 +1,6 @@
 -- The crossings are those of the code, and no more of them are positive than there are.
 use Rattle.std.proofs.lemmas.Bool.Decides.{nat_tests}
-use Rattle.std.proofs.Common.{arith, ap, ◌∙◌, ◌≤◌, length, subst, sym, ℕ}
+use Rattle.std.proofs.Common.{arith, ap, ◌∙◌}
 use Rattle.kh_types.specs.Directions.{plus_count}
 use Rattle.kh_types.proofs.DirectionLemmas.{plus_count-le}
 use Rattle.kh_types.proofs.diagram.Diagram.plus.Goals as goal

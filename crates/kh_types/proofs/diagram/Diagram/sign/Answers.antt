@@ -1,6 +1,6 @@
 -- Both signs are read back from eight bits as they are.
 use Rattle.std.proofs.lemmas.Bool.Decides.{nat_tests}
-use Rattle.std.proofs.Common.{arith, ◌≡◌, refl, ap, ◌∙◌, if◌then◌else◌, ℤ, pos, neg_ℤ, Bool, true, false, to_z, of_z}
+use Rattle.std.proofs.Common.{arith, ◌≡◌, ap, ◌∙◌, if◌then◌else◌, ℤ, pos, neg_ℤ, Bool, to_z, of_z}
 use Rattle.std.specs.Prelude.{List, ℕ}
 use mir.Syntax.{w8}
 use Rattle.kh_types.specs.Directions.{is_positive}
