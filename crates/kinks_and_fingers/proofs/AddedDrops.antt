@@ -243,8 +243,7 @@ module _ {old new : List (List ℕ)} {rise end low : ℕ → ℕ} {sign : ℕ �
       (subst (λ (z : ℕ). IsArc old z) (sym here) is, ap rise here ∙ sym at)) holds
 
   rise-below : (x : ℕ) → x < arc_count old + 1 → rise x < arc_count new + 1
-  rise-below x below =
-      omega (arith, rise-le_end added.numbers x, end-le added.numbers x (arc_count old) (omega (arith, below)), added.count)
+  rise-below x below = grind (arith, nat_tests, rise-le_end added.numbers x, end-le added.numbers x (arc_count old) (omega (arith, below)))
 
   standing-count : count_by (stands_in kept) (range_with_len 0 (arc_count new + 1)) ≡ arc_count old
   standing-count =

@@ -73,8 +73,7 @@ find-alike : (p q : ℕ → Bool) (a n : ℕ) → ((k : ℕ) → a ≤ k → k <
     → find p (range_with_len a n) ≡ find q (range_with_len a n)
 find-alike p q a zero alike = refl
 find-alike p q a (suc n) alike =
-    ap (λ b. cond b (Some a) (find p (range_with_len (a + 1) n))) (alike a (omega arith) (omega arith))
-    ∙ ap (λ o. cond (q a) (Some a) o) (find-alike p q (a + 1) n (λ k from below. alike k (omega (arith, from)) (omega (arith, below))))
+    grind (arith, nat_tests, find-alike p q (a + 1) n (λ k from below. alike k (omega (arith, from)) (omega (arith, below))))
 
 find-longer : (p q : ℕ → Bool) (a n m : ℕ) → ((k : ℕ) → a ≤ k → k < a + n → q k ≡ p k)
     → ((k : ℕ) → a + n ≤ k → k < a + n + m → q k ≡ false) → find q (range_with_len a (n + m)) ≡ find p (range_with_len a n)
@@ -176,9 +175,7 @@ module _ {old new : List (List ℕ)} {rise end low : ℕ → ℕ} {sign : ℕ �
       ]
 
       three_small : size_at new (arc_of new (dart_with k 3)) ≤ 2
-      three_small =
-          subst (λ (c : ℕ). arcs_in (components_of new) c ≤ 2)
-          (one_is ∙ ap rise (sym three_at) ∙ sym (component-old (dart_with k 3) (dart 3 (omega arith)))) small
+      three_small = grind (arith, nat_tests, one_is, three_at, component-old (dart_with k 3) (dart 3 (omega arith)), dart 3 (omega arith))
 
       one_there : arc_of new (dart_with k 1) ≡ rise one
       one_there = arc_of-small (dart_with k 1) (dart 1 (omega arith)) small

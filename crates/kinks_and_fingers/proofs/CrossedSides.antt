@@ -19,13 +19,10 @@ pub exchanged-first : {X : Type 0} (g : ℕ → X) (a b : ℕ) → exchanged g a
 exchanged-first g a b = ap (λ t. cond t (g b) (cond (nat_eq a b) (g a) (g a))) (eq_self a)
 
 pub exchanged-second : {X : Type 0} (g : ℕ → X) (a b : ℕ) → a ≢ b → exchanged g a b b ≡ g a
-exchanged-second g a b apart =
-    ap (λ t. cond t (g b) (cond (nat_eq b b) (g a) (g b))) (ne_test b a (λ same. apart (sym same)))
-    ∙ ap (λ t. cond t (g a) (g b)) (eq_self b)
+exchanged-second g a b apart = grind (arith, nat_tests, ne_test b a (λ same. apart (sym same)), eq_self b)
 
 pub exchanged-else : {X : Type 0} (g : ℕ → X) (a b x : ℕ) → x ≢ a → x ≢ b → exchanged g a b x ≡ g x
-exchanged-else g a b x not_a not_b =
-    ap (λ t. cond t (g b) (cond (nat_eq x b) (g a) (g x))) (ne_test x a not_a) ∙ ap (λ t. cond t (g a) (g x)) (ne_test x b not_b)
+exchanged-else g a b x not_a not_b = grind (arith, nat_tests, ne_test x a not_a, ne_test x b not_b)
 
 -- four darts, a and b of one crossing and c and d of another; a and d are partners, and so are b and c
 pub record AreSides (m : ℕ) (partner : ℕ → ℕ) (a b c d : ℕ) : Type 0 where

@@ -1,4 +1,5 @@
 -- What is left where crossings are dropped follows the rule, and nothing else does.
+use Rattle.std.proofs.lemmas.Bool.Decides.{nat_tests}
 use Rattle.std.proofs.Common.{◌≡◌, ℕ, zero, suc, inl, inr, ◌+◌, ◌<◌, ◌≤◌, ◌∙◌, List, [], ◌∷◌, length, refl, sym, ap₂, not, ◌&&◌, subst, arith, Bool, cond, map, min}
 use Rattle.std.specs.Prelude.{slice_index, nat_eq}
 use Rattle.std.specs.List.{count_by, filter, range_with_len}
@@ -60,13 +61,7 @@ AreJoinedNames-straight crossings gone twice =
     some x y same positive = omega (arith, same, positive)
 
 pub IsLeft-dropped : (code : Code) (gone : ℕ → Bool) → HasArcsTwice code.crossings → IsLeft code gone (dropped code gone)
-IsLeft-dropped code gone twice = record {
-  name = slice_index (straight_names code.crossings gone);
-  names = AreJoinedNames-straight code.crossings gone twice;
-  crossings = refl;
-  signs = refl;
-  loops = refl;
-}
+IsLeft-dropped code gone twice = grind (arith, nat_tests, AreJoinedNames-straight code.crossings gone twice)
 
 -- there are no other names
 pub names-one : (crossings : List (List ℕ)) (gone : ℕ → Bool) (name other : ℕ → ℕ) → AreJoinedNames crossings gone name

@@ -15,16 +15,13 @@ use Rattle.kinks_and_fingers.proofs.KeptCodes.{block_place, block_slot, length-k
 
 code_head-dartwise : (crossings : List (List ℕ)) (f : ℕ → ℕ) (x : ℕ)
     → is_code_head crossings (dartwise f x) ≡ enters (positive_at crossings (f (x / 4))) (x % 4)
-code_head-dartwise crossings f x =
-    ap (λ q. enters (positive_at crossings q) (dartwise f x % 4)) (block_place (f (x / 4)) x)
-    ∙ ap (λ r. enters (positive_at crossings (f (x / 4))) r) (block_slot (f (x / 4)) x)
+code_head-dartwise crossings f x = grind (arith, nat_tests, dartwise f x, block_place (f (x / 4)) x, block_slot (f (x / 4)) x)
 
 kept-head : (crossings : List (List ℕ)) (gone : ℕ → Bool) (choice k : ℕ) (kept partner : ℕ → ℕ)
     → IsDropped crossings gone choice k kept partner → (x : ℕ) → x < 4 * k
     → is_head_at (kept_signs crossings gone) x ≡ is_code_head crossings (dartwise kept x)
 kept-head crossings gone choice k kept partner is x below =
-    ap (λ b. enters b (x % 4)) (kept-sign crossings gone kept k (x / 4) is.places (omega (arith, below)))
-    ∙ sym (code_head-dartwise crossings kept x)
+    grind (arith, nat_tests, kept-sign crossings gone kept k (x / 4) is.places (omega (arith, below)), code_head-dartwise crossings kept x)
 
 pub IsPlanarBy-dropped : (crossings : List (List ℕ)) (gone : ℕ → Bool) (choice k : ℕ) (kept partner : ℕ → ℕ)
     → IsDropped crossings gone choice k kept partner → IsPlanarBy (kept_crossings crossings gone) partner
@@ -84,9 +81,7 @@ HasTwoEnds-dropped crossings gone choice k kept partner is =
     }
 
 colour-dartwise : (choice : ℕ) (f : ℕ → ℕ) (x : ℕ) → is_colour choice (dartwise f x) ≡ nat_eq ((bit choice (f (x / 4)) + x % 4) % 2) 1
-colour-dartwise choice f x =
-    ap (λ q. nat_eq ((bit choice q + dartwise f x % 4) % 2) 1) (block_place (f (x / 4)) x)
-    ∙ ap (λ r. nat_eq ((bit choice (f (x / 4)) + r) % 2) 1) (block_slot (f (x / 4)) x)
+colour-dartwise choice f x = grind (arith, nat_tests, dartwise f x, block_place (f (x / 4)) x, block_slot (f (x / 4)) x)
 
 odd_sum : (a b : ℕ) → nat_eq (a % 2) 1 ≡ not (nat_eq (b % 2) 1) → (b + a) % 2 ≡ 1
 odd_sum a b differ = elim (parity a) [
