@@ -84,22 +84,7 @@ colour-dartwise : (choice : ℕ) (f : ℕ → ℕ) (x : ℕ) → is_colour choic
 colour-dartwise choice f x = grind (arith, nat_tests, dartwise f x, block_place (f (x / 4)) x, block_slot (f (x / 4)) x)
 
 odd_sum : (a b : ℕ) → nat_eq (a % 2) 1 ≡ not (nat_eq (b % 2) 1) → (b + a) % 2 ≡ 1
-odd_sum a b differ = elim (parity a) [
-  | inl even ↦ elim (parity b) [
-    | inl b_even ↦ absurd (not_own false (sym (ap (λ r. nat_eq r 1) even) ∙ differ ∙ ap (λ r. not (nat_eq r 1)) b_even ∙ refl_true))
-    | inr b_odd ↦ omega (arith, even, b_odd)
-  ]
-  | inr odd ↦ elim (parity b) [
-    | inl b_even ↦ omega (arith, odd, b_even)
-    | inr b_odd ↦ absurd (not_own true (sym (ap (λ r. nat_eq r 1) odd) ∙ differ ∙ ap (λ r. not (nat_eq r 1)) b_odd))
-  ]
-]
-  where
-    parity : (x : ℕ) → (x % 2 ≡ 0) ⊎ (x % 2 ≡ 1)
-    parity x = grind arith
-
-    refl_true : not (nat_eq 0 1) ≡ not false
-    refl_true = refl
+odd_sum a b differ = grind (arith, nat_tests)
 
 pub HasColours-dropped : (crossings : List (List ℕ)) (gone : ℕ → Bool) (choice k : ℕ) (kept partner : ℕ → ℕ)
     → IsDropped crossings gone choice k kept partner → HasColours (kept_crossings crossings gone) (λ place. bit choice (kept place))
