@@ -48,8 +48,7 @@ pub record IsAdded (old new : List (List ℕ)) (rise end low : ℕ → ℕ) (sig
 
 -- an old dart is none of a new crossing
 pub old_or_new : (old : List (List ℕ)) (dart : Dart) (k slot : ℕ) → IsDart old dart → length old < k → dart ≢ dart_with k slot
-old_or_new old dart k slot is past same =
-    let e : dart.crossing ≡ k = ap (λ (d : Dart). d.crossing) same in omega (arith, e, is.crossing.within, past)
+old_or_new old dart k slot is past = grind (arith, nat_tests)
 
 module _ {old new : List (List ℕ)} {rise end low : ℕ → ℕ} {sign : ℕ → Bool}
     (added : IsAdded old new rise end low sign) where
@@ -64,14 +63,10 @@ module _ {old new : List (List ℕ)} {rise end low : ℕ → ℕ} {sign : ℕ �
   }
 
   pub IsDart-old : (dart : Dart) → IsDart old dart → IsDart new dart
-  IsDart-old dart is = record {
-    crossing = record { positive = is.crossing.positive; within = omega (arith, is.crossing.within, added.longer) };
-    slot = is.slot;
-  }
+  IsDart-old dart is = omega arith
 
   pub IsDart-new : (k slot : ℕ) → IsNew old new k → slot < 4 → IsDart new (dart_with k slot)
-  IsDart-new k slot is below =
-      record { crossing = record { positive = omega (arith, is.past); within = is.within }; slot = below }
+  IsDart-new k slot is below = omega arith
 
   pub crossing-cases : (k : ℕ) → IsCrossing new k → IsCrossing old k ⊎ IsNew old new k
   crossing-cases k is = grind (arith, nat_tests, cases_lt (length old) k)

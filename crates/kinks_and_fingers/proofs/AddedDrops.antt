@@ -72,33 +72,11 @@ joined-over f slots positive same = grind (arith, nat_tests)
 -- a smoothing under other names
 smoothing-named : (f g : ℕ → ℕ) (b : ℕ) (slots others : List ℕ) → ((slot : ℕ) → slot < 4 → arc_in others slot ≡ g (arc_in slots slot))
     → Respects f (smoothing_of b others) → Respects (λ x. f (g x)) (smoothing_of b slots)
-smoothing-named f g b slots others names = by (nat_eq b 0)
-  where
-    at : (slot other : ℕ) → slot < 4 → other < 4 → f (arc_in others slot) ≡ f (arc_in others other)
-        → f (g (arc_in slots slot)) ≡ f (g (arc_in slots other))
-    at slot other below other_below same = sym (ap f (names slot below)) ∙ same ∙ ap f (names other other_below)
-
-    by : (t : Bool) → Respects f (cond t ((arc_in others 0, arc_in others 1) ∷ (arc_in others 2, arc_in others 3) ∷ [])
-        ((arc_in others 0, arc_in others 3) ∷ (arc_in others 1, arc_in others 2) ∷ []))
-        → Respects (λ x. f (g x)) (cond t ((arc_in slots 0, arc_in slots 1) ∷ (arc_in slots 2, arc_in slots 3) ∷ [])
-        ((arc_in slots 0, arc_in slots 3) ∷ (arc_in slots 1, arc_in slots 2) ∷ []))
-    by true holds = (at 0 1 (omega arith) (omega arith) holds.0, (at 2 3 (omega arith) (omega arith) holds.1.0, tt))
-    by false holds = (at 0 3 (omega arith) (omega arith) holds.0, (at 1 2 (omega arith) (omega arith) holds.1.0, tt))
+smoothing-named f g b slots others names has6 = grind (arith, nat_tests)
 
 named-smoothing : (f g : ℕ → ℕ) (b : ℕ) (slots others : List ℕ) → ((slot : ℕ) → slot < 4 → arc_in others slot ≡ g (arc_in slots slot))
     → Respects (λ x. f (g x)) (smoothing_of b slots) → Respects f (smoothing_of b others)
-named-smoothing f g b slots others names = by (nat_eq b 0)
-  where
-    at : (slot other : ℕ) → slot < 4 → other < 4 → f (g (arc_in slots slot)) ≡ f (g (arc_in slots other))
-        → f (arc_in others slot) ≡ f (arc_in others other)
-    at slot other below other_below same = ap f (names slot below) ∙ same ∙ sym (ap f (names other other_below))
-
-    by : (t : Bool) → Respects (λ x. f (g x)) (cond t ((arc_in slots 0, arc_in slots 1) ∷ (arc_in slots 2, arc_in slots 3) ∷ [])
-        ((arc_in slots 0, arc_in slots 3) ∷ (arc_in slots 1, arc_in slots 2) ∷ []))
-        → Respects f (cond t ((arc_in others 0, arc_in others 1) ∷ (arc_in others 2, arc_in others 3) ∷ [])
-        ((arc_in others 0, arc_in others 3) ∷ (arc_in others 1, arc_in others 2) ∷ []))
-    by true holds = (at 0 1 (omega arith) (omega arith) holds.0, (at 2 3 (omega arith) (omega arith) holds.1.0, tt))
-    by false holds = (at 0 3 (omega arith) (omega arith) holds.0, (at 1 2 (omega arith) (omega arith) holds.1.0, tt))
+named-smoothing f g b slots others names has6 = grind (arith, nat_tests)
 
 -- the crossings that were added are gone, and the old ones stay
 pub record AreAddedGone (old new : List (List ℕ)) (gone : ℕ → Bool) : Type 0 where
@@ -204,10 +182,7 @@ module _ {old new : List (List ℕ)} {rise end low : ℕ → ℕ} {sign : ℕ �
 
   -- an old crossing stays with the first numbers of its arcs
   pub old-names : (place slot : ℕ) → place < length old → slot < 4 → names (arc_by_place new place slot) ≡ rise (arc_by_place old place slot)
-  old-names place slot below slot_below =
-      names-added (arc_by_place new place slot)
-      (arc_by_place-below new place slot twice (omega (arith, below, added.longer)) slot_below)
-      ∙ ap rise (low-old place slot below slot_below)
+  old-names place slot below slot_below = grind (arith, nat_tests, names-added, arc_by_place-below, twice, low-old)
 
   kept-arc : (place slot : ℕ) → place < length old → slot < 4 → arc_by_place kept place slot ≡ rise (arc_by_place old place slot)
   kept-arc place slot below slot_below =
