@@ -1,7 +1,7 @@
 -- Where added crossings are dropped the old code is left, each arc under the first of its numbers: so both codes have one state sum.
 use Rattle.std.proofs.lemmas.Bool.Decides.{nat_tests}
-use Rattle.std.proofs.Common.{◌≡◌, ℕ, zero, suc, inl, inr, ◌+◌, ◌-◌, ◌^◌, ◌<◌, ◌≤◌, ◌∙◌, ℤ, List, [], ◌∷◌, ◌++◌, length, map, refl, sym, ap, ap₂, subst, arith, Bool, true, false, cond, not, ◌&&◌, count_by, eqb-true}
-use Rattle.std.specs.Prelude.{nat_eq, slice_index}
+use Rattle.std.proofs.Common.{◌≡◌, ℕ, zero, suc, inl, inr, ◌+◌, ◌-◌, ◌^◌, ◌<◌, ◌≤◌, ◌∙◌, ℤ, List, ◌++◌, length, map, refl, sym, ap, ap₂, subst, arith, Bool, true, false, not, ◌&&◌, count_by, eqb-true}
+use Rattle.std.specs.Prelude.{slice_index}
 use Rattle.std.specs.List.{filter, range_with_len}
 use Rattle.std.proofs.lemmas.Bool.{both_ways, cases_eq, cases_lt, cases_Bool}
 use Rattle.std.proofs.lemmas.List.{map-id, append-nil}

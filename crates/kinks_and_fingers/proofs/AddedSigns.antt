@@ -22,7 +22,7 @@ use Rattle.code_passes.proofs.LabelCounts.{find-none_at}
 use Rattle.code_passes.proofs.SignRules.{find-first}
 use Rattle.kinks_and_fingers.specs.FingerAdd.{dart_with}
 use Rattle.kinks_and_fingers.proofs.PassEnds.{over_from, over_to}
-use Rattle.kinks_and_fingers.proofs.RisenNumbers.{rise-injective, rise-le_end, rise-less, rise-le, low-between}
+use Rattle.kinks_and_fingers.proofs.RisenNumbers.{rise-le_end, rise-less, rise-le, low-between}
 use Rattle.kinks_and_fingers.proofs.AddedCodes.{IsNew, IsAdded, arc_of-uncut}
 use Rattle.kinks_and_fingers.proofs.AddedRuns.{first_number, first-rise, first-end, IsStep-across, IsStep-inner}
 use Rattle.kinks_and_fingers.proofs.AddedSizes.{IsDirected-added, component-added, next-added, size-grows, size-three, size-new}

@@ -1,6 +1,6 @@
 -- What the smoothings of a crossing and its passes join, by its slots from one on; those of two crossings apart from all others.
 use Rattle.std.proofs.lemmas.Bool.Decides.{nat_tests}
-use Rattle.std.proofs.Common.{◌≡◌, ◌≢◌, ℕ, zero, suc, ◌⊎◌, inl, inr, ◌+◌, ◌*◌, ◌%◌, ◌<◌, ◌≤◌, ◌∙◌, List, [], ◌∷◌, ◌++◌, sym, ap, subst, arith, refl, Bool, true, false, cond, ◌||◌, length, eq-eqb, eqb-true}
+use Rattle.std.proofs.Common.{◌≡◌, ◌≢◌, ℕ, ◌⊎◌, inl, inr, ◌+◌, ◌*◌, ◌%◌, ◌<◌, ◌≤◌, ◌∙◌, List, [], ◌∷◌, ◌++◌, sym, ap, subst, arith, refl, Bool, true, false, cond, ◌||◌, length, eq-eqb, eqb-true}
 use Rattle.std.specs.Prelude.{nat_eq}
 use Rattle.std.specs.List.{AllByRecursion}
 use Rattle.std.proofs.lemmas.Bool.{cases_Bool, cases_eq, ne_eqb}
@@ -21,7 +21,7 @@ use Rattle.kinks_and_fingers.proofs.OldDarts.{partner-named, arc_of_dart-in}
 use Rattle.kinks_and_fingers.specs.Drops.{straight_pairs, is_of_two}
 use Rattle.kinks_and_fingers.specs.DropCircles.{joined_at, outer_pairs, through_at, closing_at}
 use Rattle.kinks_and_fingers.proofs.KeptCodes.{all-gone, gone-all}
-use Rattle.kinks_and_fingers.proofs.SmoothingPairs.{smoothings-all, smoothings-each, outer-all, outer-each, joined-below, passes-low, smoothing-zero, smoothing-one, to-zero, to-one, all_first, all_second}
+use Rattle.kinks_and_fingers.proofs.SmoothingPairs.{smoothings-all, smoothings-each, outer-all, outer-each, joined-below, passes-low, all_first, all_second}
 
 -- a test of two that fails
 pub or-false : (a b : Bool) → (a || b) ≡ false → (a ≡ false) × (b ≡ false)

@@ -1,6 +1,6 @@
 -- What is left where crossings are dropped has arcs with two ends each, two colours, and as many faces as on the sphere.
 use Rattle.std.proofs.lemmas.Bool.Decides.{nat_tests}
-use Rattle.std.proofs.Common.{◌≡◌, ℕ, ◌⊎◌, inl, inr, ◌+◌, ◌*◌, ◌/◌, ◌%◌, ◌<◌, ◌∙◌, List, sym, ap, subst, arith, refl, Bool, true, false, not, length}
+use Rattle.std.proofs.Common.{◌≡◌, ℕ, ◌⊎◌, inl, inr, ◌+◌, ◌*◌, ◌/◌, ◌%◌, ◌<◌, ◌∙◌, List, sym, ap, subst, arith, Bool, not, length}
 use Rattle.std.specs.Prelude.{nat_eq}
 use Rattle.kh_types.specs.Directions.{positive_at}
 use Rattle.kh_types.specs.Bits.{bit}
