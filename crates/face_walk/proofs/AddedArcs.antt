@@ -5,7 +5,7 @@ use Rattle.std.specs.List.{range_with_len}
 use Rattle.std.proofs.lemmas.Bool.{cases_eq}
 use Rattle.std.proofs.lemmas.Bool.Decides.{nat_tests}
 use Rattle.kh_types.specs.Classes.{joined}
-use Rattle.kh_types.specs.Darts.{IsPairing, face_step, turned}
+use Rattle.kh_types.specs.Darts.{IsPairing, face_step}
 use Rattle.kh_types.specs.Faces.{open_faces, open_pieces, piece_pair}
 use Rattle.kh_types.proofs.JoinedClasses.{joined-together, classes_of-same, classes_of-more}
 use Rattle.kh_types.proofs.Lists.{AllByRecursion-append, AllByRecursion-first, AllByRecursion-second}
@@ -29,16 +29,7 @@ elsewhere partner dart other x not_dart not_other = grind (arith, nat_tests)
 
 pub HasArcMore-with_arc : (m : ℕ) (partner : ℕ → ℕ) (dart other : ℕ) → dart < m → other < m → dart ≢ other
     → partner dart ≡ dart → partner other ≡ other → HasArcMore m partner (with_arc partner dart other) dart other
-HasArcMore-with_arc m partner dart other dart_below other_below apart dart_open other_open = record {
-  dart_below = dart_below;
-  other_below = other_below;
-  apart = apart;
-  dart_open = dart_open;
-  other_open = other_open;
-  dart_after = at_first partner dart other;
-  other_after = at_second partner dart other apart;
-  others = λ x x_below not_dart not_other. elsewhere partner dart other x not_dart not_other;
-}
+HasArcMore-with_arc m partner dart other dart_below other_below apart dart_open other_open = grind (arith, nat_tests)
 
 -- a dart is one end of the new arc, or the other, or none
 pub ends_or_not : (dart other x : ℕ) → (x ≡ dart) ⊎ ((x ≡ other) ⊎ ((x ≢ dart) × (x ≢ other)))
@@ -47,28 +38,7 @@ ends_or_not dart other x = grind arith
 -- the darts are still partners in pairs
 pub IsPairing-more : (m : ℕ) (before after : ℕ → ℕ) (dart other : ℕ) → IsPairing m before → HasArcMore m before after dart other
     → IsPairing m after
-IsPairing-more m before after dart other pairing more = record {
-  below = λ x x_below. elim (ends_or_not dart other x) [
-    | inl is_dart ↦ omega (arith, ap after is_dart ∙ more.dart_after, more.other_below)
-    | inr beside ↦ elim beside [
-      | inl is_other ↦ omega (arith, ap after is_other ∙ more.other_after, more.dart_below)
-      | inr none ↦ omega (arith, more.others x x_below none.0 none.1, pairing.below x x_below)
-    ]
-  ];
-  back = λ x x_below. elim (ends_or_not dart other x) [
-    | inl is_dart ↦ ap after (ap after is_dart ∙ more.dart_after) ∙ more.other_after ∙ sym is_dart
-    | inr beside ↦ elim beside [
-      | inl is_other ↦ ap after (ap after is_other ∙ more.other_after) ∙ more.dart_after ∙ sym is_other
-      | inr none ↦
-          let back = pairing.back x x_below in
-          ap after (more.others x x_below none.0 none.1)
-          ∙ more.others (before x) (pairing.below x x_below)
-          (λ same. none.0 (sym back ∙ ap before same ∙ more.dart_open))
-          (λ same. none.1 (sym back ∙ ap before same ∙ more.other_open))
-          ∙ back
-    ]
-  ];
-}
+IsPairing-more m before after dart other pairing more = grind (arith, nat_tests)
 
 -- one more arc leaves two fewer open darts
 
@@ -96,14 +66,7 @@ open_dart_count-more n before after dart other more =
 -- one more arc exchanges two images of the face step
 pub IsExchange-face_step : (m : ℕ) (before after : ℕ → ℕ) (dart other : ℕ) → HasArcMore m before after dart other
     → IsExchange m (face_step before) (face_step after) dart other
-IsExchange-face_step m before after dart other more = record {
-  x_below = more.dart_below;
-  y_below = more.other_below;
-  apart = more.apart;
-  at_x = ap turned (more.dart_after ∙ sym more.other_open);
-  at_y = ap turned (more.other_after ∙ sym more.dart_open);
-  others = λ x below not_dart not_other. ap turned (more.others x below not_dart not_other);
-}
+IsExchange-face_step m before after dart other more = omega arith
 
 -- two darts of one face: the new arc splits the face
 pub open_faces-split : (n : ℕ) (before after : ℕ → ℕ) (dart other : ℕ) → IsPairing (4 * n) before
@@ -128,25 +91,12 @@ open_faces-join n before after dart other pairing more apart =
 -- what has one value at the ends of each arc after it has so before, where a bare dart has one end, and at the ends of the new arc
 ends-before : (h before after : ℕ → ℕ) (m dart other x : ℕ) → HasArcMore m before after dart other → x < m
     → h (x / 4) ≡ h (after x / 4) → h (x / 4) ≡ h (before x / 4)
-ends-before h before after m dart other x more below same = elim (ends_or_not dart other x) [
-  | inl is_dart ↦ ap (λ z. h (z / 4)) (is_dart ∙ sym more.dart_open ∙ ap before (sym is_dart))
-  | inr beside ↦ elim beside [
-    | inl is_other ↦ ap (λ z. h (z / 4)) (is_other ∙ sym more.other_open ∙ ap before (sym is_other))
-    | inr none ↦ same ∙ ap (λ z. h (z / 4)) (more.others x below none.0 none.1)
-  ]
-]
+ends-before h before after m dart other x more below same = grind (arith, nat_tests)
 
 -- and the other way round
 ends-after : (h before after : ℕ → ℕ) (m dart other x : ℕ) → HasArcMore m before after dart other → x < m
     → h (dart / 4) ≡ h (other / 4) → h (x / 4) ≡ h (before x / 4) → h (x / 4) ≡ h (after x / 4)
-ends-after h before after m dart other x more below arc same = elim (ends_or_not dart other x) [
-  | inl is_dart ↦ ap (λ z. h (z / 4)) is_dart ∙ arc ∙ ap (λ z. h (z / 4)) (sym (ap after is_dart ∙ more.dart_after))
-  | inr beside ↦ elim beside [
-    | inl is_other ↦
-        ap (λ z. h (z / 4)) is_other ∙ sym arc ∙ ap (λ z. h (z / 4)) (sym (ap after is_other ∙ more.other_after))
-    | inr none ↦ same ∙ ap (λ z. h (z / 4)) (sym (more.others x below none.0 none.1))
-  ]
-]
+ends-after h before after m dart other x more below arc same = grind (arith, nat_tests)
 
 open_pieces-more : (n : ℕ) (before after : ℕ → ℕ) (dart other : ℕ) → IsPairing (4 * n) before
     → HasArcMore (4 * n) before after dart other → open_pieces n after ≡ joined (open_pieces n before) (dart / 4, other / 4)
@@ -183,11 +133,8 @@ pub JoinsPieces-apart : (n : ℕ) (before after : ℕ → ℕ) (dart other : ℕ
     → HasArcMore (4 * n) before after dart other
     → slice_index (open_pieces n before) (dart / 4) ≢ slice_index (open_pieces n before) (other / 4)
     → UnitesPieces n before after dart other
-JoinsPieces-apart n before after dart other pairing more apart = record {
-  pieces = record { apart = apart; one = open_pieces-more n before after dart other pairing more };
-  faces = open_faces-join n before after dart other pairing more
-      (λ same. apart (open_faces-in_pieces n before dart other pairing more.dart_below more.other_below same));
-}
+JoinsPieces-apart n before after dart other pairing more apart =
+    grind (arith, nat_tests, open_pieces-more, open_faces-join, open_faces-in_pieces)
 
 -- an arc inside a piece
 pub StaysInPiece-together : (n : ℕ) (before after : ℕ → ℕ) (dart other : ℕ) → IsPairing (4 * n) before

@@ -1,11 +1,12 @@
 -- Bare crossings: n faces, n pieces, and 4n open darts.
+use Rattle.std.proofs.lemmas.Bool.Decides.{nat_tests}
 use Rattle.std.proofs.Common.{◌≡◌, ◌≢◌, ℕ, zero, suc, ◌+◌, ◌*◌, ◌/◌, ◌<◌, ◌≤◌, ◌∙◌, [], refl, sym, ap, length, map, arith, Bool, cond, eq-eqb}
 use Rattle.std.specs.Prelude.{slice_index, nat_eq}
 use Rattle.std.specs.List.{count_by, filter, range_with_len}
 use Rattle.std.proofs.lemmas.Bool.{ne_eqb}
 use Rattle.std.proofs.lemmas.List.FromFn.{length-range_with_len}
 use Rattle.std.proofs.lemmas.List.Sums.{length-filter}
-use Rattle.kh_types.specs.Classes.{class_count, is_least}
+use Rattle.kh_types.specs.Classes.{is_least}
 use Rattle.kh_types.specs.Darts.{IsPairing, turned}
 use Rattle.kh_types.specs.Faces.{open_faces, open_pieces, piece_pair}
 use Rattle.kh_types.proofs.JoinedClasses.{classes_of-same, slice_index-range}
@@ -31,15 +32,7 @@ open_pieces-bare n =
     (λ h holds. all-map_range (λ (pair : ℕ × ℕ). h pair.0 ≡ h pair.1) (piece_pair bare) 0 (4 * n) (λ x below. refl))
 
 pub open_piece_count-bare : (n : ℕ) → open_piece_count n bare ≡ n
-open_piece_count-bare n =
-    let alone = range_with_len 0 n in
-    let size = length-range_with_len 0 n in
-    ap class_count (open_pieces-bare n)
-    ∙ ap (λ k. length (filter (is_least alone) (range_with_len 0 k))) size
-    ∙ ap length
-    (filter-range_all (is_least alone) 0 n
-    (λ x from below. eq-eqb (slice_index alone x) x (slice_index-range n x (omega (arith, below)))))
-    ∙ size
+open_piece_count-bare n = grind (arith, nat_tests, length-range_with_len, open_pieces-bare, filter-range_all, eq-eqb, slice_index-range)
 
 -- the least of the four darts round a crossing
 least_turned : (x c : ℕ) → c ≤ x → c ≤ turned x → c ≤ turned (turned x) → c ≤ turned (turned (turned x)) → c ≤ 4 * (x / 4)

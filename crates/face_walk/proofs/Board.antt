@@ -1,6 +1,6 @@
 -- A planar code has a checkerboard: a crossing has the bit of the sheet on which it lies above the least crossing of its piece.
-use Rattle.std.proofs.Common.{◌≡◌, ◌≢◌, ℕ, ◌⊎◌, inl, inr, ◌+◌, ◌-◌, ◌*◌, ◌/◌, ◌%◌, ◌<◌, ◌∙◌, List, length, refl, sym, ap, subst, arith, Bool, not, eq-eqb}
-use Rattle.std.specs.Prelude.{slice_index, nat_eq, min, max}
+use Rattle.std.proofs.Common.{◌≡◌, ◌≢◌, ℕ, ◌+◌, ◌-◌, ◌*◌, ◌/◌, ◌%◌, ◌<◌, ◌∙◌, List, length, refl, sym, ap, subst, arith, Bool, not, eq-eqb}
+use Rattle.std.specs.Prelude.{slice_index, nat_eq}
 use Rattle.std.proofs.lemmas.Bool.Decides.{nat_tests}
 use Rattle.kh_types.specs.declared.dart.Dart.{Dart}
 use Rattle.kh_types.specs.Code.{IsArc, place_of}
@@ -21,29 +21,7 @@ is_other_sheet n p c = not (nat_eq (piece_above n p c 0) (piece_above n p (slice
 odd_arc : (x0 x1 y0 y1 a b t u : ℕ) (z : ℕ → ℕ) → AreOneOfTwo x0 x1 a b → AreOneOfTwo y0 y1 a b → a ≢ b → z 0 ≡ y0 → z 1 ≡ y1
     → x0 ≡ z ((0 + t + u + 1) % 2) → x1 ≡ z ((1 + t + u + 1) % 2)
     → (counted (not (nat_eq x0 a)) + (counted (not (nat_eq y0 a)) + (t + u))) % 2 ≡ 1
-odd_arc x0 x1 y0 y1 a b t u z x_two y_two apart at_zero at_one first second = elim (parities (t + u)) [
-  | inl odd ↦
-      let e : (0 + t + u + 1) % 2 ≡ 0 = omega (arith, odd) in
-      let same : x0 ≡ y0 = first ∙ ap z e ∙ at_zero in
-      let twice : counted (not (nat_eq x0 a)) ≡ counted (not (nat_eq y0 a)) = ap (λ x. counted (not (nat_eq x a))) same in
-      omega (arith, odd, twice)
-  | inr even ↦
-      let e : (0 + t + u + 1) % 2 ≡ 1 = omega (arith, even) in
-      let d : (1 + t + u + 1) % 2 ≡ 0 = omega (arith, even) in
-      let one : x0 ≡ y1 = first ∙ ap z e ∙ at_one in
-      let other : x1 ≡ y0 = second ∙ ap z d ∙ at_zero in
-      let least : min x0 y0 ≡ min a b = ap (λ k. min x0 k) (sym other) ∙ x_two.least in
-      let greatest : max x0 y0 ≡ max a b = ap (λ k. max x0 k) (sym other) ∙ x_two.greatest in
-      let sum = one_of_them x0 y0 a b least greatest apart in
-      omega (arith, even, sum)
-]
-  where
-    parities : (k : ℕ) → (k % 2 ≡ 1) ⊎ (k % 2 ≡ 0)
-    parities k = grind arith
-
-    one_of_them : (x y a b : ℕ) → min x y ≡ min a b → max x y ≡ max a b → a ≢ b
-        → counted (not (nat_eq x a)) + counted (not (nat_eq y a)) ≡ 1
-    one_of_them x y a b least greatest apart = grind (arith, nat_tests)
+odd_arc x0 x1 y0 y1 a b t u z x_two y_two apart at_zero at_one first second = grind (arith, nat_tests)
 
 pub IsCheckerboard-planar : (crossings : List (List ℕ)) → HasArcsTwice crossings
     → face_count crossings ≡ planar_face_count crossings → IsCheckerboard crossings

@@ -1,6 +1,6 @@
 -- The double cover of crossings with arcs: over each crossing there are two, and over each arc two, which lead from a dart of one
 -- colour to one of the other, where the colour of a dart is told by its crossing's sheet and its slot.
-use Rattle.std.proofs.Common.{◌≡◌, ◌≢◌, ℕ, zero, suc, ◌⊎◌, inl, inr, ◌+◌, ◌*◌, ◌/◌, ◌%◌, ◌<◌, ◌≤◌, ◌∙◌, List, length, map, sym, ap, arith, Bool, true, not, ◌&&◌, eq-eqb, eqb-true}
+use Rattle.std.proofs.Common.{◌≡◌, ◌≢◌, ℕ, ◌⊎◌, inl, inr, ◌+◌, ◌*◌, ◌/◌, ◌%◌, ◌<◌, ◌≤◌, ◌∙◌, List, length, map, sym, ap, arith, Bool, true, not, ◌&&◌, eq-eqb, eqb-true}
 use Rattle.std.specs.Prelude.{slice_index, nat_eq, min, max, if◌then◌else◌}
 use Rattle.std.specs.List.{count_by, range_with_len}
 use Rattle.std.proofs.lemmas.List.Sums.{length-filter}
@@ -71,23 +71,7 @@ back_sheet : (s t u v : ℕ) → s < 2 → (v ≡ (s + t + u + 1) % 2) → (v + 
 back_sheet s t u v below is = omega (arith, below, is)
 
 pub IsPairing-cover : (n : ℕ) (p : ℕ → ℕ) → IsPairing (4 * n) p → IsPairing (4 * (2 * n)) (cover p)
-IsPairing-cover n p pairing = record {
-  below = λ y below.
-      lift-below n (p (base y)) ((sheet y + y % 4 + p (base y) % 4 + 1) % 2) (pairing.below (base y) (base-below n y below))
-      (two-below (sheet y + y % 4 + p (base y) % 4 + 1));
-  back = λ y below.
-      let z = cover p y in
-      let q = p (base y) in
-      let to_base : p (base z) ≡ base y = ap p (base-cover p y) ∙ pairing.back (base y) (base-below n y below) in
-      let slot : base y % 4 ≡ y % 4 = omega arith in
-      let s : (sheet z + z % 4 + p (base z) % 4 + 1) % 2 ≡ sheet y =
-      ap (λ b. (sheet z + z % 4 + b % 4 + 1) % 2) to_base
-      ∙ ap (λ b. (sheet z + b + base y % 4 + 1) % 2) (slot-cover p y)
-      ∙ ap (λ b. (sheet z + q % 4 + b + 1) % 2) slot
-      ∙ back_sheet (sheet y) (y % 4) (q % 4) (sheet z) (two-below (y / 4)) (sheet-cover p y) in
-      ap (λ b. lift b ((sheet z + z % 4 + p (base z) % 4 + 1) % 2)) to_base
-      ∙ ap (λ b. lift (base y) b) s ∙ lift-base y;
-}
+IsPairing-cover n p pairing = grind (arith, nat_tests)
 
 -- a face step of the cover is one of the darts below, and keeps the colour
 base-turned : (z : ℕ) → base (turned z) ≡ turned (base z)
@@ -103,25 +87,19 @@ tone_kept : (s t u v w : ℕ) → v ≡ (s + t + u + 1) % 2 → w ≡ u → ((v 
 tone_kept s t u v w is same = omega (arith, is, same)
 
 tone-face_step : (p : ℕ → ℕ) (y : ℕ) → tone (face_step (cover p) y) ≡ tone y
-tone-face_step p y =
-    tone-turned (cover p y)
-    ∙ tone_kept (sheet y) (y % 4) (p (base y) % 4) (sheet (cover p y)) (cover p y % 4) (sheet-cover p y) (slot-cover p y)
+tone-face_step p y = omega arith
 
 -- each face has two above it
 
 pub class_count-counts : (n : ℕ) (classes : List ℕ) → length classes ≡ n → class_count classes ≡ count_by (is_least classes) (range_with_len 0 n)
-class_count-counts n classes size =
-    length-filter (is_least classes) (range_with_len 0 (length classes)) ∙ ap (λ k. count_by (is_least classes) (range_with_len 0 k)) size
+class_count-counts n classes size = grind (arith, nat_tests, length-filter)
 
 -- the dart above that of a number's half, whose colour is the number's parity
 abbrev above : ℕ → ℕ
 above w = lift (w / 2) ((w % 2 + w / 2 % 4) % 2)
 
 tone-above : (w : ℕ) → tone (above w) ≡ w % 2
-tone-above w = coloured (w / 2) (w % 2) (two-below w)
-  where
-    coloured : (x c : ℕ) → c < 2 → tone (lift x ((c + x % 4) % 2)) ≡ c
-    coloured x c below = omega (arith, below)
+tone-above w = omega arith
 
 base-above : (w : ℕ) → base (above w) ≡ w / 2
 base-above w = base-lift (w / 2) ((w % 2 + w / 2 % 4) % 2) (two-below (w % 2 + w / 2 % 4))
@@ -204,15 +182,7 @@ pub record AreOneOfTwo (one other first second : ℕ) : Type 0 where
 
 two_ways : (f g : ℕ → ℕ) (s t : ℕ) → s < 2 → t ≡ (s + 1) % 2 → (f 0 ≡ g s) → (f 1 ≡ g t)
     → AreOneOfTwo (f 0) (f 1) (g 0) (g 1)
-two_ways f g zero t below is first second =
-    let one : t ≡ 1 = omega (arith, is) in
-    let second_there : f 1 ≡ g 1 = second ∙ ap g one in
-    record { least = omega (arith, first, second_there); greatest = omega (arith, first, second_there) }
-two_ways f g (suc zero) t below is first second =
-    let none : t ≡ 0 = omega (arith, is) in
-    let second_there : f 1 ≡ g 0 = second ∙ ap g none in
-    record { least = omega (arith, first, second_there); greatest = omega (arith, first, second_there) }
-two_ways f g (suc (suc s)) t below is first second = absurd (omega (arith, below))
+two_ways f g s t below is first second = grind (arith, nat_tests)
 
 ends-two : (n : ℕ) (p : ℕ → ℕ) (x : ℕ) → IsPairing (4 * n) p → x < 4 * n
     → AreOneOfTwo (piece_above n p (x / 4) 0) (piece_above n p (x / 4) 1) (piece_above n p (p x / 4) 0) (piece_above n p (p x / 4) 1)
@@ -254,8 +224,7 @@ at_least_crossing n p y =
 
 either_piece : (one other first second y : ℕ) → AreOneOfTwo one other first second → (one ≡ y) ⊎ (other ≡ y)
     → (first ≡ y) ⊎ (second ≡ y)
-either_piece one other first second y two either =
-    let least = two.least in let greatest = two.greatest in grind arith
+either_piece one other first second y two either = grind (arith, nat_tests)
 
 half_cases : (y : ℕ) → (2 * (y / 2) + 0 ≡ y) ⊎ (2 * (y / 2) + 1 ≡ y)
 half_cases y = grind arith
@@ -290,19 +259,11 @@ at_least_crossing-is n p y pairing below own =
     other_chosen x y a b other = grind (arith, nat_tests)
 
 at_least_crossing-half : (n : ℕ) (p : ℕ → ℕ) (y : ℕ) → at_least_crossing n p y / 2 ≡ slice_index (open_pieces n p) (y / 2)
-at_least_crossing-half n p y = half (piece_above n p (slice_index (open_pieces n p) (y / 2)) 0) y (slice_index (open_pieces n p) (y / 2))
-  where
-    half : (x y f : ℕ) → (if nat_eq x y then 2 * f else 2 * f + 1) / 2 ≡ f
-    half x y f = elim (cases_eq x y) [
-      | inl same ↦ let e : (if nat_eq x y then 2 * f else 2 * f + 1) ≡ 2 * f = grind (arith, nat_tests) in omega (arith, e)
-      | inr apart ↦ let e : (if nat_eq x y then 2 * f else 2 * f + 1) ≡ 2 * f + 1 = grind (arith, nat_tests) in omega (arith, e)
-    ]
+at_least_crossing-half n p y = grind (arith, nat_tests)
 
 -- where the two crossings above one are in one piece, there are fewer than two pieces above each
 no_second : (x y f other g : ℕ) → f ≡ g → x ≡ other → other ≡ y → (if nat_eq x y then 2 * f else 2 * f + 1) ≡ 2 * g + 1 → ⊥
-no_second x y f other g same x_is is odd =
-    let e : (if nat_eq x y then 2 * f else 2 * f + 1) ≡ 2 * f = grind (arith, nat_tests) in
-    omega (arith, e, odd, same)
+no_second x y f other g same x_is is odd = grind (arith, nat_tests)
 
 same_two : (one other first second : ℕ) → AreOneOfTwo one other first second → one ≡ other → first ≡ second
 same_two one other first second two same = let least = two.least in let greatest = two.greatest in grind arith
@@ -357,11 +318,4 @@ pieces-fewer n p c pairing below same =
 -- of a planar whole without open darts, the two crossings above each are in different pieces
 pub sheets-apart : (n : ℕ) (p : ℕ → ℕ) (c : ℕ) → IsPairing (4 * n) p → open_face_count n p ≡ n + 2 * open_piece_count n p → c < n
     → piece_above n p c 0 ≢ piece_above n p c 1
-sheets-apart n p c pairing planar below same =
-    omega (
-      arith,
-      planar,
-      pieces-fewer n p c pairing below same,
-      faces-doubled n p pairing,
-      planar-bound (2 * n) (cover p) (IsPairing-cover n p pairing),
-    )
+sheets-apart n p c pairing planar below = grind (arith, nat_tests, pieces-fewer, faces-doubled, planar-bound, IsPairing-cover)

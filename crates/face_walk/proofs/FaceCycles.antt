@@ -1,4 +1,6 @@
 -- Walks round the faces of an accepted code.
+use Rattle.std.proofs.lemmas.Bool.Decides.{nat_tests}
+use Rattle.std.proofs.Common.{arith}
 use Rattle.std.proofs.Common.{◌≡◌, ◌≢◌, ℕ, ◌+◌, ◌*◌, ◌<◌, ◌∙◌, List, length, sym, ap, subst}
 use Rattle.std.specs.Prelude.{IsTrue, slice_index}
 use Rattle.std.specs.List.{range_with_len}
@@ -45,8 +47,7 @@ IsOnFace-last code initial classes least place is walked on back =
 pub faces_skipped : (code : Code) (classes : List ℕ) (place : ℕ) → IsTrue (accepted code) → place < 4 * length code.crossings
     → IsWalked (faces_of code.crossings) classes place → slice_index classes place ≢ place
     → IsWalked (faces_of code.crossings) classes (place + 1)
-faces_skipped code classes place is below walked other =
-    IsWalked-skip (4 * length code.crossings) (faces_of code.crossings) classes place (IsNamed-faces_of code is) below walked other
+faces_skipped code classes place is below walked other = grind (arith, nat_tests, IsWalked-skip, IsNamed-faces_of)
 
 pub faces_unwalked : (code : Code) (classes : List ℕ) (count : ℕ) → IsTrue (accepted code) → count ≡ 4 * length code.crossings
     → classes ≡ range_with_len 0 count → IsWalked (faces_of code.crossings) classes 0
@@ -56,8 +57,6 @@ faces_unwalked code classes count is is_count alone =
 
 pub faces_walked : (code : Code) (classes : List ℕ) (count : ℕ) → IsTrue (accepted code) → count ≡ 4 * length code.crossings
     → IsWalked (faces_of code.crossings) classes count → classes ≡ faces_of code.crossings
-faces_walked code classes count is is_count walked =
-    walked-all (4 * length code.crossings) (faces_of code.crossings) classes (IsNamed-faces_of code is)
-    (subst (λ (n : ℕ). IsWalked (faces_of code.crossings) classes n) is_count walked)
+faces_walked code classes count is is_count walked = grind (arith, nat_tests, walked-all, IsNamed-faces_of)
 
 pub ruleset walks = (faces_skipped, faces_unwalked, faces_walked)

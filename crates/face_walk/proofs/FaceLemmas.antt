@@ -1,5 +1,6 @@
 -- The faces and pieces of an accepted code.
-use Rattle.std.proofs.Common.{◌≡◌, ℕ, ◌*◌, ◌<◌, ◌∙◌, List, length, map, refl, sym, ap, subst, arith}
+use Rattle.std.proofs.lemmas.Bool.Decides.{nat_tests}
+use Rattle.std.proofs.Common.{◌≡◌, ℕ, ◌*◌, ◌<◌, ◌∙◌, List, length, sym, ap, subst, arith}
 use Rattle.std.specs.Prelude.{IsTrue, nat_eq, slice_index}
 use Rattle.std.specs.List.{AllByRecursion, count_by, position_or_len, range_with_len}
 use Rattle.std.proofs.lemmas.List.FromFn.{length-range_with_len, get_or-range_with_len}
@@ -44,17 +45,11 @@ IsNamed-pieces_of code is = IsNamed-open_pieces (length code.crossings) (partner
 -- the same of a list of classes that are these
 pub IsNamed-faces : (code : Code) (classes : List ℕ) → IsTrue (accepted code) → classes ≡ faces_of code.crossings
     → IsNamed (length classes) classes
-IsNamed-faces code classes is same =
-    let named : IsNamed (4 * length code.crossings) classes =
-    subst (λ (xs : List ℕ). IsNamed (4 * length code.crossings) xs) (sym same) (IsNamed-faces_of code is) in
-    subst (λ (n : ℕ). IsNamed n classes) (sym named.size) named
+IsNamed-faces code classes is same = grind (arith, nat_tests, IsNamed-faces_of)
 
 pub IsNamed-pieces : (code : Code) (classes : List ℕ) → IsTrue (accepted code) → classes ≡ pieces_of code.crossings
     → IsNamed (length classes) classes
-IsNamed-pieces code classes is same =
-    let named : IsNamed (length code.crossings) classes =
-    subst (λ (xs : List ℕ). IsNamed (length code.crossings) xs) (sym same) (IsNamed-pieces_of code is) in
-    subst (λ (n : ℕ). IsNamed n classes) (sym named.size) named
+IsNamed-pieces code classes is same = grind (arith, nat_tests, IsNamed-pieces_of)
 
 -- the faces of an accepted code are those of a drawing on the sphere
 pub sphere_faces : (code : Code) → IsTrue (accepted code) → face_count code.crossings ≡ planar_face_count code.crossings
@@ -63,16 +58,10 @@ sphere_faces code is = ((IsAccepted-is code).0 is).faces
 -- the numbers of the faces of all darts are those of their places
 pub face_numbers-classes : (crossings : List (List ℕ)) → length (faces_of crossings) ≡ 4 * length crossings
     → class_numbers (faces_of crossings) ≡ face_numbers crossings
-face_numbers-classes crossings size =
-    let number = class_number (faces_of crossings) in
-    ap (λ n. map number (range_with_len 0 n)) size
-    ∙ ap (λ (f : ℕ → ℕ). map f (range_with_len 0 (4 * length crossings))) (fun_ext (λ k. ap number (sym (dart_place-at k))))
-    ∙ sym (map-map (face_number crossings) dart_at (range_with_len 0 (4 * length crossings)))
+face_numbers-classes crossings size = grind (arith, nat_tests, fun_ext, dart_place-at, map-map)
 
 pub length-face_numbers : (crossings : List (List ℕ)) → length (face_numbers crossings) ≡ 4 * length crossings
-length-face_numbers crossings =
-    length-map (darts crossings) (face_number crossings)
-    ∙ length-map (range_with_len 0 (4 * length crossings)) dart_at ∙ length-range_with_len 0 (4 * length crossings)
+length-face_numbers crossings = grind (arith, nat_tests, length-map, length-range_with_len)
 
 -- the number that is kept at the place of a dart is that of its face
 pub face_number-kept : (crossings : List (List ℕ)) (dart : Dart) → IsDart crossings dart
@@ -90,16 +79,12 @@ face_number-kept crossings dart is =
 
 pub face_number-in : (crossings : List (List ℕ)) (dart : Dart) (numbers : List ℕ) (place : ℕ) → numbers ≡ face_numbers crossings
     → place ≡ dart_place dart → IsDart crossings dart → slice_index numbers place ≡ face_number crossings dart
-face_number-in crossings dart numbers place kept is_place is =
-    ap (λ xs. slice_index xs place) kept ∙ ap (λ k. slice_index (face_numbers crossings) k) is_place ∙ face_number-kept crossings dart is
+face_number-in crossings dart numbers place kept is_place is = grind (arith, nat_tests, face_number-kept)
 
 -- it is below the number of faces
 pub face_number-below : (code : Code) (dart : Dart) → IsTrue (accepted code) → IsDart code.crossings dart
     → face_number code.crossings dart < face_count code.crossings
-face_number-below code dart is is_dart =
-    let named = IsNamed-faces_of code is in
-    class_number-below (faces_of code.crossings) (dart_place dart) (IsNamed-faces code (faces_of code.crossings) is refl)
-    (omega (arith, named.size, dart_place-below code.crossings dart is_dart))
+face_number-below code dart is is_dart = grind (arith, nat_tests, IsNamed-faces_of, class_number-below, IsNamed-faces, dart_place-below)
 
 -- all the numbers that are kept are below it
 pub face_numbers-below : (code : Code) → IsTrue (accepted code)
@@ -116,8 +101,7 @@ face_numbers-below code is =
 -- the length of a face is how often its number is kept
 pub face_length-counted : (crossings : List (List ℕ)) (face : ℕ)
     → count_by (λ number. nat_eq number face) (face_numbers crossings) ≡ face_length crossings face
-face_length-counted crossings face =
-    count_by-map (λ number. nat_eq number face) (face_number crossings) (darts crossings)
+face_length-counted crossings face = grind (arith, nat_tests, count_by-map)
 
 -- the dart that follows a dart is of its face
 pub face_number-step : (code : Code) (place : ℕ) → IsTrue (accepted code) → place < 4 * length code.crossings

@@ -1,5 +1,6 @@
 -- How many faces codes have.
-use Rattle.std.proofs.Common.{◌≡◌, ◌≢◌, ℕ, inl, inr, ◌*◌, ◌<◌, ◌≤◌, List, length, arith, eqb-true}
+use Rattle.std.proofs.lemmas.Bool.Decides.{nat_tests}
+use Rattle.std.proofs.Common.{◌≡◌, ◌≢◌, ℕ, ◌<◌, ◌≤◌, List, length, arith, eqb-true}
 use Rattle.std.specs.Prelude.{◌↔◌, IsTrue, None}
 use Rattle.std.proofs.lemmas.Bool.{cases_eq}
 use Rattle.kh_types.specs.Acceptance.{accepted, genus_fault}
@@ -9,53 +10,27 @@ use Rattle.kh_types.specs.Faces.{face_count, piece_count, planar_face_count}
 use Rattle.kh_types.proofs.AcceptedLemmas.{HasArcsTwice-accepted, IsAccepted-is, genus_fault-none}
 use Rattle.kh_types.proofs.DartPairs.{IsOtherPlace-partner_at, IsPairing-partner_at}
 use Rattle.kh_types.proofs.RangeCounts.{found-counted}
-use Rattle.face_walk.specs.AddedArcs.{IsPlanar, is_open, open_dart_count}
+use Rattle.face_walk.specs.AddedArcs.{IsPlanar, open_dart_count}
 use Rattle.face_walk.proofs.PartArcs.{planar-bound}
 
 -- where each arc stands twice no dart is open
 pub open_dart_count-twice : (crossings : List (List ℕ)) → HasArcsTwice crossings
     → open_dart_count (length crossings) (partner_at crossings) ≡ 0
-open_dart_count-twice crossings twice =
-    let partner = partner_at crossings in
-    let n = length crossings in
-    elim (cases_eq (open_dart_count n partner) 0) [
-      | inl none ↦ none
-      | inr some ↦
-          let found = found-counted (is_open partner) 0 (4 * n) (omega (arith, some)) in
-          absurd ((IsOtherPlace-partner_at crossings found.0 twice (omega (arith, found.1.below))).differs
-          (eqb-true (partner found.0) found.0 found.1.passes))
-    ]
+open_dart_count-twice crossings twice = grind (arith, nat_tests, cases_eq, found-counted, IsOtherPlace-partner_at, eqb-true)
 
 -- so the faces are at most as many as on the sphere
 pub face_count-le : (crossings : List (List ℕ)) → HasArcsTwice crossings → face_count crossings ≤ planar_face_count crossings
-face_count-le crossings twice =
-    omega (
-      arith,
-      planar-bound (length crossings) (partner_at crossings) (IsPairing-partner_at crossings twice),
-      open_dart_count-twice crossings twice,
-    )
+face_count-le crossings twice = grind (arith, nat_tests, planar-bound, IsPairing-partner_at, open_dart_count-twice)
 
 -- and as many exactly where the partner function is planar
 pub IsPlanar-twice : (crossings : List (List ℕ)) → HasArcsTwice crossings
     → IsPlanar (length crossings) (partner_at crossings) ↔ (face_count crossings ≡ planar_face_count crossings)
-IsPlanar-twice crossings twice =
-    let closed = open_dart_count-twice crossings twice in
-    (λ planar. omega (arith, planar, closed), λ same. omega (arith, same, closed))
+IsPlanar-twice crossings twice = grind (arith, nat_tests, open_dart_count-twice)
 
 -- the rule of faces is broken exactly where they are fewer
 pub genus_fault-fewer : (crossings : List (List ℕ)) → HasArcsTwice crossings
     → (genus_fault crossings ≢ None) ↔ (face_count crossings < planar_face_count crossings)
-genus_fault-fewer crossings twice =
-    let rule = genus_fault-none crossings in
-    let few = face_count-le crossings twice in
-    let faces = face_count crossings in
-    let wanted = planar_face_count crossings in (
-      λ broken. elim (cases_eq faces wanted) [
-        | inl same ↦ absurd (broken (rule.1 same))
-        | inr differ ↦ omega (arith, few, differ)
-      ],
-      λ fewer none. omega (arith, fewer, rule.0 none),
-    )
+genus_fault-fewer crossings twice = grind (arith, nat_tests, genus_fault-none, face_count-le, cases_eq)
 
 -- an accepted code
 
@@ -69,5 +44,4 @@ IsPlanar-accepted code is = (IsPlanar-twice code.crossings (HasArcsTwice-accepte
 pub face_count-most : (code : Code) (others : List (List ℕ)) → IsTrue (accepted code) → HasArcsTwice others
     → length others ≡ length code.crossings → piece_count others ≡ piece_count code.crossings
     → face_count others ≤ face_count code.crossings
-face_count-most code others is twice crossings pieces =
-    omega (arith, face_count-le others twice, face_count-accepted code is, crossings, pieces)
+face_count-most code others is twice crossings pieces = grind (arith, nat_tests, face_count-le, face_count-accepted)

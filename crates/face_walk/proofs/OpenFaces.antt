@@ -1,4 +1,5 @@
 -- The faces and pieces of crossings with some of their arcs, given by a partner function.
+use Rattle.std.proofs.lemmas.Bool.Decides.{nat_tests}
 use Rattle.std.proofs.Common.{◌≡◌, ℕ, ◌+◌, ◌*◌, ◌/◌, ◌%◌, ◌<◌, ◌∙◌, sym, ap, map, arith}
 use Rattle.std.specs.Prelude.{slice_index}
 use Rattle.std.specs.List.{range_with_len}
@@ -41,12 +42,7 @@ crossing-below n place below = omega (arith, below)
 -- the face step is a permutation, and the faces are its cycles
 pub IsPermutation-face_step : (n : ℕ) (partner : ℕ → ℕ) → IsPairing (4 * n) partner
     → IsPermutation (4 * n) (face_step partner) (face_back partner)
-IsPermutation-face_step n partner pairing = record {
-  below = λ x below. turned-below n (partner x) (pairing.below x below);
-  back_below = λ x below. pairing.below (turned_back x) (turned_back-below n x below);
-  back_f = λ x below. ap partner (turned_back-turned (partner x)) ∙ pairing.back x below;
-  f_back = λ x below. ap turned (pairing.back (turned_back x) (turned_back-below n x below)) ∙ turned-turned_back x;
-}
+IsPermutation-face_step n partner pairing = grind (arith, nat_tests)
 
 pub AreCycles-open_faces : (n : ℕ) (partner : ℕ → ℕ) → IsPairing (4 * n) partner
     → AreCycles (4 * n) (face_step partner) (face_back partner) (open_faces n partner)

@@ -1,33 +1,21 @@
 -- Some of the arcs of a partner function, and all of them, added one after another.
-use Rattle.std.proofs.Common.{◌≡◌, ◌≢◌, ℕ, zero, suc, ◌⊎◌, inl, inr, ◌+◌, ◌*◌, ◌/◌, ◌<◌, ◌≤◌, ◌∙◌, refl, sym, ap, subst, arith, cond, ◌||◌}
-use Rattle.std.specs.Prelude.{slice_index, nat_eq, nat_lt}
+use Rattle.std.proofs.Common.{◌≡◌, ◌≢◌, ℕ, zero, suc, ◌⊎◌, inl, inr, ◌+◌, ◌*◌, ◌/◌, ◌<◌, ◌≤◌, ◌∙◌, refl, sym, subst, arith, cond, ◌||◌}
+use Rattle.std.specs.Prelude.{slice_index, nat_lt}
 use Rattle.std.proofs.lemmas.Bool.{cases_eq}
 use Rattle.std.proofs.lemmas.Bool.Decides.{nat_tests}
-use Rattle.kh_types.specs.Classes.{classes_of, class_count}
-use Rattle.kh_types.specs.Darts.{IsPairing, turned}
-use Rattle.kh_types.specs.Faces.{face_pair, open_faces, open_pieces, piece_pair}
+use Rattle.kh_types.specs.Darts.{IsPairing}
+use Rattle.kh_types.specs.Faces.{open_faces, open_pieces}
 use Rattle.kh_types.proofs.RangeCounts.{count_by-alike}
 use Rattle.kh_types.specs.Permutations.{AreJoined}
-use Rattle.face_walk.specs.AddedArcs.{bare, is_open, open_dart_count, open_face_count, open_piece_count, with_arc, HasArcMore, IsPart, IsPlanar}
+use Rattle.face_walk.specs.AddedArcs.{bare, open_dart_count, open_face_count, open_piece_count, with_arc, HasArcMore, IsPart, IsPlanar}
 use Rattle.kh_types.proofs.RangeImages.{map_range-agree}
-use Rattle.face_walk.proofs.AddedArcs.{HasArcMore-with_arc, IsPairing-more, ends_or_not, open_faces-split}
+use Rattle.face_walk.proofs.AddedArcs.{HasArcMore-with_arc, IsPairing-more, open_faces-split}
 use Rattle.face_walk.proofs.BareCrossings.{IsPairing-bare, open_dart_count-bare, open_face_count-bare, open_piece_count-bare}
 use Rattle.face_walk.proofs.PlanarArcs.{IsNoNearer, IsNoNearer-more, open_faces-together}
 
 -- partner functions that agree on the darts have the same faces, pieces and open darts
 IsNoNearer-same : (n : ℕ) (before after : ℕ → ℕ) → ((x : ℕ) → x < 4 * n → after x ≡ before x) → IsNoNearer n before after
-IsNoNearer-same n before after same =
-    let faces : open_faces n after ≡ open_faces n before =
-    ap (λ pairs. classes_of (4 * n) pairs)
-    (map_range-agree (face_pair after) (face_pair before) 0 (4 * n)
-    (λ k below. ap (λ (y : ℕ). (k, turned y)) (same k (omega (arith, below))))) in
-    let pieces : open_pieces n after ≡ open_pieces n before =
-    ap (λ pairs. classes_of n pairs)
-    (map_range-agree (piece_pair after) (piece_pair before) 0 (4 * n)
-    (λ k below. ap (λ (y : ℕ). (k / 4, y / 4)) (same k (omega (arith, below))))) in
-    let darts : open_dart_count n after ≡ open_dart_count n before =
-    count_by-alike (is_open after) (is_open before) 0 (4 * n) (λ k from below. ap (λ y. nat_eq y k) (same k (omega (arith, below)))) in
-    omega (arith, ap class_count faces, ap class_count pieces, darts)
+IsNoNearer-same n before after same = grind (arith, nat_tests, map_range-agree, count_by-alike)
 
 IsNoNearer-then : (n : ℕ) (first second third : ℕ → ℕ) → IsNoNearer n first second → IsNoNearer n second third → IsNoNearer n first third
 IsNoNearer-then n first second third one two = omega (arith, one, two)
@@ -48,64 +36,12 @@ grown-left part whole k x from whole_from = grind (arith, nat_tests)
 
 IsPairing-grown : (m : ℕ) (part whole : ℕ → ℕ) (k : ℕ) → IsPairing m part → IsPairing m whole → IsPart m part whole
     → IsPairing m (grown part whole k)
-IsPairing-grown m part whole k pairing whole_pairing is_part = record {
-  below = λ x x_below. elim (taken_or_left x (whole x) k) [
-    | inl taken ↦ omega (arith, grown-taken part whole k x taken, whole_pairing.below x x_below)
-    | inr left ↦ omega (arith, grown-left part whole k x left.0 left.1, pairing.below x x_below)
-  ];
-  back = λ x x_below.
-      let back = whole_pairing.back x x_below in
-      let here : ℕ → ℕ = grown part whole k in
-      elim (taken_or_left x (whole x) k) [
-        | inl taken ↦
-            let turned_round : (whole x < k) ⊎ (whole (whole x) < k) =
-            elim taken [ inl first ↦ inr (omega (arith, first, back)) | inr second ↦ inl second ] in
-            ap here (grown-taken part whole k x taken) ∙ grown-taken part whole k (whole x) turned_round ∙ back
-        | inr left ↦
-            let is = grown-left part whole k x left.0 left.1 in
-            elim (is_part x x_below) [
-              | inl same ↦
-                  let whole_back : whole (part x) ≡ x = ap whole same ∙ back in
-                  ap here is
-                  ∙ grown-left part whole k (part x) (omega (arith, same, left.1)) (omega (arith, whole_back, left.0))
-                  ∙ pairing.back x x_below
-              | inr is_alone ↦ ap here (is ∙ is_alone) ∙ is ∙ is_alone
-            ]
-      ];
-}
+IsPairing-grown m part whole k pairing whole_pairing is_part = grind (arith, nat_tests)
 
 -- no arc is added at k
 grown-same : (m : ℕ) (part whole : ℕ → ℕ) (k : ℕ) → IsPairing m part → IsPairing m whole → k < m
     → grown part whole k k ≡ whole k → (x : ℕ) → x < m → grown part whole (k + 1) x ≡ grown part whole k x
-grown-same m part whole k pairing whole_pairing k_below same x x_below =
-    let back = whole_pairing.back x x_below in
-    elim (taken_or_left x (whole x) k) [
-      | inl taken ↦
-          let later : (x < k + 1) ⊎ (whole x < k + 1) =
-          elim taken [ inl first ↦ inl (omega (arith, first)) | inr second ↦ inr (omega (arith, second)) ] in
-          grown-taken part whole (k + 1) x later ∙ sym (grown-taken part whole k x taken)
-      | inr left ↦
-          let before = grown-left part whole k x left.0 left.1 in
-          elim (taken_or_left x (whole x) (k + 1)) [
-            | inr still ↦ grown-left part whole (k + 1) x still.0 still.1 ∙ sym before
-            | inl now ↦
-                elim (cases_eq x k) [
-                  | inl is_k ↦
-                      grown-taken part whole (k + 1) x now ∙ ap whole is_k ∙ sym same ∙ ap (λ z. grown part whole k z) (sym is_k)
-                  | inr not_k ↦
-                      let whole_is : whole x ≡ k =
-                      elim now [
-                        | inl first ↦ absurd (omega (arith, first, left.0, not_k))
-                        | inr second ↦ omega (arith, second, left.1)
-                      ] in
-                      let is_x : whole k ≡ x = ap whole (sym whole_is) ∙ back in
-                      let part_k : part k ≡ x =
-                      sym (grown-left part whole k k (omega arith) (omega (arith, is_x, left.0))) ∙ same ∙ is_x in
-                      let part_x : part x ≡ k = ap part (sym part_k) ∙ pairing.back k k_below in
-                      grown-taken part whole (k + 1) x now ∙ whole_is ∙ sym part_x ∙ sym before
-                ]
-          ]
-    ]
+grown-same m part whole k pairing whole_pairing k_below same x x_below = grind (arith, nat_tests)
 
 -- a dart of an arc that the part has not is open in the part, and so is its partner in the whole
 open-dart : (m : ℕ) (part whole : ℕ → ℕ) (x : ℕ) → IsPart m part whole → x < m → part x ≢ whole x → part x ≡ x
@@ -113,55 +49,16 @@ open-dart m part whole x is_part below differ = elim (is_part x below) [ inl sam
 
 open-partner : (m : ℕ) (part whole : ℕ → ℕ) (x : ℕ) → IsPairing m part → IsPairing m whole → IsPart m part whole → x < m
     → part x ≢ whole x → part (whole x) ≡ whole x
-open-partner m part whole x pairing whole_pairing is_part below differ =
-    let y_below = whole_pairing.below x below in
-    elim (is_part (whole x) y_below) [
-      | inl same ↦
-          let to_x = same ∙ whole_pairing.back x below in
-          absurd (differ (sym (ap part to_x) ∙ pairing.back (whole x) y_below))
-      | inr is ↦ is
-    ]
+open-partner m part whole x pairing whole_pairing is_part below differ = grind (arith, nat_tests)
 
 -- an arc is added between k and its partner
 HasArcMore-grown : (m : ℕ) (part whole : ℕ → ℕ) (k : ℕ) → IsPairing m part → IsPairing m whole → IsPart m part whole → k < m
     → grown part whole k k ≢ whole k → HasArcMore m (grown part whole k) (grown part whole (k + 1)) k (whole k)
-HasArcMore-grown m part whole k pairing whole_pairing is_part k_below differ =
-    let other = whole k in
-    let back = whole_pairing.back k k_below in
-    let other_from : k ≤ other =
-    elim (taken_or_left k other k) [
-      | inl taken ↦ absurd (differ (grown-taken part whole k k taken))
-      | inr left ↦ left.1
-    ] in
-    let is_left = grown-left part whole k k (omega arith) other_from in
-    let apart_there : part k ≢ other = λ same. differ (is_left ∙ same) in
-    let k_open = open-dart m part whole k is_part k_below apart_there in
-    record {
-      dart_below = k_below;
-      other_below = whole_pairing.below k k_below;
-      apart = λ same. apart_there (k_open ∙ same);
-      dart_open = is_left ∙ k_open;
-      other_open = grown-left part whole k other other_from (omega (arith, back))
-          ∙ open-partner m part whole k pairing whole_pairing is_part k_below apart_there;
-      dart_after = grown-taken part whole (k + 1) k (inl (omega arith));
-      other_after = grown-taken part whole (k + 1) other (inr (omega (arith, back))) ∙ back;
-      others = λ x x_below not_k not_other.
-          let not_back : whole x ≢ k = λ same. not_other (sym (whole_pairing.back x x_below) ∙ ap whole same) in
-          elim (taken_or_left x (whole x) (k + 1)) [
-            | inr left ↦
-                grown-left part whole (k + 1) x left.0 left.1
-                ∙ sym (grown-left part whole k x (omega (arith, left.0)) (omega (arith, left.1)))
-            | inl taken ↦
-                let earlier : (x < k) ⊎ (whole x < k) =
-                elim taken [ inl first ↦ inl (omega (arith, first, not_k)) | inr second ↦ inr (omega (arith, second, not_back)) ] in
-                grown-taken part whole (k + 1) x taken ∙ sym (grown-taken part whole k x earlier)
-          ];
-    }
+HasArcMore-grown m part whole k pairing whole_pairing is_part k_below differ = grind (arith, nat_tests)
 
 IsNoNearer-grown : (n : ℕ) (part whole : ℕ → ℕ) (k : ℕ) → IsPairing (4 * n) part → IsPairing (4 * n) whole
     → IsPart (4 * n) part whole → k ≤ 4 * n → IsNoNearer n part (grown part whole k)
-IsNoNearer-grown n part whole zero pairing whole_pairing is_part within =
-    IsNoNearer-same n part (grown part whole 0) (λ x below. grown-left part whole 0 x (omega arith) (omega arith))
+IsNoNearer-grown n part whole zero pairing whole_pairing is_part within = grind (arith, nat_tests, IsNoNearer-same, grown-left)
 IsNoNearer-grown n part whole (suc k) pairing whole_pairing is_part within =
     let e : k + 1 ≡ suc k = omega arith in
     let small : k < 4 * n = omega (arith, within) in
@@ -196,24 +93,12 @@ planar-bound n partner pairing =
 -- what is planar is planar with some of its arcs
 pub IsPlanar-part : (n : ℕ) (part whole : ℕ → ℕ) → IsPairing (4 * n) part → IsPairing (4 * n) whole → IsPart (4 * n) part whole
     → IsPlanar n whole → IsPlanar n part
-IsPlanar-part n part whole pairing whole_pairing is_part planar =
-    omega (arith, planar, IsNoNearer-whole n part whole pairing whole_pairing is_part, planar-bound n part pairing)
+IsPlanar-part n part whole pairing whole_pairing is_part planar = grind (arith, nat_tests, IsNoNearer-whole, planar-bound)
 
 -- a part with one more arc of the whole is a part
 IsPart-more : (m : ℕ) (part after whole : ℕ → ℕ) (dart other : ℕ) → IsPairing m whole → IsPart m part whole
     → HasArcMore m part after dart other → whole dart ≡ other → IsPart m after whole
-IsPart-more m part after whole dart other whole_pairing is_part more is_arc x x_below = elim (ends_or_not dart other x) [
-  | inl is_dart ↦ inl (ap after is_dart ∙ more.dart_after ∙ sym is_arc ∙ ap whole (sym is_dart))
-  | inr beside ↦ elim beside [
-    | inl is_other ↦
-        inl
-        (ap after is_other ∙ more.other_after ∙ sym (whole_pairing.back dart more.dart_below) ∙ ap whole is_arc
-        ∙ ap whole (sym is_other))
-    | inr none ↦
-        let same = more.others x x_below none.0 none.1 in
-        elim (is_part x x_below) [ inl is ↦ inl (same ∙ is) | inr is ↦ inr (same ∙ is) ]
-  ]
-]
+IsPart-more m part after whole dart other whole_pairing is_part more is_arc = grind (arith, nat_tests)
 
 -- of a planar whole, one more arc inside a piece of a part joins two darts of one face
 more-together : (n : ℕ) (part after whole : ℕ → ℕ) (dart other : ℕ) → IsPairing (4 * n) part → IsPairing (4 * n) whole

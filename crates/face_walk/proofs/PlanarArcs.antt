@@ -1,4 +1,5 @@
 -- How near to the sphere one more arc leaves crossings.
+use Rattle.std.proofs.lemmas.Bool.Decides.{nat_tests}
 use Rattle.std.proofs.Common.{◌≡◌, ℕ, inl, inr, ◌+◌, ◌*◌, ◌/◌, ◌<◌, ◌≤◌, ap, arith}
 use Rattle.std.specs.Prelude.{slice_index}
 use Rattle.std.proofs.lemmas.Bool.{cases_eq}
@@ -29,8 +30,7 @@ open_piece_count-merge : (n : ℕ) (partner other : ℕ → ℕ) (dart mate : �
     → AreJoined (open_pieces n partner) (open_pieces n other) (dart / 4) (mate / 4)
     → open_piece_count n partner ≡ open_piece_count n other + 1
 open_piece_count-merge n partner other dart mate pairing dart_below mate_below merge =
-    AreJoined-count n (open_pieces n partner) (open_pieces n other) (dart / 4) (mate / 4) (IsNamed-open_pieces n partner pairing)
-    (crossing-below n dart dart_below) (crossing-below n mate mate_below) merge
+    grind (arith, nat_tests, AreJoined-count, IsNamed-open_pieces, crossing-below)
 
 -- one more arc never brings crossings nearer to the sphere
 pub IsNoNearer-more : (n : ℕ) (before after : ℕ → ℕ) (dart other : ℕ) → IsPairing (4 * n) before

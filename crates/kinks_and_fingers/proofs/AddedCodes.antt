@@ -48,16 +48,13 @@ pub record IsAdded (old new : List (List ℕ)) (rise end low : ℕ → ℕ) (sig
 
 -- an old dart is none of a new crossing
 pub old_or_new : (old : List (List ℕ)) (dart : Dart) (k slot : ℕ) → IsDart old dart → length old < k → dart ≢ dart_with k slot
-old_or_new old dart k slot is past same =
-    let e : dart.crossing ≡ k = ap (λ (d : Dart). d.crossing) same in omega (arith, e, is.crossing.within, past)
+old_or_new old dart k slot is past = grind (arith, nat_tests)
 
 module _ {old new : List (List ℕ)} {rise end low : ℕ → ℕ} {sign : ℕ → Bool}
     (added : IsAdded old new rise end low sign) where
   pub IsArc-of : (y : ℕ) → IsArc old (low y) → IsArc new y
-  IsArc-of y is = record {
-    positive = omega (arith, added.numbers.from y, rise-positive added.numbers (low y) is.positive);
-    within = omega (arith, added.numbers.to y, end-le added.numbers (low y) (arc_count old) is.within, added.count);
-  }
+  IsArc-of y is =
+      grind (arith, nat_tests, rise-positive added.numbers (low y) is.positive, end-le added.numbers (low y) (arc_count old) is.within)
 
   pub IsArc-low : (y : ℕ) → IsArc new y → IsArc old (low y)
   IsArc-low y is = record {
@@ -66,20 +63,13 @@ module _ {old new : List (List ℕ)} {rise end low : ℕ → ℕ} {sign : ℕ �
   }
 
   pub IsDart-old : (dart : Dart) → IsDart old dart → IsDart new dart
-  IsDart-old dart is = record {
-    crossing = record { positive = is.crossing.positive; within = omega (arith, is.crossing.within, added.longer) };
-    slot = is.slot;
-  }
+  IsDart-old dart is = omega arith
 
   pub IsDart-new : (k slot : ℕ) → IsNew old new k → slot < 4 → IsDart new (dart_with k slot)
-  IsDart-new k slot is below =
-      record { crossing = record { positive = omega (arith, is.past); within = is.within }; slot = below }
+  IsDart-new k slot is below = omega arith
 
   pub crossing-cases : (k : ℕ) → IsCrossing new k → IsCrossing old k ⊎ IsNew old new k
-  crossing-cases k is = elim (cases_lt (length old) k) [
-    | inr within ↦ inl (record { positive = is.positive; within = within })
-    | inl past ↦ inr (record { past = past; within = is.within })
-  ]
+  crossing-cases k is = grind (arith, nat_tests, cases_lt (length old) k)
 
   -- what is so of the parts of arcs is so at each slot of a new crossing
   pub new_slot-all : (P : ℕ → Type 0) (k slot : ℕ) → IsNew old new k → slot < 4
@@ -109,18 +99,13 @@ module _ {old new : List (List ℕ)} {rise end low : ℕ → ℕ} {sign : ℕ �
 
   -- the ends of old arcs
   pub tail_dart : (x : ℕ) → HasEnds old x → arc_of new (tail_of old x) ≡ rise x
-  tail_dart x ends =
-      added.tail (tail_of old x) ends.tail.within (false_from_ne_true (is_head old (tail_of old x)) ends.leaves)
-      ∙ ap rise ends.tail.on_arc
+  tail_dart x ends = grind (arith, nat_tests, false_from_ne_true (is_head old (tail_of old x)) ends.leaves)
 
   pub head_dart : (x : ℕ) → HasEnds old x → arc_of new (head_of old x) ≡ end x
   head_dart x ends = added.head (head_of old x) ends.head.within ends.enters ∙ ap end ends.head.on_arc
 
   pub arc_of-uncut : (dart : Dart) → IsDart old dart → rise (arc_of old dart) ≡ end (arc_of old dart) → arc_of new dart ≡ rise (arc_of old dart)
-  arc_of-uncut dart is uncut = elim (cases_Bool (is_head old dart)) [
-    | inl head ↦ added.head dart is head ∙ sym uncut
-    | inr tail ↦ added.tail dart is tail
-  ]
+  arc_of-uncut dart is uncut = grind (arith, nat_tests, cases_Bool (is_head old dart))
 
   -- the sign of any crossing, and whether an arc enters there at a dart
   sign_of : ℕ → Bool

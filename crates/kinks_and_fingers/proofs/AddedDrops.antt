@@ -1,7 +1,7 @@
 -- Where added crossings are dropped the old code is left, each arc under the first of its numbers: so both codes have one state sum.
 use Rattle.std.proofs.lemmas.Bool.Decides.{nat_tests}
-use Rattle.std.proofs.Common.{◌≡◌, ℕ, zero, suc, inl, inr, ◌+◌, ◌-◌, ◌^◌, ◌<◌, ◌≤◌, ◌∙◌, ℤ, List, [], ◌∷◌, ◌++◌, length, map, refl, sym, ap, ap₂, subst, arith, Bool, true, false, cond, not, ◌&&◌, count_by, eqb-true}
-use Rattle.std.specs.Prelude.{nat_eq, slice_index}
+use Rattle.std.proofs.Common.{◌≡◌, ℕ, zero, suc, inl, inr, ◌+◌, ◌-◌, ◌^◌, ◌<◌, ◌≤◌, ◌∙◌, ℤ, List, ◌++◌, length, map, refl, sym, ap, ap₂, subst, arith, Bool, true, false, not, ◌&&◌, count_by, eqb-true}
+use Rattle.std.specs.Prelude.{slice_index}
 use Rattle.std.specs.List.{filter, range_with_len}
 use Rattle.std.proofs.lemmas.Bool.{both_ways, cases_eq, cases_lt, cases_Bool}
 use Rattle.std.proofs.lemmas.List.{map-id, append-nil}
@@ -72,33 +72,11 @@ joined-over f slots positive same = grind (arith, nat_tests)
 -- a smoothing under other names
 smoothing-named : (f g : ℕ → ℕ) (b : ℕ) (slots others : List ℕ) → ((slot : ℕ) → slot < 4 → arc_in others slot ≡ g (arc_in slots slot))
     → Respects f (smoothing_of b others) → Respects (λ x. f (g x)) (smoothing_of b slots)
-smoothing-named f g b slots others names = by (nat_eq b 0)
-  where
-    at : (slot other : ℕ) → slot < 4 → other < 4 → f (arc_in others slot) ≡ f (arc_in others other)
-        → f (g (arc_in slots slot)) ≡ f (g (arc_in slots other))
-    at slot other below other_below same = sym (ap f (names slot below)) ∙ same ∙ ap f (names other other_below)
-
-    by : (t : Bool) → Respects f (cond t ((arc_in others 0, arc_in others 1) ∷ (arc_in others 2, arc_in others 3) ∷ [])
-        ((arc_in others 0, arc_in others 3) ∷ (arc_in others 1, arc_in others 2) ∷ []))
-        → Respects (λ x. f (g x)) (cond t ((arc_in slots 0, arc_in slots 1) ∷ (arc_in slots 2, arc_in slots 3) ∷ [])
-        ((arc_in slots 0, arc_in slots 3) ∷ (arc_in slots 1, arc_in slots 2) ∷ []))
-    by true holds = (at 0 1 (omega arith) (omega arith) holds.0, (at 2 3 (omega arith) (omega arith) holds.1.0, tt))
-    by false holds = (at 0 3 (omega arith) (omega arith) holds.0, (at 1 2 (omega arith) (omega arith) holds.1.0, tt))
+smoothing-named f g b slots others names has6 = grind (arith, nat_tests)
 
 named-smoothing : (f g : ℕ → ℕ) (b : ℕ) (slots others : List ℕ) → ((slot : ℕ) → slot < 4 → arc_in others slot ≡ g (arc_in slots slot))
     → Respects (λ x. f (g x)) (smoothing_of b slots) → Respects f (smoothing_of b others)
-named-smoothing f g b slots others names = by (nat_eq b 0)
-  where
-    at : (slot other : ℕ) → slot < 4 → other < 4 → f (g (arc_in slots slot)) ≡ f (g (arc_in slots other))
-        → f (arc_in others slot) ≡ f (arc_in others other)
-    at slot other below other_below same = ap f (names slot below) ∙ same ∙ sym (ap f (names other other_below))
-
-    by : (t : Bool) → Respects (λ x. f (g x)) (cond t ((arc_in slots 0, arc_in slots 1) ∷ (arc_in slots 2, arc_in slots 3) ∷ [])
-        ((arc_in slots 0, arc_in slots 3) ∷ (arc_in slots 1, arc_in slots 2) ∷ []))
-        → Respects f (cond t ((arc_in others 0, arc_in others 1) ∷ (arc_in others 2, arc_in others 3) ∷ [])
-        ((arc_in others 0, arc_in others 3) ∷ (arc_in others 1, arc_in others 2) ∷ []))
-    by true holds = (at 0 1 (omega arith) (omega arith) holds.0, (at 2 3 (omega arith) (omega arith) holds.1.0, tt))
-    by false holds = (at 0 3 (omega arith) (omega arith) holds.0, (at 1 2 (omega arith) (omega arith) holds.1.0, tt))
+named-smoothing f g b slots others names has6 = grind (arith, nat_tests)
 
 -- the crossings that were added are gone, and the old ones stay
 pub record AreAddedGone (old new : List (List ℕ)) (gone : ℕ → Bool) : Type 0 where
@@ -204,10 +182,7 @@ module _ {old new : List (List ℕ)} {rise end low : ℕ → ℕ} {sign : ℕ �
 
   -- an old crossing stays with the first numbers of its arcs
   pub old-names : (place slot : ℕ) → place < length old → slot < 4 → names (arc_by_place new place slot) ≡ rise (arc_by_place old place slot)
-  old-names place slot below slot_below =
-      names-added (arc_by_place new place slot)
-      (arc_by_place-below new place slot twice (omega (arith, below, added.longer)) slot_below)
-      ∙ ap rise (low-old place slot below slot_below)
+  old-names place slot below slot_below = grind (arith, nat_tests, names-added, arc_by_place-below, twice, low-old)
 
   kept-arc : (place slot : ℕ) → place < length old → slot < 4 → arc_by_place kept place slot ≡ rise (arc_by_place old place slot)
   kept-arc place slot below slot_below =
@@ -243,8 +218,7 @@ module _ {old new : List (List ℕ)} {rise end low : ℕ → ℕ} {sign : ℕ �
       (subst (λ (z : ℕ). IsArc old z) (sym here) is, ap rise here ∙ sym at)) holds
 
   rise-below : (x : ℕ) → x < arc_count old + 1 → rise x < arc_count new + 1
-  rise-below x below =
-      omega (arith, rise-le_end added.numbers x, end-le added.numbers x (arc_count old) (omega (arith, below)), added.count)
+  rise-below x below = grind (arith, nat_tests, rise-le_end added.numbers x, end-le added.numbers x (arc_count old) (omega (arith, below)))
 
   standing-count : count_by (stands_in kept) (range_with_len 0 (arc_count new + 1)) ≡ arc_count old
   standing-count =

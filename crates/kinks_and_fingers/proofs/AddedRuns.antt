@@ -1,5 +1,5 @@
 -- A code to which crossings were added has runs: each old component is a run on the new numbers.
-use Rattle.std.proofs.Common.{◌≡◌, ◌≢◌, ℕ, ◌⊎◌, inl, inr, ◌+◌, ◌-◌, ◌%◌, ◌<◌, ◌≤◌, ◌∙◌, List, refl, sym, ap, subst, arith, Bool, true, false, not}
+use Rattle.std.proofs.Common.{◌≡◌, ◌≢◌, ℕ, ◌⊎◌, inl, inr, ◌+◌, ◌-◌, ◌<◌, ◌≤◌, ◌∙◌, List, refl, sym, ap, subst, arith, Bool, true, false, not}
 use Rattle.std.specs.Prelude.{nat_eq, min, if◌then◌else◌}
 use Rattle.std.specs.List.{flat_map}
 use Rattle.std.proofs.lemmas.Bool.{cases_eq, cases_Bool}
@@ -44,17 +44,7 @@ zero_apart crossings x directed is none =
 -- the pass across an old crossing from a head
 HasPass-old : (crossings new : List (List ℕ)) (dart : Dart) (u v : ℕ) → is_head crossings dart ≡ true
     → arc_of new dart ≡ u → arc_of new (across dart) ≡ v → HasPass new u v (dart.crossing - 1)
-HasPass-old crossings new dart u v head from to =
-    let place = dart.crossing - 1 in
-    let here = λ (slot : ℕ) (same : dart.slot ≡ slot). ap (λ s. arc_at new place s) (sym same) ∙ from in
-    let there = λ (slot : ℕ) (same : (dart.slot + 2) % 4 ≡ slot). ap (λ s. arc_at new place s) (sym same) ∙ to in
-    elim (head-cases crossings dart head) [
-      | inl none ↦ inl (here 0 none, there 2 (omega (arith, none)))
-      | inr over ↦ elim over [
-        | inl positive ↦ inr (inr (here 3 positive.1, there 1 (omega (arith, positive.1))))
-        | inr negative ↦ inr (inl (here 1 negative.1, there 3 (omega (arith, negative.1))))
-      ]
-    ]
+HasPass-old crossings new dart u v head from to = grind (arith, nat_tests, arc_at, head-cases)
 
 -- the over pass of a crossing
 HasPass-over : (crossings : List (List ℕ)) (k : ℕ) (positive : Bool) (s t : ℕ) → arc_in (slots_of crossings k) (over_from positive) ≡ s
@@ -114,8 +104,7 @@ module _ {old new : List (List ℕ)} {rise end low : ℕ → ℕ} {sign : ℕ �
       }
     where
       step : (u v y : ℕ) → u ≡ y → v ≡ y + 1 → IsStep first y (y + 1) → IsStep first u v
-      step u v y is_u is_v one =
-          subst (λ (z : ℕ). IsStep first z v) (sym is_u) (subst (λ (z : ℕ). IsStep first y z) (sym is_v) one)
+      step u v y is_u is_v one = grind (arith, nat_tests, IsStep)
 
       either : (positive : Bool) (slots : List ℕ) → IsStep first (arc_in slots (over_from positive)) (arc_in slots (over_to positive))
           → IsStep first (arc_in slots 1) (arc_in slots 3) ⊎ IsStep first (arc_in slots 3) (arc_in slots 1)

@@ -22,7 +22,7 @@ use Rattle.code_passes.proofs.LabelCounts.{find-none_at}
 use Rattle.code_passes.proofs.SignRules.{find-first}
 use Rattle.kinks_and_fingers.specs.FingerAdd.{dart_with}
 use Rattle.kinks_and_fingers.proofs.PassEnds.{over_from, over_to}
-use Rattle.kinks_and_fingers.proofs.RisenNumbers.{rise-injective, rise-le_end, rise-less, rise-le, low-between}
+use Rattle.kinks_and_fingers.proofs.RisenNumbers.{rise-le_end, rise-less, rise-le, low-between}
 use Rattle.kinks_and_fingers.proofs.AddedCodes.{IsNew, IsAdded, arc_of-uncut}
 use Rattle.kinks_and_fingers.proofs.AddedRuns.{first_number, first-rise, first-end, IsStep-across, IsStep-inner}
 use Rattle.kinks_and_fingers.proofs.AddedSizes.{IsDirected-added, component-added, next-added, size-grows, size-three, size-new}
@@ -73,8 +73,7 @@ find-alike : (p q : ℕ → Bool) (a n : ℕ) → ((k : ℕ) → a ≤ k → k <
     → find p (range_with_len a n) ≡ find q (range_with_len a n)
 find-alike p q a zero alike = refl
 find-alike p q a (suc n) alike =
-    ap (λ b. cond b (Some a) (find p (range_with_len (a + 1) n))) (alike a (omega arith) (omega arith))
-    ∙ ap (λ o. cond (q a) (Some a) o) (find-alike p q (a + 1) n (λ k from below. alike k (omega (arith, from)) (omega (arith, below))))
+    grind (arith, nat_tests, find-alike p q (a + 1) n (λ k from below. alike k (omega (arith, from)) (omega (arith, below))))
 
 find-longer : (p q : ℕ → Bool) (a n m : ℕ) → ((k : ℕ) → a ≤ k → k < a + n → q k ≡ p k)
     → ((k : ℕ) → a + n ≤ k → k < a + n + m → q k ≡ false) → find q (range_with_len a (n + m)) ≡ find p (range_with_len a n)
@@ -103,13 +102,7 @@ module _ {old new : List (List ℕ)} {rise end low : ℕ → ℕ} {sign : ℕ �
   ]
 
   nat_eq-rise : (x y : ℕ) → nat_eq (rise x) (rise y) ≡ nat_eq x y
-  nat_eq-rise x y = elim (cases_eq x y) [
-    | inl same ↦ eq-eqb (rise x) (rise y) (ap rise same) ∙ sym (eq-eqb x y same)
-    | inr apart ↦
-        false_from_ne_true (nat_eq (rise x) (rise y))
-        (λ holds. apart (rise-injective added.numbers x y (eqb-true (rise x) (rise y) holds)))
-        ∙ sym (false_from_ne_true (nat_eq x y) (λ holds. apart (eqb-true x y holds)))
-  ]
+  nat_eq-rise x y = grind (arith, nat_tests)
 
   nat_lt-rise : (x y : ℕ) → nat_lt (rise x) (rise y) ≡ nat_lt x y
   nat_lt-rise x y = elim (cases_lt x y) [
@@ -176,9 +169,7 @@ module _ {old new : List (List ℕ)} {rise end low : ℕ → ℕ} {sign : ℕ �
       ]
 
       three_small : size_at new (arc_of new (dart_with k 3)) ≤ 2
-      three_small =
-          subst (λ (c : ℕ). arcs_in (components_of new) c ≤ 2)
-          (one_is ∙ ap rise (sym three_at) ∙ sym (component-old (dart_with k 3) (dart 3 (omega arith)))) small
+      three_small = grind (arith, nat_tests, one_is, three_at, component-old (dart_with k 3) (dart 3 (omega arith)), dart 3 (omega arith))
 
       one_there : arc_of new (dart_with k 1) ≡ rise one
       one_there = arc_of-small (dart_with k 1) (dart 1 (omega arith)) small
@@ -206,22 +197,13 @@ module _ {old new : List (List ℕ)} {rise end low : ℕ → ℕ} {sign : ℕ �
           ))
 
       under_same : first_under new (components_of new) g ≡ first_under old (components_of old) f
-      under_same =
-          ap (λ n. find (passes_under new (components_of new) g) (range_with_len 1 n)) count
-          ∙ find-longer (passes_under old (components_of old) f) (passes_under new (components_of new) g) 1 (length old) m
-          (λ j from below. old_pass 0 j (omega arith) from below) (λ j from below. new_pass 0 j (omega arith) from below)
+      under_same = grind (arith, nat_tests, g, find-longer, f, old_pass, new_pass)
 
       over_same : first_over new (components_of new) g ≡ first_over old (components_of old) f
-      over_same =
-          ap (λ n. find (passes_over new (components_of new) g) (range_with_len 1 n)) count
-          ∙ find-longer (passes_over old (components_of old) f) (passes_over new (components_of new) g) 1 (length old) m
-          (λ j from below. old_pass 1 j (omega arith) from below) (λ j from below. new_pass 1 j (omega arith) from below)
+      over_same = grind (arith, nat_tests, g, find-longer, f, old_pass, new_pass)
 
       order_same : (is_first : Bool) → is_positive_by_order (slots_of new k) is_first ≡ is_positive_by_order (slots_of old k) is_first
-      order_same is_first =
-          ap₂ (λ x y. if is_first then x else y)
-          (ap₂ (λ x y. nat_lt x y) three_there one_there ∙ nat_lt-rise three one)
-          (ap₂ (λ x y. nat_lt x y) one_there three_there ∙ nat_lt-rise one three)
+      order_same is_first = grind (arith, nat_tests, three_there, one_there, nat_lt-rise, three, one)
 
       by : (under : Option ℕ) → first_under old (components_of old) f ≡ under → (over : Option ℕ)
           → first_over old (components_of old) f ≡ over → is_positive new k ≡ is_positive old k
@@ -233,9 +215,7 @@ module _ {old new : List (List ℕ)} {rise end low : ℕ → ℕ} {sign : ℕ �
           (record { crossing = record { positive = within.from; within = omega (arith, within.below) }; slot = omega arith })
           (is_head-across old (dart_with j 0) (omega arith)))
           ∙ nat_eq-rise three (arc_of old (dart_with j 2)) ∙ sym (is_positive-under old k j old_small found)
-      by None none (Some j) found =
-          is_positive-order new k j small (under_same ∙ none) (over_same ∙ found) ∙ order_same (nat_eq j k)
-          ∙ sym (is_positive-order old k j old_small none found)
+      by None none (Some j) found = grind (arith, nat_tests, is_positive-order, under_same, over_same, order_same, old_small)
       by None none None nowhere = absurd (both (find-none_at (passes_over old (components_of old) f) 1 (length old) k nowhere is.positive (omega (arith, is.within))) (eq-eqb f f refl))
         where
           both : nat_eq f f ≡ false → nat_eq f f ≡ true → ⊥

@@ -1,6 +1,6 @@
 -- What the smoothings of a crossing and its passes join, by its slots from one on; those of two crossings apart from all others.
 use Rattle.std.proofs.lemmas.Bool.Decides.{nat_tests}
-use Rattle.std.proofs.Common.{◌≡◌, ◌≢◌, ℕ, zero, suc, ◌⊎◌, inl, inr, ◌+◌, ◌*◌, ◌%◌, ◌<◌, ◌≤◌, ◌∙◌, List, [], ◌∷◌, ◌++◌, sym, ap, subst, arith, refl, Bool, true, false, cond, ◌||◌, length, eq-eqb, eqb-true}
+use Rattle.std.proofs.Common.{◌≡◌, ◌≢◌, ℕ, ◌⊎◌, inl, inr, ◌+◌, ◌*◌, ◌%◌, ◌<◌, ◌≤◌, ◌∙◌, List, [], ◌∷◌, ◌++◌, sym, ap, subst, arith, refl, Bool, true, false, cond, ◌||◌, length, eq-eqb, eqb-true}
 use Rattle.std.specs.Prelude.{nat_eq}
 use Rattle.std.specs.List.{AllByRecursion}
 use Rattle.std.proofs.lemmas.Bool.{cases_Bool, cases_eq, ne_eqb}
@@ -21,7 +21,7 @@ use Rattle.kinks_and_fingers.proofs.OldDarts.{partner-named, arc_of_dart-in}
 use Rattle.kinks_and_fingers.specs.Drops.{straight_pairs, is_of_two}
 use Rattle.kinks_and_fingers.specs.DropCircles.{joined_at, outer_pairs, through_at, closing_at}
 use Rattle.kinks_and_fingers.proofs.KeptCodes.{all-gone, gone-all}
-use Rattle.kinks_and_fingers.proofs.SmoothingPairs.{smoothings-all, smoothings-each, outer-all, outer-each, joined-below, passes-low, smoothing-zero, smoothing-one, to-zero, to-one, all_first, all_second}
+use Rattle.kinks_and_fingers.proofs.SmoothingPairs.{smoothings-all, smoothings-each, outer-all, outer-each, joined-below, passes-low, all_first, all_second}
 
 -- a test of two that fails
 pub or-false : (a b : Bool) → (a || b) ≡ false → (a ≡ false) × (b ≡ false)
@@ -29,13 +29,7 @@ or-false a b fails = grind (arith, nat_tests)
 
 -- what holds of the four darts' names at each crossing that stays holds of its smoothing
 pub marked : (f : ℕ → ℕ) (b : ℕ) (slots : List ℕ) → ((slot : ℕ) → slot < 4 → f (arc_in slots slot) ≡ 0) → Respects f (smoothing_of b slots)
-marked f b slots at = by (nat_eq b 0)
-  where
-    by : (t : Bool)
-        → Respects f (cond t ((arc_in slots 0, arc_in slots 1) ∷ (arc_in slots 2, arc_in slots 3) ∷ [])
-        ((arc_in slots 0, arc_in slots 3) ∷ (arc_in slots 1, arc_in slots 2) ∷ []))
-    by true = (at 0 (omega arith) ∙ sym (at 1 (omega arith)), (at 2 (omega arith) ∙ sym (at 3 (omega arith)), tt))
-    by false = (at 0 (omega arith) ∙ sym (at 3 (omega arith)), (at 1 (omega arith) ∙ sym (at 2 (omega arith)), tt))
+marked f b slots at = grind (arith, nat_tests)
 
 -- a name stands at two darts alone
 pub named-own : (crossings : List (List ℕ)) (s place slot : ℕ) → HasArcsTwice crossings → s < 4 * length crossings → place < length crossings
@@ -59,62 +53,35 @@ named-own crossings s place slot twice s_below below slot_below same =
 
 pub closing-joined : (f : ℕ → ℕ) (slots : List ℕ) (p b : ℕ) → p < 4 → b ≡ closing_at p → Respects f (smoothing_of b slots)
     → (f (arc_in slots p) ≡ f (arc_in slots ((p + 1) % 4))) × (f (arc_in slots ((p + 2) % 4)) ≡ f (arc_in slots ((p + 3) % 4)))
-closing-joined f slots zero b below is respects = let z = smoothing-zero f slots b is respects in (z.0, z.1)
-closing-joined f slots (suc zero) b below is respects = let o = smoothing-one f slots b is respects in (o.1, sym o.0)
-closing-joined f slots (suc (suc zero)) b below is respects = let z = smoothing-zero f slots b is respects in (z.1, z.0)
-closing-joined f slots (suc (suc (suc zero))) b below is respects = let o = smoothing-one f slots b is respects in (sym o.0, o.1)
-closing-joined f slots (suc (suc (suc (suc p)))) b below is respects = absurd (omega (arith, below))
+closing-joined f slots p b below is respects = grind (arith, nat_tests)
 
 pub joined-closing : (f : ℕ → ℕ) (slots : List ℕ) (p b : ℕ) → p < 4 → b ≡ closing_at p
     → f (arc_in slots p) ≡ f (arc_in slots ((p + 1) % 4)) → f (arc_in slots ((p + 2) % 4)) ≡ f (arc_in slots ((p + 3) % 4))
     → Respects f (smoothing_of b slots)
-joined-closing f slots zero b below is first second = to-zero f slots b is first second
-joined-closing f slots (suc zero) b below is first second = to-one f slots b is (sym second) first
-joined-closing f slots (suc (suc zero)) b below is first second = to-zero f slots b is second first
-joined-closing f slots (suc (suc (suc zero))) b below is first second = to-one f slots b is (sym first) second
-joined-closing f slots (suc (suc (suc (suc p)))) b below is first second = absurd (omega (arith, below))
+joined-closing f slots p b below is first second = grind (arith, nat_tests)
 
 pub through-joined : (f : ℕ → ℕ) (slots : List ℕ) (p b : ℕ) → p < 4 → b ≡ through_at p → Respects f (smoothing_of b slots)
     → (f (arc_in slots ((p + 1) % 4)) ≡ f (arc_in slots ((p + 2) % 4))) × (f (arc_in slots ((p + 3) % 4)) ≡ f (arc_in slots p))
-through-joined f slots zero b below is respects = let o = smoothing-one f slots b is respects in (o.1, sym o.0)
-through-joined f slots (suc zero) b below is respects = let z = smoothing-zero f slots b is respects in (z.1, z.0)
-through-joined f slots (suc (suc zero)) b below is respects = let o = smoothing-one f slots b is respects in (sym o.0, o.1)
-through-joined f slots (suc (suc (suc zero))) b below is respects = let z = smoothing-zero f slots b is respects in (z.0, z.1)
-through-joined f slots (suc (suc (suc (suc p)))) b below is respects = absurd (omega (arith, below))
+through-joined f slots p b below is respects = grind (arith, nat_tests)
 
 pub joined-through : (f : ℕ → ℕ) (slots : List ℕ) (p b : ℕ) → p < 4 → b ≡ through_at p
     → f (arc_in slots ((p + 1) % 4)) ≡ f (arc_in slots ((p + 2) % 4)) → f (arc_in slots ((p + 3) % 4)) ≡ f (arc_in slots p)
     → Respects f (smoothing_of b slots)
-joined-through f slots zero b below is first second = to-one f slots b is (sym second) first
-joined-through f slots (suc zero) b below is first second = to-zero f slots b is second first
-joined-through f slots (suc (suc zero)) b below is first second = to-one f slots b is (sym first) second
-joined-through f slots (suc (suc (suc zero))) b below is first second = to-zero f slots b is first second
-joined-through f slots (suc (suc (suc (suc p)))) b below is first second = absurd (omega (arith, below))
+joined-through f slots p b below is first second = grind (arith, nat_tests)
 
 pub straight-pass : (f : ℕ → ℕ) (slots : List ℕ) (p : ℕ) → p < 4 → Respects f (passes_of slots)
     → (f (arc_in slots p) ≡ f (arc_in slots ((p + 2) % 4))) × (f (arc_in slots ((p + 1) % 4)) ≡ f (arc_in slots ((p + 3) % 4)))
-straight-pass f slots zero below respects = (respects.0, respects.1.0)
-straight-pass f slots (suc zero) below respects = (respects.1.0, sym respects.0)
-straight-pass f slots (suc (suc zero)) below respects = (sym respects.0, sym respects.1.0)
-straight-pass f slots (suc (suc (suc zero))) below respects = (sym respects.1.0, respects.0)
-straight-pass f slots (suc (suc (suc (suc p)))) below respects = absurd (omega (arith, below))
+straight-pass f slots p below respects = grind (arith, nat_tests)
 
 pub pass-straight : (f : ℕ → ℕ) (slots : List ℕ) (p : ℕ) → p < 4 → f (arc_in slots p) ≡ f (arc_in slots ((p + 2) % 4))
     → f (arc_in slots ((p + 1) % 4)) ≡ f (arc_in slots ((p + 3) % 4)) → Respects f (passes_of slots)
-pass-straight f slots zero below first second = (first, (second, tt))
-pass-straight f slots (suc zero) below first second = (sym second, (first, tt))
-pass-straight f slots (suc (suc zero)) below first second = (sym first, (sym second, tt))
-pass-straight f slots (suc (suc (suc zero))) below first second = (second, (sym first, tt))
-pass-straight f slots (suc (suc (suc (suc p)))) below first second = absurd (omega (arith, below))
+pass-straight f slots p below first second = grind (arith, nat_tests)
 
 -- lists of pairs with a few pairs at their end
 
 pub packed : (P : ℕ × ℕ → Type 0) (outer : List (ℕ × ℕ)) (e1 e2 l1 l2 : ℕ × ℕ) → AllByRecursion P outer → P e1 → P e2 → P l1 → P l2
     → AllByRecursion P (((outer ++ e1 ∷ e2 ∷ []) ++ l1 ∷ []) ++ l2 ∷ [])
-packed P outer e1 e2 l1 l2 holds one two three four =
-    AllByRecursion-append P ((outer ++ e1 ∷ e2 ∷ []) ++ l1 ∷ []) (l2 ∷ [])
-    (AllByRecursion-append P (outer ++ e1 ∷ e2 ∷ []) (l1 ∷ [])
-    (AllByRecursion-append P outer (e1 ∷ e2 ∷ []) holds (one, (two, tt))) (three, tt)) (four, tt)
+packed P outer e1 e2 l1 l2 holds one two three four = grind (arith, nat_tests, AllByRecursion-append)
 
 pub record Unpacked (P : ℕ × ℕ → Type 0) (outer : List (ℕ × ℕ)) (e1 e2 l1 l2 : ℕ × ℕ) : Type 0 where
   pub outer_holds : AllByRecursion P outer
@@ -153,23 +120,14 @@ mark-own v = ap (λ t. cond t 1 0) (eq-eqb v v refl)
 pub count-leaf : (n : ℕ) (pairs : List (ℕ × ℕ)) (a b : ℕ) → AreBelow n pairs → Respects (λ z. mark a z) pairs → a < n → b < n → b ≢ a
     → class_count (classes_of n pairs) ≡ class_count (classes_of n (pairs ++ (a, b) ∷ [])) + 1
 count-leaf n pairs a b below respects a_below b_below apart =
-    class_count-apart n pairs (a, b) below a_below b_below
-    (λ same.
-    let found = classes-finest (λ z. mark a z) n pairs respects below a b a_below b_below same in
-    let one_zero : 1 ≡ 0 = sym (mark-own a) ∙ found ∙ mark-off a b apart in
-    omega (arith, one_zero))
+    grind (arith, nat_tests, class_count-apart, classes-finest, mark-own, mark-off)
 
 -- two such names
 pub count-leaves : (n : ℕ) (pairs : List (ℕ × ℕ)) (a s b t : ℕ) → AreBelow n pairs → Respects (λ z. mark a z) pairs
     → Respects (λ z. mark b z) pairs → a < n → s < n → b < n → t < n → s ≢ a → t ≢ b → a ≢ b → s ≢ b
     → class_count (classes_of n pairs) ≡ class_count (classes_of n ((pairs ++ (a, s) ∷ []) ++ (b, t) ∷ [])) + 2
 count-leaves n pairs a s b t below a_free b_free a_below s_below b_below t_below s_a t_b a_b s_b =
-    let first = count-leaf n pairs a s below a_free a_below s_below s_a in
-    let more = AllByRecursion-append (λ pair. (pair.0 < n) × (pair.1 < n)) pairs ((a, s) ∷ []) below ((a_below, s_below), tt) in
-    let second = count-leaf n (pairs ++ (a, s) ∷ []) b t more
-    (AllByRecursion-append (λ pair. mark b pair.0 ≡ mark b pair.1) pairs ((a, s) ∷ []) b_free
-    (mark-off b a a_b ∙ sym (mark-off b s s_b), tt)) b_below t_below t_b in
-    omega (arith, first, second)
+    grind (arith, nat_tests, count-leaf, AllByRecursion-append, mark-off)
 
 -- all smoothings, with those of two crossings apart
 

@@ -1,5 +1,6 @@
 -- Where crossings are dropped, components and loops together stay.
-use Rattle.std.proofs.Common.{◌≡◌, ℕ, zero, suc, inl, inr, ◌+◌, ◌<◌, ◌∙◌, List, [], ◌∷◌, ◌++◌, sym, ap, subst, arith, refl, Bool, not, length, map}
+use Rattle.std.proofs.lemmas.Bool.Decides.{nat_tests}
+use Rattle.std.proofs.Common.{◌≡◌, ℕ, zero, suc, inl, inr, ◌+◌, ◌<◌, List, [], ◌∷◌, ◌++◌, ap, subst, arith, refl, Bool, not, length, map}
 use Rattle.std.specs.Prelude.{slice_index}
 use Rattle.std.specs.List.{flat_map, range_with_len, AllByRecursion}
 use Rattle.std.proofs.lemmas.Bool.{cases_Bool}
@@ -36,10 +37,7 @@ passes-renamed : (crossings : List (List ℕ)) (names places : List ℕ)
     → flat_map passes_of (map (λ place. renamed_slots names (slots_in crossings place)) places)
     ≡ renamed (slice_index names) (flat_map (λ place. passes_of (slots_in crossings place)) places)
 passes-renamed crossings names [] = refl
-passes-renamed crossings names (place ∷ places) =
-    ap (λ xs. renamed (slice_index names) (passes_of (slots_in crossings place)) ++ xs) (passes-renamed crossings names places)
-    ∙ sym (map-append (λ (pair : ℕ × ℕ). (slice_index names pair.0, slice_index names pair.1)) (passes_of (slots_in crossings place))
-    (flat_map (λ place. passes_of (slots_in crossings place)) places))
+passes-renamed crossings names (place ∷ places) = grind (arith, nat_tests, map-append, passes-renamed crossings names places)
 
 pub components-dropped : (code : Code) (gone : ℕ → Bool) (kept : ℕ → ℕ) (k : ℕ) → HasArcsTwice code.crossings
     → kept_places code.crossings gone ≡ map kept (range_with_len 0 k) → ((i : ℕ) → i < k → kept i < length code.crossings)

@@ -1,5 +1,6 @@
 -- What is left where crossings are dropped follows the rule, and nothing else does.
-use Rattle.std.proofs.Common.{◌≡◌, ℕ, zero, suc, inl, inr, ◌+◌, ◌<◌, ◌≤◌, ◌∙◌, List, [], ◌∷◌, length, refl, sym, ap₂, not, ◌&&◌, subst, arith, Bool, cond, map, min}
+use Rattle.std.proofs.lemmas.Bool.Decides.{nat_tests}
+use Rattle.std.proofs.Common.{◌≡◌, ℕ, zero, suc, ◌+◌, ◌<◌, ◌≤◌, ◌∙◌, List, [], ◌∷◌, length, refl, sym, ap₂, not, ◌&&◌, arith, Bool, map, min}
 use Rattle.std.specs.Prelude.{slice_index, nat_eq}
 use Rattle.std.specs.List.{count_by, filter, range_with_len}
 use Rattle.std.proofs.lemmas.Bool.{cases_Bool}
@@ -17,10 +18,7 @@ use Rattle.kinks_and_fingers.proofs.StandingNames.{arc_by_place-positive}
 -- the slots of a crossing hold arcs
 arc_at : (crossings : List (List ℕ)) (place slot : ℕ) → HasArcsTwice crossings → place < length crossings → slot < 4
     → IsArc crossings (arc_by_place crossings place slot)
-arc_at crossings place slot twice below slot_below = record {
-  positive = arc_by_place-positive crossings place slot twice below slot_below;
-  within = omega (arith, arc_by_place-below crossings place slot twice below slot_below);
-}
+arc_at crossings place slot twice below slot_below = grind (arith, nat_tests, arc_by_place-positive, arc_by_place-below)
 
 -- the classes of the definition are such names
 AreJoinedNames-straight : (crossings : List (List ℕ)) (gone : ℕ → Bool) → HasArcsTwice crossings
@@ -60,36 +58,18 @@ AreJoinedNames-straight crossings gone twice =
     some x y same positive = omega (arith, same, positive)
 
 pub IsLeft-dropped : (code : Code) (gone : ℕ → Bool) → HasArcsTwice code.crossings → IsLeft code gone (dropped code gone)
-IsLeft-dropped code gone twice = record {
-  name = slice_index (straight_names code.crossings gone);
-  names = AreJoinedNames-straight code.crossings gone twice;
-  crossings = refl;
-  signs = refl;
-  loops = refl;
-}
+IsLeft-dropped code gone twice = grind (arith, nat_tests, AreJoinedNames-straight code.crossings gone twice)
 
 -- there are no other names
 pub names-one : (crossings : List (List ℕ)) (gone : ℕ → Bool) (name other : ℕ → ℕ) → AreJoinedNames crossings gone name
     → AreJoinedNames crossings gone other → (arc : ℕ) → IsArc crossings arc → name arc ≡ other arc
-names-one crossings gone name other names others arc is =
-    let first = names.no_others other others.joined (name arc) arc (names.is_arc arc is) is (names.own arc is) in
-    let second = others.no_others name names.joined (other arc) arc (others.is_arc arc is) is (others.own arc is) in
-    let low = others.least (name arc) (names.is_arc arc is) in
-    let high = names.least (other arc) (others.is_arc arc is) in
-    omega (arith, first, second, low, high)
+names-one crossings gone name other names others arc is = grind (arith, nat_tests)
 
 kept-alike : {X : Type 0} (f g : ℕ → X) (p : ℕ → Bool) (a n : ℕ) → ((x : ℕ) → a ≤ x → x < a + n → f x ≡ g x)
     → map f (filter p (range_with_len a n)) ≡ map g (filter p (range_with_len a n))
 kept-alike f g p a zero same = refl
 kept-alike f g p a (suc n) same =
-    let rest = filter p (range_with_len (a + 1) n) in
-    let later = kept-alike f g p (a + 1) n (λ x from below. same x (omega (arith, from)) (omega (arith, below))) in
-    elim (cases_Bool (p a)) [
-      | inl is ↦
-          subst (λ (b : Bool). map f (cond b (a ∷ rest) rest) ≡ map g (cond b (a ∷ rest) rest)) (sym is)
-          (ap₂ (λ y ys. y ∷ ys) (same a (omega arith) (omega arith)) later)
-      | inr is ↦ subst (λ (b : Bool). map f (cond b (a ∷ rest) rest) ≡ map g (cond b (a ∷ rest) rest)) (sym is) later
-    ]
+    grind (arith, nat_tests, cases_Bool, kept-alike f g p (a + 1) n (λ x from below. same x (omega (arith, from)) (omega (arith, below))))
 
 pub left-one : (code : Code) (gone : ℕ → Bool) (parts others : Parts) → HasArcsTwice code.crossings → IsLeft code gone parts
     → IsLeft code gone others → parts ≡ others

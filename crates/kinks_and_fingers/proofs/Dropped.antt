@@ -1,6 +1,6 @@
 -- What is left where crossings are dropped has arcs with two ends each, two colours, and as many faces as on the sphere.
 use Rattle.std.proofs.lemmas.Bool.Decides.{nat_tests}
-use Rattle.std.proofs.Common.{◌≡◌, ℕ, ◌⊎◌, inl, inr, ◌+◌, ◌*◌, ◌/◌, ◌%◌, ◌<◌, ◌∙◌, List, sym, ap, subst, arith, refl, Bool, true, false, not, length}
+use Rattle.std.proofs.Common.{◌≡◌, ℕ, ◌⊎◌, inl, inr, ◌+◌, ◌*◌, ◌/◌, ◌%◌, ◌<◌, ◌∙◌, List, sym, ap, subst, arith, Bool, not, length}
 use Rattle.std.specs.Prelude.{nat_eq}
 use Rattle.kh_types.specs.Directions.{positive_at}
 use Rattle.kh_types.specs.Bits.{bit}
@@ -15,16 +15,13 @@ use Rattle.kinks_and_fingers.proofs.KeptCodes.{block_place, block_slot, length-k
 
 code_head-dartwise : (crossings : List (List ℕ)) (f : ℕ → ℕ) (x : ℕ)
     → is_code_head crossings (dartwise f x) ≡ enters (positive_at crossings (f (x / 4))) (x % 4)
-code_head-dartwise crossings f x =
-    ap (λ q. enters (positive_at crossings q) (dartwise f x % 4)) (block_place (f (x / 4)) x)
-    ∙ ap (λ r. enters (positive_at crossings (f (x / 4))) r) (block_slot (f (x / 4)) x)
+code_head-dartwise crossings f x = grind (arith, nat_tests, dartwise f x, block_place (f (x / 4)) x, block_slot (f (x / 4)) x)
 
 kept-head : (crossings : List (List ℕ)) (gone : ℕ → Bool) (choice k : ℕ) (kept partner : ℕ → ℕ)
     → IsDropped crossings gone choice k kept partner → (x : ℕ) → x < 4 * k
     → is_head_at (kept_signs crossings gone) x ≡ is_code_head crossings (dartwise kept x)
 kept-head crossings gone choice k kept partner is x below =
-    ap (λ b. enters b (x % 4)) (kept-sign crossings gone kept k (x / 4) is.places (omega (arith, below)))
-    ∙ sym (code_head-dartwise crossings kept x)
+    grind (arith, nat_tests, kept-sign crossings gone kept k (x / 4) is.places (omega (arith, below)), code_head-dartwise crossings kept x)
 
 pub IsPlanarBy-dropped : (crossings : List (List ℕ)) (gone : ℕ → Bool) (choice k : ℕ) (kept partner : ℕ → ℕ)
     → IsDropped crossings gone choice k kept partner → IsPlanarBy (kept_crossings crossings gone) partner
@@ -84,27 +81,10 @@ HasTwoEnds-dropped crossings gone choice k kept partner is =
     }
 
 colour-dartwise : (choice : ℕ) (f : ℕ → ℕ) (x : ℕ) → is_colour choice (dartwise f x) ≡ nat_eq ((bit choice (f (x / 4)) + x % 4) % 2) 1
-colour-dartwise choice f x =
-    ap (λ q. nat_eq ((bit choice q + dartwise f x % 4) % 2) 1) (block_place (f (x / 4)) x)
-    ∙ ap (λ r. nat_eq ((bit choice (f (x / 4)) + r) % 2) 1) (block_slot (f (x / 4)) x)
+colour-dartwise choice f x = grind (arith, nat_tests, dartwise f x, block_place (f (x / 4)) x, block_slot (f (x / 4)) x)
 
 odd_sum : (a b : ℕ) → nat_eq (a % 2) 1 ≡ not (nat_eq (b % 2) 1) → (b + a) % 2 ≡ 1
-odd_sum a b differ = elim (parity a) [
-  | inl even ↦ elim (parity b) [
-    | inl b_even ↦ absurd (not_own false (sym (ap (λ r. nat_eq r 1) even) ∙ differ ∙ ap (λ r. not (nat_eq r 1)) b_even ∙ refl_true))
-    | inr b_odd ↦ omega (arith, even, b_odd)
-  ]
-  | inr odd ↦ elim (parity b) [
-    | inl b_even ↦ omega (arith, odd, b_even)
-    | inr b_odd ↦ absurd (not_own true (sym (ap (λ r. nat_eq r 1) odd) ∙ differ ∙ ap (λ r. not (nat_eq r 1)) b_odd))
-  ]
-]
-  where
-    parity : (x : ℕ) → (x % 2 ≡ 0) ⊎ (x % 2 ≡ 1)
-    parity x = grind arith
-
-    refl_true : not (nat_eq 0 1) ≡ not false
-    refl_true = refl
+odd_sum a b differ = grind (arith, nat_tests)
 
 pub HasColours-dropped : (crossings : List (List ℕ)) (gone : ℕ → Bool) (choice k : ℕ) (kept partner : ℕ → ℕ)
     → IsDropped crossings gone choice k kept partner → HasColours (kept_crossings crossings gone) (λ place. bit choice (kept place))

@@ -1,5 +1,5 @@
 -- Two crossings that meet in a bigon are dropped.
-use Rattle.std.proofs.Common.{◌≡◌, ◌≢◌, ℕ, ◌⊎◌, inl, inr, ◌+◌, ◌*◌, ◌/◌, ◌%◌, ◌<◌, ◌≤◌, ◌∙◌, List, [], ◌∷◌, sym, ap, subst, arith, refl, Bool, true, not, ◌||◌, length, map, IsTrue, cond, eqb-true}
+use Rattle.std.proofs.Common.{◌≡◌, ◌≢◌, ℕ, ◌⊎◌, inl, inr, ◌+◌, ◌*◌, ◌/◌, ◌%◌, ◌<◌, ◌≤◌, ◌∙◌, List, [], ◌∷◌, sym, ap, subst, arith, refl, Bool, true, not, ◌||◌, length, map, IsTrue, eqb-true}
 use Rattle.std.specs.Prelude.{nat_eq, slice_index}
 use Rattle.std.specs.List.{filter, range_with_len}
 use Rattle.std.proofs.lemmas.Bool.{cases_Bool}
@@ -107,20 +107,7 @@ crossed-joints {X} g turn crossings c d p q bigon across =
 filter-two : (c d : ℕ) (xs : List ℕ)
     → filter (λ x. not (nat_eq c x || nat_eq d x)) xs ≡ filter (λ x. not (nat_eq d x)) (filter (λ x. not (nat_eq c x)) xs)
 filter-two c d [] = refl
-filter-two c d (x ∷ xs) =
-    let rest = filter-two c d xs in
-    let one = filter (λ x. not (nat_eq c x)) xs in
-    let two = filter (λ x. not (nat_eq d x)) (filter (λ x. not (nat_eq c x)) xs) in
-    let both = filter (λ x. not (nat_eq c x || nat_eq d x)) xs in
-    elim (cases_Bool (nat_eq c x)) [
-      | inl is ↦
-          ap (λ t. cond (not (t || nat_eq d x)) (x ∷ both) both) is ∙ rest
-          ∙ sym (ap (λ t. filter (λ x. not (nat_eq d x)) (cond (not t) (x ∷ one) one)) is)
-      | inr away ↦
-          ap (λ t. cond (not (t || nat_eq d x)) (x ∷ both) both) away
-          ∙ ap (λ ys. cond (not (nat_eq d x)) (x ∷ ys) ys) rest
-          ∙ sym (ap (λ t. filter (λ x. not (nat_eq d x)) (cond (not t) (x ∷ one) one)) away)
-    ]
+filter-two c d (x ∷ xs) = grind (arith, nat_tests, filter-two c d xs, cases_Bool (nat_eq c x))
 
 map-twice : (f g : ℕ → ℕ) (xs : List ℕ) → map f (map g xs) ≡ map (λ x. f (g x)) xs
 map-twice f g [] = refl
@@ -156,8 +143,7 @@ early_dart-in c k d e r is =
     slot_of e r = omega arith
 
 dartwise-twice : (f g : ℕ → ℕ) (x : ℕ) → dartwise f (dartwise g x) ≡ dartwise (λ i. f (g i)) x
-dartwise-twice f g x =
-    ap (λ q. 4 * f q + dartwise g x % 4) (block_place (g (x / 4)) x) ∙ ap (λ r. 4 * f (g (x / 4)) + r) (block_slot (g (x / 4)) x)
+dartwise-twice f g x = grind (arith, nat_tests, dartwise g x, block_place (g (x / 4)) x, block_slot (g (x / 4)) x)
 
 -- what holds across the passes at slots p and p + 1 holds across both passes, in both directions
 across-all : (g : ℕ → ℕ) (c p : ℕ) → g (dart_in c p) ≡ g (dart_in c (p + 2)) → g (dart_in c (p + 1)) ≡ g (dart_in c (p + 3))

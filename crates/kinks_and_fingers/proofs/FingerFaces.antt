@@ -92,13 +92,11 @@ turned-new n k = omega arith
 -- a step to a new dart, and one to an old
 to_new : (n : ℕ) (q c : ℕ → ℕ) (new : List ℕ) (y k at : ℕ) → q y ≡ 4 * n + k → at ≡ slice_index new (turned k)
     → at ≡ label n c new (turned (q y))
-to_new n q c new y k at is same =
-    same ∙ sym (label-new n c new (turned k)) ∙ ap (λ z. label n c new z) (sym (turned-new n k)) ∙ ap (λ z. label n c new (turned z)) (sym is)
+to_new n q c new y k at is same = grind (arith, nat_tests, label-new n c new (turned k), turned-new n k)
 
 to_old : (n : ℕ) (q c : ℕ → ℕ) (new : List ℕ) (y z at : ℕ) → z < 4 * n → q y ≡ z → at ≡ c (turned z)
     → at ≡ label n c new (turned (q y))
-to_old n q c new y z at below is same =
-    same ∙ sym (label-old n c new (turned z) (omega (arith, below))) ∙ ap (λ w. label n c new (turned w)) (sym is)
+to_old n q c new y z at below is same = grind (arith, nat_tests, label-old n c new (turned z) (omega (arith, below)))
 
 below_eight : (P : ℕ → Type 0) → P 0 → P 1 → P 2 → P 3 → P 4 → P 5 → P 6 → P 7 → (i : ℕ) → i < 8 → P i
 below_eight P p0 p1 p2 p3 p4 p5 p6 p7 zero below = p0

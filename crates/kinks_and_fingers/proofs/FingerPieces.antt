@@ -94,17 +94,7 @@ same-pieces n p q positive ordered ta ha tb hb pairing new_pairing has =
 -- an old piece for each new one
 old-below : (n : ℕ) (p q : ℕ → ℕ) (ta tb y : ℕ) → ta < 4 * n → SamePieces n p q ta tb → IsNamed (n + 2) (open_pieces (n + 2) q) → y < n + 2
     → slice_index (open_pieces (n + 2) q) y ≡ y → y < n
-old-below n p q ta tb y ta_below same named below own = elim (cases_lt y n) [
-  | inl old ↦ old
-  | inr from ↦
-      let least = named.least (ta / 4) (omega (arith, ta_below)) in
-      elim (cases_eq y n) [
-        | inl is ↦ absurd (omega (arith, ap (λ k. slice_index (open_pieces (n + 2) q) k) is, own, same.first, least, is, ta_below))
-        | inr other ↦
-            let is : y ≡ n + 1 = omega (arith, other, from, below) in
-            absurd (omega (arith, ap (λ k. slice_index (open_pieces (n + 2) q) k) is, own, same.second, least, is, ta_below))
-      ]
-]
+old-below n p q ta tb y ta_below same named below own = grind (arith, nat_tests, cases_lt y n, cases_eq y n)
 
 pub pieces-few : (n : ℕ) (p q : ℕ → ℕ) (ta tb : ℕ) → IsPairing (4 * n) p → IsPairing (4 * (n + 2)) q → ta < 4 * n
     → SamePieces n p q ta tb → open_piece_count (n + 2) q ≤ open_piece_count n p

@@ -1,4 +1,5 @@
 -- The slots of a code with a finger.
+use Rattle.std.proofs.lemmas.Bool.Decides.{nat_tests}
 use Rattle.std.proofs.Common.{◌≡◌, ℕ, zero, suc, ◌+◌, ◌-◌, ◌<◌, ◌∙◌, List, [], ◌∷◌, length, refl, sym, ap, subst, arith, Bool, true, false, not}
 use Rattle.std.specs.Prelude.{slice_index_or, if◌then◌else◌}
 use Rattle.std.proofs.lemmas.List.{get_or_append_left, get_or-append-add, get_or-map, length-append, length-map}
@@ -71,16 +72,12 @@ arc_of-old crossings a b positive ordered dart is =
 pub arc_of-head : (crossings : List (List ℕ)) (a b : ℕ) (positive ordered : Bool) (dart : Dart) → IsDart crossings dart
     → is_head crossings dart ≡ true
     → arc_of (fingered_crossings crossings a b positive ordered) dart ≡ head_number a b (arc_of crossings dart)
-arc_of-head crossings a b positive ordered dart is head =
-    arc_of-old crossings a b positive ordered dart is
-    ∙ ap (λ h. if h then head_number a b (arc_of crossings dart) else opened a b (arc_of crossings dart)) head
+arc_of-head crossings a b positive ordered dart is head = grind (arith, nat_tests, arc_of-old crossings a b positive ordered dart is)
 
 pub arc_of-tail : (crossings : List (List ℕ)) (a b : ℕ) (positive ordered : Bool) (dart : Dart) → IsDart crossings dart
     → is_head crossings dart ≡ false
     → arc_of (fingered_crossings crossings a b positive ordered) dart ≡ opened a b (arc_of crossings dart)
-arc_of-tail crossings a b positive ordered dart is tail =
-    arc_of-old crossings a b positive ordered dart is
-    ∙ ap (λ h. if h then head_number a b (arc_of crossings dart) else opened a b (arc_of crossings dart)) tail
+arc_of-tail crossings a b positive ordered dart is tail = grind (arith, nat_tests, arc_of-old crossings a b positive ordered dart is)
 
 -- the numbers on which the under passes of the two new crossings enter
 abbrev pub first_start : Bool → ℕ → ℕ

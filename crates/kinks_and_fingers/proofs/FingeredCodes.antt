@@ -88,8 +88,7 @@ sign-second_is crossings positive = plain (length crossings) positive (not posit
 
 pub IsNew-finger : (crossings : List (List ℕ)) (a b k : ℕ) (positive ordered : Bool) → 1 ≤ k → k ≤ 2
     → IsNew crossings (fingered_crossings crossings a b positive ordered) (length crossings + k)
-IsNew-finger crossings a b k positive ordered from to =
-    record { past = omega (arith, from); within = omega (arith, to, length-fingered crossings a b positive ordered) }
+IsNew-finger crossings a b k positive ordered from to = grind (arith, nat_tests, from, to, length-fingered crossings a b positive ordered)
 
 pub IsAdded-finger : (crossings : List (List ℕ)) (a b : ℕ) (positive ordered : Bool) → AreFingerable crossings a b
     → IsAdded crossings (fingered_crossings crossings a b positive ordered) (opened a b) (head_number a b) (low a b)
@@ -173,9 +172,7 @@ IsAdded-finger crossings a b positive ordered can =
 -- any two arcs of an accepted code
 pub AreFingerable-accepted : (code : Code) (a b : ℕ) → IsTrue (accepted code) → IsArc code.crossings a → IsArc code.crossings b → a ≢ b
     → AreFingerable code.crossings a b
-AreFingerable-accepted code a b holds over under apart =
-    let is = HasNoSingleArcs-accepted code holds in
-    record { directed = is.0; no_single = is.1; over = over; under = under; apart = apart }
+AreFingerable-accepted code a b holds over under apart = grind (arith, nat_tests, HasNoSingleArcs-accepted code holds)
 
 pub IsDirected-fingered : (crossings : List (List ℕ)) (a b : ℕ) (positive ordered : Bool) → AreFingerable crossings a b
     → IsDirected (fingered_crossings crossings a b positive ordered)

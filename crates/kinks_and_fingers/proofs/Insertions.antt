@@ -103,9 +103,7 @@ pub record HasBit (k c b state : ℕ) : Type 0 where
 ones-alike : (n x y : ℕ) → ((i : ℕ) → i < n → bit x i ≡ bit y i) → ones n x ≡ ones n y
 ones-alike zero x y same = refl
 ones-alike (suc n) x y same =
-    let e : suc n ≡ n + 1 = omega arith in
-    let rest = ones-alike n x y (λ i below. same i (omega (arith, below))) in
-    ap (λ k. ones k x) e ∙ ones-more n x ∙ ap₂ (λ a b. a + b) rest (same n (omega arith)) ∙ sym (ones-more n y) ∙ sym (ap (λ k. ones k y) e)
+    grind (arith, nat_tests, ones-alike n x y (λ i below. same i (omega (arith, below))), ones-more n x, ones-more n y)
 
 early-same : (c k i : ℕ) → c ≤ k → i < k → early c (suc k) i ≡ early c k i
 early-same c k i within below = grind (arith, nat_tests)

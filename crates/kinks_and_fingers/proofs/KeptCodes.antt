@@ -28,8 +28,7 @@ use Rattle.kinks_and_fingers.proofs.DroppedDarts.{dartwise, class_name}
 map_range-next : (f : ℕ → ℕ) (a n : ℕ) → ((x : ℕ) → a ≤ x → x < a + n → f x ≡ x + 1) → map f (range_with_len a n) ≡ range_with_len (a + 1) n
 map_range-next f a zero next = refl
 map_range-next f a (suc n) next =
-    ap (λ x. x ∷ map f (range_with_len (a + 1) n)) (next a (omega arith) (omega arith))
-    ∙ ap (λ xs. (a + 1) ∷ xs) (map_range-next f (a + 1) n (λ x from below. next x (omega (arith, from)) (omega (arith, below))))
+    grind (arith, nat_tests, map_range-next f (a + 1) n (λ x from below. next x (omega (arith, from)) (omega (arith, below))))
 
 filter-but : (c r : ℕ) → filter (λ x. not (nat_eq c x)) (range_with_len 0 (c + suc r)) ≡ map (early c (c + r)) (range_with_len 0 (c + r))
 filter-but c r =
@@ -67,12 +66,7 @@ filter-but c r =
     early_high c r x from below = grind (arith, nat_tests)
 
 pub places-but : (c k : ℕ) → c ≤ k → filter (λ x. not (nat_eq c x)) (range_with_len 0 (k + 1)) ≡ map (early c k) (range_with_len 0 k)
-places-but c k within =
-    let r = k - c in
-    let e : k + 1 ≡ c + suc (k - c) = omega (arith, within) in
-    let d : c + (k - c) ≡ k = omega (arith, within) in
-    ap (λ m. filter (λ x. not (nat_eq c x)) (range_with_len 0 m)) e ∙ filter-but c (k - c)
-    ∙ ap (λ m. map (early c m) (range_with_len 0 m)) d
+places-but c k within = grind (arith, nat_tests, filter-but c (k - c))
 
 -- the crossings and the names of those that stay
 
@@ -87,9 +81,7 @@ block_slot a x = omega arith
 
 pub arc_of_dart-dartwise : (crossings : List (List ℕ)) (f : ℕ → ℕ) (x : ℕ)
     → arc_of_dart crossings (dartwise f x) ≡ arc_by_place crossings (f (x / 4)) (x % 4)
-arc_of_dart-dartwise crossings f x =
-    ap (λ q. arc_by_place crossings q (dartwise f x % 4)) (block_place (f (x / 4)) x)
-    ∙ ap (λ r. arc_by_place crossings (f (x / 4)) r) (block_slot (f (x / 4)) x)
+arc_of_dart-dartwise crossings f x = grind (arith, nat_tests, dartwise f x, block_place (f (x / 4)) x, block_slot (f (x / 4)) x)
 
 pub length-kept : (crossings : List (List ℕ)) (gone : ℕ → Bool) (kept : ℕ → ℕ) (k : ℕ)
     → kept_places crossings gone ≡ map kept (range_with_len 0 k) → length (kept_crossings crossings gone) ≡ k

@@ -68,15 +68,11 @@ count-later p a (suc n) =
 pub count-filter : (p q : ℕ → Bool) (xs : List ℕ) → count_by p (filter q xs) ≡ count_by (λ x. p x && q x) xs
 count-filter p q [] = refl
 count-filter p q (x ∷ xs) =
-    let rest = count-filter p q xs in
-    let step = count_by-cons (λ x. p x && q x) x xs in
-    let first = count_by-cons p x (filter q xs) in
-    grind (arith, nat_tests, rest, step, first)
+    grind (arith, nat_tests, count-filter p q xs, count_by-cons (λ x. p x && q x) x xs, count_by-cons p x (filter q xs))
 
 pub count-none : (a n : ℕ) → count_by (λ x. false) (range_with_len a n) ≡ 0
 count-none a zero = refl
-count-none a (suc n) =
-    let rest = count-none (a + 1) n in count_by-cons (λ x. false) a (range_with_len (a + 1) n) ∙ omega (arith, rest)
+count-none a (suc n) = grind (arith, nat_tests, count-none (a + 1) n, count_by-cons (λ x. false) a (range_with_len (a + 1) n))
 
 pub count-one : (p : ℕ → Bool) (c n : ℕ) → c < n → count_by (λ x. p x && nat_eq c x) (range_with_len 0 n) ≡ cond (p c) 1 0
 count-one p c n below = elim (cases_Bool (p c)) [
@@ -126,8 +122,7 @@ pub sums-alike : (f g : ℕ → ℤ) (a n : ℕ) → ((state : ℕ) → a ≤ st
     → int_sum (map f (range_with_len a n)) ≡ int_sum (map g (range_with_len a n))
 sums-alike f g a zero same = refl
 sums-alike f g a (suc n) same =
-    ap₂ (λ x y. x +ℤ y) (same a (omega arith) (omega arith))
-    (sums-alike f g (a + 1) n (λ state from below. same state (omega (arith, from)) (omega (arith, below))))
+    grind (arith, nat_tests, sums-alike f g (a + 1) n (λ state from below. same state (omega (arith, from)) (omega (arith, below))))
 
 pub state_sum-without_kink : (code : Code) (c p : ℕ) → IsTrue (accepted code) → HasKinkAt code.crossings c p → (exponent : ℤ)
     → parts_sum (arc_count code.crossings + 1) (without_kink code c) exponent ≡ state_sum code exponent

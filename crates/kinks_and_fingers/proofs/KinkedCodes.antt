@@ -107,8 +107,7 @@ IsAdded-kink crossings a over positive can =
 
 -- any arc of an accepted code
 pub IsKinkable-accepted : (code : Code) (a : ℕ) → IsTrue (accepted code) → IsArc code.crossings a → IsKinkable code.crossings a
-IsKinkable-accepted code a holds arc =
-    let is = HasNoSingleArcs-accepted code holds in record { directed = is.0; no_single = is.1; arc = arc }
+IsKinkable-accepted code a holds arc = grind (arith, nat_tests, HasNoSingleArcs-accepted code holds)
 
 pub IsDirected-kinked : (crossings : List (List ℕ)) (a : ℕ) (over positive : Bool) → IsKinkable crossings a
     → IsDirected (kinked_crossings crossings a over positive)

@@ -153,9 +153,7 @@ block-from classes n x from = ap (λ b. cond b (slice_index classes x) n) (lt_fa
 filter_none : (p : ℕ → Bool) (a n : ℕ) → ((x : ℕ) → a ≤ x → x < a + n → p x ≡ false) → length (filter p (range_with_len a n)) ≡ 0
 filter_none p a zero fails = refl
 filter_none p a (suc n) fails =
-    let rest = filter p (range_with_len (a + 1) n) in
-    ap (λ b. length (cond b (a ∷ rest) rest)) (fails a (omega arith) (omega arith))
-    ∙ filter_none p (a + 1) n (λ x from below. fails x (omega (arith, from)) (omega (arith, below)))
+    grind (arith, nat_tests, filter_none p (a + 1) n (λ x from below. fails x (omega (arith, from)) (omega (arith, below))))
 
 -- a function that respects some pairs agrees on the classes of the smaller pairs
 block_respected : (n : ℕ) (pairs : List (ℕ × ℕ)) → AreBelow n pairs → (xs : List (ℕ × ℕ)) → AreBelow n xs

@@ -1,4 +1,5 @@
 -- Components that are numbered one after another, each along its direction.
+use Rattle.std.proofs.lemmas.Bool.Decides.{nat_tests}
 use Rattle.std.proofs.Common.{◌≡◌, ℕ, zero, suc, inl, inr, ◌+◌, ◌-◌, ◌<◌, ◌≤◌, ◌∙◌, List, [], ◌∷◌, length, map, refl, sym, ap, subst, arith, true, eqb-true}
 use Rattle.std.specs.Prelude.{nat_eq, if◌then◌else◌}
 use Rattle.std.specs.List.{AllByRecursion, flat_map, count_by, range_with_len}
@@ -41,18 +42,8 @@ down : (crossings : List (List ℕ)) (first : ℕ → ℕ) → IsNumbering cross
     → component_of (components_of crossings) x ≡ component_of (components_of crossings) (first x)
 down crossings first is zero within =
     let e : first 0 ≡ 0 = omega (arith, is.least 0 (omega arith)) in ap (λ z. component_of (components_of crossings) z) (sym e)
-down crossings first is (suc x) within = elim (cases_lt (first (suc x)) (suc x)) [
-  | inl less ↦
-      let e : suc x ≡ x + 1 = omega arith in
-      let small : x + 1 ≤ arc_count crossings = omega (arith, within) in
-      let less_there : first (x + 1) < x + 1 = subst (λ (z : ℕ). first z < z) e less in
-      ap (λ z. component_of (components_of crossings) z) e ∙ sym (is.joined x small less_there)
-      ∙ down crossings first is x (omega (arith, within))
-      ∙ ap (λ z. component_of (components_of crossings) z) (is.run x small less_there ∙ ap first (sym e))
-  | inr from ↦
-      let same : suc x ≡ first (suc x) = omega (arith, from, is.least (suc x) within) in
-      ap (λ z. component_of (components_of crossings) z) same
-]
+down crossings first is (suc x) within =
+    grind (arith, nat_tests, cases_lt (first (suc x)) (suc x), down crossings first is x (omega (arith, within)))
 
 -- so these are the components
 pub components-numbered : (crossings : List (List ℕ)) (first : ℕ → ℕ) → IsNumbering crossings first → (x : ℕ)
@@ -146,6 +137,4 @@ IsInterval-numbered crossings first is f positive within own arc from below =
 pub next-numbered : (crossings : List (List ℕ)) (first : ℕ → ℕ) → IsNumbering crossings first → (x : ℕ)
     → next crossings x ≡ (if nat_eq (first (x + 1)) (first x) then x + 1 else first x)
 next-numbered crossings first is x =
-    ap (λ c. if nat_eq c (component_of (components_of crossings) x) then x + 1 else component_of (components_of crossings) x)
-    (components-numbered crossings first is (x + 1))
-    ∙ ap (λ c. if nat_eq (first (x + 1)) c then x + 1 else c) (components-numbered crossings first is x)
+    grind (arith, nat_tests, components-numbered crossings first is (x + 1), components-numbered crossings first is x)

@@ -106,8 +106,7 @@ place_in : (c q : ℕ) → dart_in c q / 4 ≡ c
 place_in c q = omega arith
 
 pub arc_of_dart-in : (crossings : List (List ℕ)) (c q : ℕ) → arc_of_dart crossings (dart_in c q) ≡ arc_by_place crossings c (q % 4)
-arc_of_dart-in crossings c q =
-    ap (λ a. arc_by_place crossings a (dart_in c q % 4)) (place_in c q) ∙ ap (arc_by_place crossings c) (dart_in-slot c q)
+arc_of_dart-in crossings c q = grind (arith, nat_tests, place_in c q, dart_in-slot c q)
 
 pub across_cases : (q : ℕ) → (((q % 4 ≡ 0) × ((q + 2) % 4 ≡ 2)) ⊎ ((q % 4 ≡ 1) × ((q + 2) % 4 ≡ 3)))
     ⊎ (((q % 4 ≡ 2) × ((q + 2) % 4 ≡ 0)) ⊎ ((q % 4 ≡ 3) × ((q + 2) % 4 ≡ 1)))
@@ -124,9 +123,7 @@ heads-across crossings c q =
     ∙ ap not (sym (head-in crossings c q))
   where
     head-in : (crossings : List (List ℕ)) (c q : ℕ) → is_code_head crossings (dart_in c q) ≡ enters (positive_at crossings c) (q % 4)
-    head-in crossings c q =
-        ap (λ a. enters (positive_at crossings a) (dart_in c q % 4)) (place_in c q)
-        ∙ ap (enters (positive_at crossings c)) (dart_in-slot c q)
+    head-in crossings c q = grind (arith, nat_tests, place_in c q, dart_in-slot c q)
 
 pub colours-next : (choice c q : ℕ) → is_colour choice (dart_in c q) ≡ not (is_colour choice (dart_in c (q + 1)))
 colours-next choice c q =
@@ -134,9 +131,7 @@ colours-next choice c q =
     ∙ ap not (sym (colour-in choice c (q + 1)))
   where
     colour-in : (choice c q : ℕ) → is_colour choice (dart_in c q) ≡ nat_eq ((bit choice c + q % 4) % 2) 1
-    colour-in choice c q =
-        ap (λ a. nat_eq ((bit choice a + dart_in c q % 4) % 2) 1) (place_in c q)
-        ∙ ap (λ r. nat_eq ((bit choice c + r) % 2) 1) (dart_in-slot c q)
+    colour-in choice c q = grind (arith, nat_tests, place_in c q, dart_in-slot c q)
 
     differ : (b q : ℕ) → (b + q % 4) % 2 ≡ (b + (q + 1) % 4) % 2 → ⊥
     differ b q same = omega (arith, same)

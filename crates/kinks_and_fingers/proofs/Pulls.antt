@@ -106,15 +106,7 @@ IsPart-pulled m partner s t pairing held mates p p_below = part partner s t p ma
 
 IsPart-with : (m : ℕ) (part after whole : ℕ → ℕ) (dart other : ℕ) → IsPart m part whole → HasArcMore m part after dart other
     → whole dart ≡ other → whole other ≡ dart → IsPart m after whole
-IsPart-with m part after whole dart other is_part more is_arc back x x_below = elim (ends_or_not dart other x) [
-  | inl is_dart ↦ inl (ap after is_dart ∙ more.dart_after ∙ sym is_arc ∙ ap whole (sym is_dart))
-  | inr beside ↦ elim beside [
-    | inl is_other ↦ inl (ap after is_other ∙ more.other_after ∙ sym back ∙ ap whole (sym is_other))
-    | inr none ↦
-        let same = more.others x x_below none.0 none.1 in
-        elim (is_part x x_below) [ inl is ↦ inl (same ∙ is) | inr is ↦ inr (same ∙ is) ]
-  ]
-]
+IsPart-with m part after whole dart other is_part more is_arc back x x_below = grind (arith, nat_tests, ends_or_not dart other x, back)
 
 merged-meets : (a b c : ℕ) → merged a b b ≡ merged a b c → (c ≡ a) ⊎ (c ≡ b)
 merged-meets a b c same = grind (arith, nat_tests)

@@ -1,5 +1,6 @@
 -- The numbers of old arcs after crossings were added on some of them: the arc x has become the numbers from rise x to end x, of which
 -- low says whose they are.
+use Rattle.std.proofs.lemmas.Bool.Decides.{nat_tests}
 use Rattle.std.proofs.Common.{◌≡◌, ℕ, zero, suc, inl, inr, ◌+◌, ◌-◌, ◌<◌, ◌≤◌, ◌∙◌, sym, ap, arith}
 use Rattle.std.proofs.lemmas.Bool.{cases_lt}
 
@@ -17,13 +18,10 @@ module _ {rise end low : ℕ → ℕ} (are : AreRisen rise end low) where
 
   end-less_later : (x k : ℕ) → end x < rise (x + 1 + k)
   end-less_later x zero = let e : x + 1 + 0 ≡ x + 1 = omega arith in omega (arith, ap rise e, are.next x)
-  end-less_later x (suc k) =
-      let e : x + 1 + suc k ≡ x + 1 + k + 1 = omega arith in
-      omega (arith, ap rise e, are.next (x + 1 + k), rise-le_end (x + 1 + k), end-less_later x k)
+  end-less_later x (suc k) = grind (arith, nat_tests, rise-le_end (x + 1 + k), end-less_later x k)
 
   pub end-less : (x y : ℕ) → x < y → end x < rise y
-  end-less x y less =
-      let e : x + 1 + (y - (x + 1)) ≡ y = omega (arith, less) in omega (arith, end-less_later x (y - (x + 1)), ap rise e)
+  end-less x y less = grind (arith, nat_tests, end-less_later x (y - (x + 1)))
 
   pub rise-less : (x y : ℕ) → x < y → rise x < rise y
   rise-less x y less = omega (arith, end-less x y less, rise-le_end x)

@@ -181,8 +181,7 @@ dartwise f x = 4 * f (x / 4) + x % 4
 
 dartwise-back : (n : ℕ) (f back : ℕ → ℕ) (x : ℕ) → x < 4 * n → ((y : ℕ) → y < n → back (f y) ≡ y) → dartwise back (dartwise f x) ≡ x
 dartwise-back n f back x below comes =
-    ap (λ q. 4 * back q + dartwise f x % 4) (block_place (f (x / 4)) x) ∙ ap (λ r. 4 * back (f (x / 4)) + r) (block_slot (f (x / 4)) x)
-    ∙ ap (λ q. 4 * q + x % 4) (comes (x / 4) (place_below n x below)) ∙ block_same x
+    grind (arith, nat_tests, block_place (f (x / 4)) x, block_slot (f (x / 4)) x, place_below n x below, block_same x)
 
 pub IsPermutation-dartwise : (n : ℕ) (f back : ℕ → ℕ) → IsPermutation n f back → IsPermutation (4 * n) (dartwise f) (dartwise back)
 IsPermutation-dartwise n f back permuted = record {
@@ -196,10 +195,7 @@ turned_slot : (x : ℕ) → turned x % 4 ≡ (x % 4 + 3) % 4
 turned_slot x = omega arith
 
 dartwise-turned : (f : ℕ → ℕ) (x : ℕ) → turned (dartwise f x) ≡ dartwise f (turned x)
-dartwise-turned f x =
-    ap (λ q. 4 * q + (dartwise f x % 4 + 3) % 4) (block_place (f (x / 4)) x)
-    ∙ ap (λ r. 4 * f (x / 4) + (r + 3) % 4) (block_slot (f (x / 4)) x)
-    ∙ sym (ap (λ r. 4 * f (turned x / 4) + r) (turned_slot x) ∙ ap (λ q. 4 * f q + (x % 4 + 3) % 4) (turned-crossing x))
+dartwise-turned f x = grind (arith, nat_tests, block_place (f (x / 4)) x, block_slot (f (x / 4)) x, turned_slot x, turned-crossing x)
 
 -- the open darts of one bare crossing
 

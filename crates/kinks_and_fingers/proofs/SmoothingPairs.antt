@@ -66,10 +66,7 @@ smoothings-all P crossings state each =
 
 pub smoothings-each : (P : ℕ × ℕ → Type 0) (crossings : List (List ℕ)) (state place : ℕ)
     → AllByRecursion P (smoothings_of crossings state) → place < length crossings → AllByRecursion P (joined_at crossings state place)
-smoothings-each P crossings state place holds below =
-    let e : 0 + place ≡ place = omega arith in
-    subst (λ (k : ℕ). AllByRecursion P (smoothing_of (bit state k) (slice_index_or crossings place []))) e
-    (smoothings-at_place P state 0 crossings place holds below)
+smoothings-each P crossings state place holds below = grind (arith, nat_tests, smoothings-at_place P state 0 crossings place holds below)
 
 pub outer-all : (P : ℕ × ℕ → Type 0) (crossings : List (List ℕ)) (gone : ℕ → Bool) (state : ℕ)
     → ((place : ℕ) → place < length crossings → gone place ≡ false → AllByRecursion P (joined_at crossings state place))

@@ -1,7 +1,7 @@
 -- The classes of names at crossings: those of names that stand, which dropped crossings leave, and the others, which are alone.
 use Rattle.std.proofs.Common.{◌≡◌, ◌≢◌, ℕ, zero, suc, ◌⊎◌, inl, inr, ◌+◌, ◌-◌, ◌<◌, ◌≤◌, ◌∙◌, List, [], ◌∷◌, ◌++◌, sym, ap, subst, arith, refl, Bool, true, false, cond, not, ◌&&◌, ◌||◌, length, map, eq-eqb, count_by}
 use Rattle.std.specs.Prelude.{slice_index, nat_eq, min}
-use Rattle.std.specs.List.{filter, flat_map, range_with_len, AllByRecursion}
+use Rattle.std.specs.List.{flat_map, range_with_len, AllByRecursion}
 use Rattle.std.proofs.lemmas.Bool.{cases_Bool, ne_eqb, both_ways}
 use Rattle.std.proofs.lemmas.Bool.Decides.{nat_tests}
 use Rattle.std.proofs.lemmas.List.Sums.{length-filter, sum_by-cons}
@@ -44,8 +44,7 @@ count-parts p q (x ∷ xs) =
 
 pub count-all : (a n : ℕ) → count_by (λ x. true) (range_with_len a n) ≡ n
 count-all a zero = refl
-count-all a (suc n) =
-    let rest = count-all (a + 1) n in count_by-cons (λ x. true) a (range_with_len (a + 1) n) ∙ omega (arith, rest)
+count-all a (suc n) = grind (arith, nat_tests, count-all (a + 1) n, count_by-cons (λ x. true) a (range_with_len (a + 1) n))
 
 -- names that stand at a crossing, and others
 
@@ -88,8 +87,7 @@ stands-some P (slots ∷ rest) name each holds =
 pub class_count-least : (n : ℕ) (pairs : List (ℕ × ℕ)) → AreBelow n pairs
     → class_count (classes_of n pairs) ≡ count_by (is_least (classes_of n pairs)) (range_with_len 0 n)
 class_count-least n pairs below =
-    ap (λ m. length (filter (is_least (classes_of n pairs)) (range_with_len 0 m))) (IsNamed-classes_of n pairs below).size
-    ∙ length-filter (is_least (classes_of n pairs)) (range_with_len 0 n)
+    grind (arith, nat_tests, IsNamed-classes_of n pairs below, length-filter (is_least (classes_of n pairs)) (range_with_len 0 n))
 
 pub arc_by_place-positive : (crossings : List (List ℕ)) (place slot : ℕ) → HasArcsTwice crossings → place < length crossings → slot < 4
     → 1 ≤ arc_by_place crossings place slot

@@ -177,9 +177,7 @@ count-at_most p a (suc n) one =
     none_or_some k = grind arith
 
 pub count-some : (p : ℕ → Bool) (n x : ℕ) → x < n → p x ≡ true → 0 < count_by p (range_with_len 0 n)
-count-some p n x below holds =
-    let but_one = count_by-but p 0 n x (omega arith) (omega (arith, below)) holds in
-    omega (arith, but_one)
+count-some p n x below holds = grind (arith, nat_tests, count_by-but p 0 n x (omega arith) (omega (arith, below)) holds)
 
 both : (a b : Bool) → a ≡ true → b ≡ true → (a && b) ≡ true
 both a b first second = grind (arith, nat_tests)

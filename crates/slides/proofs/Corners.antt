@@ -3,10 +3,10 @@
 -- A slide permutes what stands at the twelve darts of three crossings. Darts are places 4k + slot, so a dart of a triangle is `on` a corner
 -- with a slot, and a function given at the four slots of each corner and elsewhere is one on all darts. All that follows on darts is by
 -- these cases.
-use Rattle.std.proofs.Common.{◌≡◌, ◌≢◌, ℕ, inl, inr, ◌+◌, ◌*◌, ◌/◌, ◌%◌, ◌<◌, ◌∙◌, List, sym, ap, subst, arith, cond, eq-eqb}
+use Rattle.std.proofs.lemmas.Bool.Decides.{nat_tests}
+use Rattle.std.proofs.Common.{◌≡◌, ◌≢◌, ℕ, inl, inr, ◌+◌, ◌*◌, ◌/◌, ◌%◌, ◌<◌, ◌∙◌, List, sym, ap, subst, arith, cond}
 use Rattle.std.specs.Prelude.{nat_eq, slice_index}
-use Rattle.std.proofs.Math.Path.{fun_ext}
-use Rattle.std.proofs.lemmas.Bool.{cases_eq, eq-eqb, ne_eqb}
+use Rattle.std.proofs.lemmas.Bool.{cases_eq}
 use Rattle.kh_types.proofs.Ranges.{below_four}
 use Rattle.slides.specs.Slid.{on, steps_from, corner, source}
 pub use Rattle.kh_types.proofs.Ranges.{below_four as four}
@@ -51,18 +51,10 @@ pub record AreApart (x y z : ℕ) : Type 0 where
   pub y_z : y / 4 ≢ z / 4
 
 pub AreApart-rotated : (x y z : ℕ) → AreApart x y z → AreApart y z x
-AreApart-rotated x y z apart = record {
-  x_y = apart.y_z;
-  x_z = λ same. apart.x_y (sym same);
-  y_z = λ same. apart.x_z (sym same);
-}
+AreApart-rotated x y z apart = omega arith
 
 pub AreApart-on : (x y z a b c : ℕ) → AreApart x y z → AreApart (on x a) (on y b) (on z c)
-AreApart-on x y z a b c apart = record {
-  x_y = λ same. apart.x_y (sym (on-crossing x a) ∙ same ∙ on-crossing y b);
-  x_z = λ same. apart.x_z (sym (on-crossing x a) ∙ same ∙ on-crossing z c);
-  y_z = λ same. apart.y_z (sym (on-crossing y b) ∙ same ∙ on-crossing z c);
-}
+AreApart-on x y z a b c apart = omega arith
 
 -- darts at two crossings differ
 pub crossings-apart : (x y a b : ℕ) → x / 4 ≢ y / 4 → on x a ≢ on y b
@@ -99,61 +91,20 @@ by_corner xs ys zs x y z place =
     (cond (nat_eq (place / 4) (z / 4)) (slice_index zs (steps_from z place)) place))
 
 pub by_corner-x : (xs ys zs : List ℕ) (x y z j : ℕ) → j < 4 → by_corner xs ys zs x y z (on x j) ≡ slice_index xs j
-by_corner-x xs ys zs x y z j below =
-    let place = on x j in
-    ap (λ b. cond b (slice_index xs (steps_from x place))
-    (cond (nat_eq (place / 4) (y / 4)) (slice_index ys (steps_from y place))
-    (cond (nat_eq (place / 4) (z / 4)) (slice_index zs (steps_from z place)) place)))
-    (eq-eqb (place / 4) (x / 4) (on-crossing x j))
-    ∙ ap (λ k. slice_index xs k) (steps_from-on x j below)
+by_corner-x xs ys zs x y z j below = grind (arith, nat_tests)
 
 pub by_corner-y : (xs ys zs : List ℕ) (x y z j : ℕ) → AreApart x y z → j < 4 → by_corner xs ys zs x y z (on y j) ≡ slice_index ys j
-by_corner-y xs ys zs x y z j apart below =
-    let place = on y j in
-    ap (λ b. cond b (slice_index xs (steps_from x place))
-    (cond (nat_eq (place / 4) (y / 4)) (slice_index ys (steps_from y place))
-    (cond (nat_eq (place / 4) (z / 4)) (slice_index zs (steps_from z place)) place)))
-    (ne_eqb (place / 4) (x / 4) (λ same. apart.x_y (sym same ∙ on-crossing y j)))
-    ∙ ap (λ b. cond b (slice_index ys (steps_from y place))
-    (cond (nat_eq (place / 4) (z / 4)) (slice_index zs (steps_from z place)) place))
-    (eq-eqb (place / 4) (y / 4) (on-crossing y j))
-    ∙ ap (λ k. slice_index ys k) (steps_from-on y j below)
+by_corner-y xs ys zs x y z j apart below = grind (arith, nat_tests)
 
 pub by_corner-z : (xs ys zs : List ℕ) (x y z j : ℕ) → AreApart x y z → j < 4 → by_corner xs ys zs x y z (on z j) ≡ slice_index zs j
-by_corner-z xs ys zs x y z j apart below =
-    let place = on z j in
-    ap (λ b. cond b (slice_index xs (steps_from x place))
-    (cond (nat_eq (place / 4) (y / 4)) (slice_index ys (steps_from y place))
-    (cond (nat_eq (place / 4) (z / 4)) (slice_index zs (steps_from z place)) place)))
-    (ne_eqb (place / 4) (x / 4) (λ same. apart.x_z (sym same ∙ on-crossing z j)))
-    ∙ ap (λ b. cond b (slice_index ys (steps_from y place))
-    (cond (nat_eq (place / 4) (z / 4)) (slice_index zs (steps_from z place)) place))
-    (ne_eqb (place / 4) (y / 4) (λ same. apart.y_z (sym same ∙ on-crossing z j)))
-    ∙ ap (λ b. cond b (slice_index zs (steps_from z place)) place) (eq-eqb (place / 4) (z / 4) (on-crossing z j))
-    ∙ ap (λ k. slice_index zs k) (steps_from-on z j below)
+by_corner-z xs ys zs x y z j apart below = grind (arith, nat_tests)
 
 pub by_corner-outside : (xs ys zs : List ℕ) (x y z place : ℕ) → IsOutside x y z place → by_corner xs ys zs x y z place ≡ place
-by_corner-outside xs ys zs x y z place outside =
-    ap (λ b. cond b (slice_index xs (steps_from x place))
-    (cond (nat_eq (place / 4) (y / 4)) (slice_index ys (steps_from y place))
-    (cond (nat_eq (place / 4) (z / 4)) (slice_index zs (steps_from z place)) place)))
-    (ne_eqb (place / 4) (x / 4) outside.not_x)
-    ∙ ap (λ b. cond b (slice_index ys (steps_from y place))
-    (cond (nat_eq (place / 4) (z / 4)) (slice_index zs (steps_from z place)) place))
-    (ne_eqb (place / 4) (y / 4) outside.not_y)
-    ∙ ap (λ b. cond b (slice_index zs (steps_from z place)) place) (ne_eqb (place / 4) (z / 4) outside.not_z)
+by_corner-outside xs ys zs x y z place outside = grind (arith, nat_tests)
 
 -- the corners may be named from any on
 pub by_corner-rotated : (xs ys zs : List ℕ) (x y z : ℕ) → AreApart x y z → by_corner xs ys zs x y z ≡ by_corner ys zs xs y z x
-by_corner-rotated xs ys zs x y z apart =
-    let turned_apart = AreApart-rotated x y z apart in
-    fun_ext (at_places x y z (λ place. by_corner xs ys zs x y z place ≡ by_corner ys zs xs y z x place)
-    (λ j below. by_corner-x xs ys zs x y z j below ∙ sym (by_corner-z ys zs xs y z x j turned_apart below))
-    (λ j below. by_corner-y xs ys zs x y z j apart below ∙ sym (by_corner-x ys zs xs y z x j below))
-    (λ j below. by_corner-z xs ys zs x y z j apart below ∙ sym (by_corner-y ys zs xs y z x j turned_apart below))
-    (λ place outside. by_corner-outside xs ys zs x y z place outside
-    ∙ sym (by_corner-outside ys zs xs y z x place
-    (record { not_x = outside.not_y; not_y = outside.not_z; not_z = outside.not_x }))))
+by_corner-rotated xs ys zs x y z apart = grind (arith, nat_tests)
 
 -- where the arcs come from
 
@@ -193,19 +144,8 @@ source-source x y z apart =
     (λ place outside. ap (source x y z) (source-outside x y z place outside) ∙ source-outside x y z place outside)
 
 source-below_x : (n x y z : ℕ) → y < 4 * n → z < 4 * n → (j : ℕ) → j < 4 → source x y z (on x j) < 4 * n
-source-below_x n x y z y_below z_below j below =
-    subst (λ (k : ℕ). k < 4 * n) (sym (source-x x y z j below))
-    (below_four (λ i. slice_index (corner y z) i < 4 * n) (on-below n y 3 y_below) (on-below n z 2 z_below) (on-below n y 1 y_below) z_below
-    j below)
+source-below_x n x y z y_below z_below j below = grind (arith, nat_tests)
 
 pub source-below : (n x y z : ℕ) → AreApart x y z → x < 4 * n → y < 4 * n → z < 4 * n → (place : ℕ) → place < 4 * n
     → source x y z place < 4 * n
-source-below n x y z apart x_below y_below z_below =
-    let once = source-rotated x y z apart in
-    let turned_apart = AreApart-rotated x y z apart in
-    let twice = once ∙ source-rotated y z x turned_apart in
-    at_places x y z (λ place. place < 4 * n → source x y z place < 4 * n)
-    (λ j below within. source-below_x n x y z y_below z_below j below)
-    (λ j below within. subst (λ (f : ℕ → ℕ). f (on y j) < 4 * n) (sym once) (source-below_x n y z x z_below x_below j below))
-    (λ j below within. subst (λ (f : ℕ → ℕ). f (on z j) < 4 * n) (sym twice) (source-below_x n z x y x_below y_below j below))
-    (λ place outside within. subst (λ (k : ℕ). k < 4 * n) (sym (source-outside x y z place outside)) within)
+source-below n x y z apart x_below y_below z_below place has9 = grind (arith, nat_tests)

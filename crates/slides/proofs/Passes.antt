@@ -1,10 +1,11 @@
 -- A slide keeps the passes: each pass of the new code joins the arcs that a pass of the old code joins, in the same direction. So the
 -- components stay, arc by arc.
+use Rattle.std.proofs.lemmas.Bool.Decides.{nat_tests}
 use Rattle.std.proofs.Common.{◌≡◌, ℕ, zero, suc, ◌+◌, ◌-◌, ◌*◌, ◌/◌, ◌%◌, ◌<◌, ◌∙◌, List, [], ◌∷◌, length, get_or, sym, ap, ap₂, subst, arith}
 use Rattle.std.specs.Prelude.{slice_index_or, IsTrue}
-use Rattle.std.specs.List.{AllByRecursion, filter, flat_map, range_with_len}
+use Rattle.std.specs.List.{AllByRecursion, flat_map}
 use Rattle.kh_types.specs.Acceptance.{accepted}
-use Rattle.kh_types.specs.Classes.{classes_of, is_least, Respects, AreBelow}
+use Rattle.kh_types.specs.Classes.{classes_of, Respects, AreBelow}
 use Rattle.kh_types.specs.Code.{Code, arc_in, arc_count, slots_of}
 use Rattle.kh_types.specs.Components.{passes_of, components_of, component_count}
 use Rattle.kh_types.specs.Darts.{dart_at, partner_at, HasArcsTwice}
@@ -15,7 +16,7 @@ use Rattle.kh_types.proofs.PassPairs.{passes-all}
 use Rattle.kh_types.proofs.Ranges.{below_four}
 use Rattle.slides.specs.Slid.{on, source, slid}
 use Rattle.slides.specs.SlideCodes.{is_head_with, KeepsPass}
-use Rattle.slides.proofs.Corners.{at_places, IsOutside, AreApart, AreApart-rotated, on-crossing, on-slot, on-on, on-zero, on-round, on-below, source-x, source-rotated, source-outside, source-source, source-below}
+use Rattle.slides.proofs.Corners.{at_places, IsOutside, AreApart, AreApart-rotated, on-crossing, on-on, on-zero, on-round, on-below, source-x, source-rotated, source-outside, source-source, source-below}
 use Rattle.slides.proofs.Sides.{HasSides}
 use Rattle.slides.proofs.SlidArcs.{length-slid, arc_of_dart-slid, HasArcsTwice-slid}
 use Rattle.slides.proofs.SlidHeads.{kind-source, IsKind-heads}
@@ -65,8 +66,7 @@ at_crossing P (slots ∷ rest) holds (suc k) below = at_crossing P rest holds.1.
 
 pub arc-behind : (crossings : List (List ℕ)) (place : ℕ)
     → arc_of_dart crossings (on place 2) ≡ arc_in (slice_index_or crossings (place / 4) []) ((place % 4 + 2) % 4)
-arc-behind crossings place =
-    ap₂ (λ k s. arc_in (slice_index_or crossings k []) s) (on-crossing place 2) (on-slot place 2)
+arc-behind crossings place = grind (arith, nat_tests)
 
 pub respects-behind : (f : ℕ → ℕ) (crossings : List (List ℕ)) → Respects f (flat_map passes_of crossings) → (place : ℕ)
     → place < 4 * length crossings → f (arc_of_dart crossings place) ≡ f (arc_of_dart crossings (on place 2))
@@ -94,8 +94,7 @@ respects-passes f crossings behind =
     (there 0 (omega arith), (there 1 (omega arith), tt)))
 
 pub passes-arcs : (crossings : List (List ℕ)) → HasArcsTwice crossings → AreBelow (arc_count crossings + 1) (flat_map passes_of crossings)
-passes-arcs crossings twice =
-    passes_of-below (arc_count crossings + 1) crossings (ArcsBelow-slots (arc_count crossings + 1) crossings twice.slots (omega arith))
+passes-arcs crossings twice = grind (arith, nat_tests, passes_of-below, ArcsBelow-slots)
 
 -- so the components are the same
 pub components_of-slid : (crossings : List (List ℕ)) (x y z : ℕ) → HasArcsTwice crossings
@@ -128,8 +127,7 @@ components_of-slid crossings x y z twice sides =
 pub component_count-slid : (crossings : List (List ℕ)) (x y z : ℕ) → HasArcsTwice crossings
     → HasSides (length crossings) (partner_at crossings) x y z → component_count (slid crossings x y z) ≡ component_count crossings
 component_count-slid crossings x y z twice sides =
-    ap₂ (λ classes n. length (filter (is_least classes) (range_with_len 1 (2 * n)))) (components_of-slid crossings x y z twice sides)
-    (length-slid crossings x y z)
+    grind (arith, nat_tests, components_of-slid crossings x y z twice sides, length-slid crossings x y z)
 
 -- each pass is one of the old code
 pub KeepsPass-slid : (code : Code) (x y z : ℕ) → IsTrue (accepted code)

@@ -1,11 +1,12 @@
 -- The sides of a triangle, for a partner function of places.
+use Rattle.std.proofs.lemmas.Bool.Decides.{nat_tests}
 use Rattle.std.proofs.Common.{◌≡◌, ℕ, ◌*◌, ◌<◌, ◌∙◌, List, length, sym, ap, subst, arith}
 use Rattle.kh_types.specs.Darts.{IsPairing, HasArcsTwice, partner_at, turned}
 use Rattle.kh_types.proofs.DartPairs.{IsPairing-partner_at}
 use Rattle.face_walk.proofs.OpenFaces.{turned-below}
 use Rattle.slides.specs.Triangles.{IsTriangle}
 use Rattle.slides.specs.Slid.{on, source}
-use Rattle.slides.proofs.Corners.{AreApart, AreApart-rotated, on-crossing, on-below, on-zero, on-on, source-x, source-y, source-below, source-source, source-rotated}
+use Rattle.slides.proofs.Corners.{AreApart, on-crossing, on-below, on-on, source-y, source-below, source-source, source-rotated}
 
 -- a pairing of the darts of n crossings has a triangle at x, y and z: its sides
 pub record HasSides (n : ℕ) (partner : ℕ → ℕ) (x y z : ℕ) : Type 0 where
@@ -21,18 +22,7 @@ pub record HasSides (n : ℕ) (partner : ℕ → ℕ) (x y z : ℕ) : Type 0 whe
   pub to_z : partner (on z 1) ≡ y
 
 pub HasSides-rotated : (n : ℕ) (partner : ℕ → ℕ) (x y z : ℕ) → HasSides n partner x y z → HasSides n partner y z x
-HasSides-rotated n partner x y z sides = record {
-  apart = AreApart-rotated x y z sides.apart;
-  x_below = sides.y_below;
-  y_below = sides.z_below;
-  z_below = sides.x_below;
-  from_x = sides.from_y;
-  from_y = sides.from_z;
-  from_z = sides.from_x;
-  to_x = sides.to_y;
-  to_y = sides.to_z;
-  to_z = sides.to_x;
-}
+HasSides-rotated n partner x y z sides = omega arith
 
 before_turned : (place other : ℕ) → turned place ≡ other → place ≡ on other 1
 before_turned place other is = omega (arith, is)
@@ -81,16 +71,11 @@ IsPairing-slid n partner x y z pairing sides =
 -- after it there is a triangle across
 to_across : (n : ℕ) (partner : ℕ → ℕ) (x y z : ℕ) → HasSides n partner x y z
     → slid_partner partner x y z (on x 2) ≡ on (on y 2) 1
-to_across n partner x y z sides =
-    ap (λ k. source x y z (partner k)) (source-x x y z 2 (omega arith))
-    ∙ ap (source x y z) (sides.to_y ∙ sym (on-zero x)) ∙ source-x x y z 0 (omega arith) ∙ sym (on-on y 2 1)
+to_across n partner x y z sides = grind (arith, nat_tests)
 
 back_across : (n : ℕ) (partner : ℕ → ℕ) (x y z : ℕ) → HasSides n partner x y z
     → slid_partner partner x y z (on (on y 2) 1) ≡ on x 2
-back_across n partner x y z sides =
-    ap (slid_partner partner x y z) (on-on y 2 1)
-    ∙ ap (λ k. source x y z (partner k)) (source-y x y z 3 sides.apart (omega arith))
-    ∙ ap (source x y z) sides.from_x ∙ source-y x y z 1 sides.apart (omega arith)
+back_across n partner x y z sides = grind (arith, nat_tests, on-on, source-y)
 
 pub HasSides-slid : (n : ℕ) (partner : ℕ → ℕ) (x y z : ℕ) → HasSides n partner x y z
     → HasSides n (slid_partner partner x y z) (on x 2) (on y 2) (on z 2)

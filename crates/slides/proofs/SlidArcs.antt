@@ -2,7 +2,7 @@
 --
 -- After a slide the arc at a dart is the one that stood at its source. Sources are one to one on the darts of the triangle, and other darts
 -- keep their arcs. So each arc stands at two darts again, and the partner of a dart is the one whose source was the partner of its source.
-use Rattle.std.proofs.Common.{◌≡◌, ◌≢◌, ℕ, zero, suc, ◌⊎◌, inl, inr, ◌+◌, ◌-◌, ◌*◌, ◌/◌, ◌%◌, ◌<◌, ◌≤◌, ◌∙◌, List, [], length, refl, sym, ap, subst, arith, Bool, true, false, not, ◌&&◌}
+use Rattle.std.proofs.Common.{◌≡◌, ◌≢◌, ℕ, zero, suc, ◌⊎◌, inl, inr, ◌+◌, ◌*◌, ◌/◌, ◌%◌, ◌<◌, ◌≤◌, ◌∙◌, List, [], length, refl, sym, ap, subst, arith, Bool, true, false, not, ◌&&◌}
 use Rattle.std.specs.Prelude.{nat_eq, slice_index_or}
 use Rattle.std.specs.List.{count_by, range_with_len}
 use Rattle.std.proofs.lemmas.Bool.{cases_eq, eq-eqb, eqb-true}
@@ -35,14 +35,11 @@ arc_of_dart-slid crossings x y z place below =
     ∙ ap (λ k. arc_of_dart crossings (source x y z k)) whole
 
 pub arc_of-at : (crossings : List (List ℕ)) (place : ℕ) → arc_of crossings (dart_at place) ≡ arc_of_dart crossings place
-arc_of-at crossings place =
-    let e : place / 4 + 1 - 1 ≡ place / 4 = omega arith in
-    ap (λ k. slice_index_or (slice_index_or crossings k []) (place % 4) 0) e
+arc_of-at crossings place = grind (arith, nat_tests)
 
 pub arc_of-slid : (crossings : List (List ℕ)) (x y z place : ℕ) → place < 4 * length crossings
     → arc_of (slid crossings x y z) (dart_at place) ≡ arc_of crossings (dart_at (source x y z place))
-arc_of-slid crossings x y z place below =
-    arc_of-at (slid crossings x y z) place ∙ arc_of_dart-slid crossings x y z place below ∙ sym (arc_of-at crossings (source x y z place))
+arc_of-slid crossings x y z place below = grind (arith, nat_tests, arc_of-at, arc_of_dart-slid)
 
 -- exactly two numbers of a range pass
 

@@ -3,15 +3,16 @@
 -- A slide maps the darts so that faces and pieces of the first code meet all those of the second (SlidFaces): there are no more after than
 -- before. The slid code has a triangle across, whose slide leads back, so there are no fewer either. Both numbers stay, and with them the
 -- sphere.
-use Rattle.std.proofs.Common.{◌≡◌, ℕ, ◌+◌, ◌*◌, ◌/◌, ◌<◌, ◌≤◌, ◌∙◌, List, length, map, refl, sym, ap, ap₂, subst, arith}
+use Rattle.std.proofs.lemmas.Bool.Decides.{nat_tests}
+use Rattle.std.proofs.Common.{◌≡◌, ℕ, ◌*◌, ◌/◌, ◌<◌, ◌≤◌, ◌∙◌, List, length, map, refl, sym, ap, subst, arith}
 use Rattle.std.specs.Prelude.{slice_index, IsTrue}
 use Rattle.std.specs.List.{range_with_len}
 use Rattle.std.proofs.Math.Path.{fun_ext}
 use Rattle.kh_types.specs.Acceptance.{accepted}
 use Rattle.kh_types.specs.Code.{Code}
-use Rattle.kh_types.specs.Classes.{classes_of, class_count}
-use Rattle.kh_types.specs.Darts.{IsPairing, HasArcsTwice, partner_at, turned}
-use Rattle.kh_types.specs.Faces.{face_pair, piece_pair, open_faces, open_pieces, face_count, piece_count, planar_face_count}
+use Rattle.kh_types.specs.Classes.{class_count}
+use Rattle.kh_types.specs.Darts.{IsPairing, HasArcsTwice, partner_at}
+use Rattle.kh_types.specs.Faces.{piece_pair, open_faces, open_pieces, face_count, piece_count, planar_face_count}
 use Rattle.kh_types.proofs.ClassLemmas.{classes-together}
 use Rattle.kh_types.proofs.DartPairs.{IsPairing-partner_at}
 use Rattle.kh_types.proofs.AcceptedLemmas.{HasArcsTwice-accepted}
@@ -73,17 +74,11 @@ slid_back n partner x y z sides place =
 
 open_faces-agree : (n : ℕ) (partner other : ℕ → ℕ) → ((place : ℕ) → place < 4 * n → partner place ≡ other place)
     → open_faces n partner ≡ open_faces n other
-open_faces-agree n partner other same =
-    ap (classes_of (4 * n))
-    (map_range-agree (face_pair partner) (face_pair other) 0 (4 * n)
-    (λ place below. ap (λ k. (place, turned k)) (same place (omega (arith, below)))))
+open_faces-agree n partner other same = grind (arith, nat_tests, map_range-agree)
 
 open_pieces-agree : (n : ℕ) (partner other : ℕ → ℕ) → ((place : ℕ) → place < 4 * n → partner place ≡ other place)
     → open_pieces n partner ≡ open_pieces n other
-open_pieces-agree n partner other same =
-    ap (classes_of n)
-    (map_range-agree (piece_pair partner) (piece_pair other) 0 (4 * n)
-    (λ place below. ap (λ k. (place / 4, k / 4)) (same place (omega (arith, below)))))
+open_pieces-agree n partner other same = grind (arith, nat_tests, map_range-agree)
 
 antisymmetric : (a b : ℕ) → a ≤ b → b ≤ a → a ≡ b
 antisymmetric a b le ge = omega (arith, le, ge)
@@ -103,25 +98,11 @@ open_faces-same n partner x y z pairing sides =
 
 crossing_x : (value : ℕ → ℕ) (x y z : ℕ) → value (x / 4) ≡ value (y / 4) → value (x / 4) ≡ value (z / 4) → (j : ℕ) → j < 4
     → value (source x y z (on x j) / 4) ≡ value (on x j / 4)
-crossing_x value x y z same_y same_z =
-    let own = λ (j : ℕ). ap value (on-crossing x j) in
-    below_four (λ j. value (source x y z (on x j) / 4) ≡ value (on x j / 4))
-    (ap (λ k. value (k / 4)) (source-x x y z 0 (omega arith)) ∙ ap value (on-crossing y 3) ∙ sym same_y ∙ sym (own 0))
-    (ap (λ k. value (k / 4)) (source-x x y z 1 (omega arith)) ∙ ap value (on-crossing z 2) ∙ sym same_z ∙ sym (own 1))
-    (ap (λ k. value (k / 4)) (source-x x y z 2 (omega arith)) ∙ ap value (on-crossing y 1) ∙ sym same_y ∙ sym (own 2))
-    (ap (λ k. value (k / 4)) (source-x x y z 3 (omega arith)) ∙ sym same_z ∙ sym (own 3))
+crossing_x value x y z same_y same_z j has7 = grind (arith, nat_tests)
 
 crossing-source : (value : ℕ → ℕ) (x y z : ℕ) → AreApart x y z → value (x / 4) ≡ value (y / 4) → value (y / 4) ≡ value (z / 4)
     → (place : ℕ) → value (source x y z place / 4) ≡ value (place / 4)
-crossing-source value x y z apart x_y y_z =
-    let second = AreApart-rotated x y z apart in
-    let once = source-rotated x y z apart in
-    let twice = once ∙ source-rotated y z x second in
-    at_places x y z (λ place. value (source x y z place / 4) ≡ value (place / 4))
-    (crossing_x value x y z x_y (x_y ∙ y_z))
-    (λ j below. ap (λ f. value (f (on y j) / 4)) once ∙ crossing_x value y z x y_z (sym x_y) j below)
-    (λ j below. ap (λ f. value (f (on z j) / 4)) twice ∙ crossing_x value z x y (sym (x_y ∙ y_z)) (sym y_z) j below)
-    (λ place outside. ap (λ k. value (k / 4)) (source-outside x y z place outside))
+crossing-source value x y z apart x_y y_z place = grind (arith, nat_tests)
 
 open_pieces-le : (n : ℕ) (partner : ℕ → ℕ) (x y z : ℕ) → IsPairing (4 * n) partner → HasSides n partner x y z
     → class_count (open_pieces n partner) ≤ class_count (open_pieces n (slid_partner partner x y z))
@@ -191,7 +172,4 @@ pub planar-slid : (code : Code) (x y z : ℕ) → IsTrue (accepted code)
     → HasSides (length code.crossings) (partner_at code.crossings) x y z
     → face_count (slid code.crossings x y z) ≡ planar_face_count (slid code.crossings x y z)
 planar-slid code x y z is sides =
-    let crossings = code.crossings in
-    let twice = HasArcsTwice-accepted code is in
-    face_count-slid crossings x y z twice sides ∙ face_count-accepted code is
-    ∙ sym (ap₂ (λ n k. n + 2 * k) (length-slid crossings x y z) (piece_count-slid crossings x y z twice sides))
+    grind (arith, nat_tests, HasArcsTwice-accepted, face_count-slid, face_count-accepted, length-slid, piece_count-slid)

@@ -2,6 +2,7 @@
 --
 -- At the three crossings all bits change, and with them all colours. A dart there has the arc of its source, and where that arc was, it had
 -- the colour that the dart has now; elsewhere nothing changes. So each arc has one dart of either colour again.
+use Rattle.std.proofs.lemmas.Bool.Decides.{nat_tests}
 use Rattle.std.proofs.Common.{◌≡◌, ◌≢◌, ℕ, inl, inr, ◌+◌, ◌-◌, ◌*◌, ◌/◌, ◌%◌, ◌^◌, ◌<◌, ◌≤◌, ◌∙◌, List, length, refl, sym, ap, ap₂, subst, arith}
 use Rattle.std.specs.Prelude.{IsTrue}
 use Rattle.std.proofs.lemmas.Bool.{cases_eq, cases_lt, eq-eqb}
@@ -210,12 +211,7 @@ moved-tints n partner tints after x y z tinted sides at_x at_y at_z at_others =
 
 tint-flipped : (number flipped place j : ℕ) → bit flipped (place / 4) + bit number (place / 4) ≡ 1
     → (tint flipped (on place j) + tint number (on place j)) % 2 ≡ 1
-tint-flipped number flipped place j there =
-    ap₂ (λ s t. (s + t) % 2) (tint-on flipped place j) (tint-on number place j)
-    ∙ sums (bit flipped (place / 4)) (bit number (place / 4)) ((place % 4 + j) % 4) there
-  where
-    sums : (a b s : ℕ) → a + b ≡ 1 → (a + s + (b + s)) % 2 ≡ 1
-    sums a b s is = omega (arith, is)
+tint-flipped number flipped place j there = grind (arith, nat_tests)
 
 pub IsCheckerboard-slid : (code : Code) (x y z : ℕ) → IsTrue (accepted code)
     → HasSides (length code.crossings) (partner_at code.crossings) x y z → IsCheckerboard (slid code.crossings x y z)
@@ -274,11 +270,7 @@ IsCheckerboard-slid code x y z is sides =
 
     by_places : (choice place other : ℕ) → (tint choice place + tint choice other) % 2 ≡ 1
         → (bit choice (place / 4 + 1 - 1) + (bit choice (other / 4 + 1 - 1) + (place % 4 + other % 4))) % 2 ≡ 1
-    by_places choice place other odd =
-        let first : place / 4 + 1 - 1 ≡ place / 4 = omega arith in
-        let second : other / 4 + 1 - 1 ≡ other / 4 = omega arith in
-        ap₂ (λ k l. (bit choice k + (bit choice l + (place % 4 + other % 4))) % 2) first second
-        ∙ regrouped (bit choice (place / 4)) (bit choice (other / 4)) (place % 4) (other % 4) odd
+    by_places choice place other odd = grind (arith, nat_tests, odd, regrouped)
 
 -- the two arcs of a pass differ, where there is a checkerboard
 pub passes-apart : (crossings : List (List ℕ)) → HasArcsTwice crossings → IsCheckerboard crossings → (place : ℕ)
@@ -297,5 +289,4 @@ passes-apart crossings twice board place below same =
 
     by_places : (choice place behind : ℕ) → behind / 4 ≡ place / 4 → behind % 4 ≡ (place % 4 + 2) % 4
         → colour choice (dart_at behind) ≡ colour choice (dart_at place)
-    by_places choice place behind crossing slot =
-        ap₂ (λ k s. (bit choice (k + 1 - 1) + s) % 2) crossing slot ∙ alike (bit choice (place / 4 + 1 - 1)) (place % 4)
+    by_places choice place behind crossing slot = grind (arith, nat_tests, alike)

@@ -3,7 +3,8 @@
 -- For each dart after the slide a dart before it is given whose face it has. An end of the triangle keeps its arc, and so its face; a side
 -- has the triangle on the one side and the face of an end on the other. The map takes the next dart of a face to the same face, and meets
 -- each face, so there are no fewer before than after (Onto); pieces likewise. The slide back gives the rest (SlidBack).
-use Rattle.std.proofs.Common.{◌≡◌, ◌≢◌, ℕ, ◌*◌, ◌/◌, ◌<◌, ◌≤◌, ◌∙◌, List, [], ◌∷◌, map, refl, sym, ap, subst, arith}
+use Rattle.std.proofs.lemmas.Bool.Decides.{nat_tests}
+use Rattle.std.proofs.Common.{◌≡◌, ◌≢◌, ℕ, ◌*◌, ◌<◌, ◌≤◌, ◌∙◌, List, [], ◌∷◌, map, refl, sym, ap, subst, arith}
 use Rattle.std.specs.Prelude.{slice_index}
 use Rattle.std.specs.List.{range_with_len}
 use Rattle.kh_types.specs.Classes.{class_count, AreBelow}
@@ -14,7 +15,7 @@ use Rattle.kh_types.proofs.RangeImages.{all-map_range, map_range-at}
 use Rattle.kh_types.proofs.Ranges.{below_four}
 use Rattle.face_walk.proofs.OpenFaces.{turned-below}
 use Rattle.slides.specs.Slid.{on, source}
-use Rattle.slides.proofs.Corners.{at_places, IsOutside, AreApart, AreApart-rotated, by_corner, by_corner-x, by_corner-y, by_corner-z, by_corner-outside, by_corner-rotated, on-crossing, on-zero, on-below, on-apart, crossings-apart, source-x, source-y, source-z, source-rotated, source-outside, source-source, source-below}
+use Rattle.slides.proofs.Corners.{at_places, IsOutside, AreApart, AreApart-rotated, by_corner, by_corner-x, by_corner-y, by_corner-z, by_corner-outside, by_corner-rotated, on-crossing, on-zero, on-below, source-x, source-y, source-z, source-rotated, source-outside, source-source, source-below}
 use Rattle.slides.proofs.Sides.{HasSides, HasSides-rotated, IsPairing-slid, slid_partner}
 use Rattle.slides.proofs.Onto.{IsOnto, class_count-onto}
 
@@ -50,8 +51,7 @@ end_2 : (x y z : ℕ) → AreApart x y z → IsEnd x y z (on x 2)
 end_2 x y z apart = ap (face_of x y z) (source-x x y z 2 (omega arith)) ∙ face_of-y x y z 1 apart (omega arith)
 
 end_3 : (x y z : ℕ) → AreApart x y z → IsEnd x y z (on x 3)
-end_3 x y z apart =
-    ap (face_of x y z) (source-x x y z 3 (omega arith) ∙ sym (on-zero z)) ∙ face_of-z x y z 0 apart (omega arith)
+end_3 x y z apart = grind (arith, nat_tests, source-x, on-zero, face_of-z)
 
 -- a dart is no dart of a side
 pub record IsNoSideDart (x y z place : ℕ) : Type 0 where
@@ -91,36 +91,13 @@ IsEnd-all x y z apart =
 -- a dart whose partner is of a side is itself of one
 partner-no_side : (n : ℕ) (partner : ℕ → ℕ) (x y z place : ℕ) → IsPairing (4 * n) partner → HasSides n partner x y z → place < 4 * n
     → IsNoSideDart x y z place → IsNoSideDart x y z (partner place)
-partner-no_side n partner x y z place pairing sides below no_side =
-    let back = pairing.back place below in
-    record {
-      not_x = λ is. no_side.not_y_1 (sym back ∙ ap partner is ∙ sides.from_x);
-      not_x_1 = λ is. no_side.not_z (sym back ∙ ap partner is ∙ sides.to_x);
-      not_y = λ is. no_side.not_z_1 (sym back ∙ ap partner is ∙ sides.from_y);
-      not_y_1 = λ is. no_side.not_x (sym back ∙ ap partner is ∙ sides.to_y);
-      not_z = λ is. no_side.not_x_1 (sym back ∙ ap partner is ∙ sides.from_z);
-      not_z_1 = λ is. no_side.not_y (sym back ∙ ap partner is ∙ sides.to_z);
-    }
+partner-no_side n partner x y z place pairing sides below no_side = grind (arith, nat_tests)
 
 pub on-no_side : (x y z j : ℕ) → AreApart x y z → j < 4 → j ≢ 0 → j ≢ 1 → IsNoSideDart x y z (on x j)
-on-no_side x y z j apart below not_0 not_1 = record {
-  not_x = λ is. on-apart x j 0 below (omega arith) not_0 (is ∙ sym (on-zero x));
-  not_x_1 = on-apart x j 1 below (omega arith) not_1;
-  not_y = λ is. crossings-apart x y j 0 apart.x_y (is ∙ sym (on-zero y));
-  not_y_1 = crossings-apart x y j 1 apart.x_y;
-  not_z = λ is. crossings-apart x z j 0 apart.x_z (is ∙ sym (on-zero z));
-  not_z_1 = crossings-apart x z j 1 apart.x_z;
-}
+on-no_side x y z j apart below not_0 not_1 = omega arith
 
 pub outside-no_side : (x y z place : ℕ) → IsOutside x y z place → IsNoSideDart x y z place
-outside-no_side x y z place outside = record {
-  not_x = λ is. outside.not_x (ap (λ k. k / 4) is);
-  not_x_1 = λ is. outside.not_x (ap (λ k. k / 4) is ∙ on-crossing x 1);
-  not_y = λ is. outside.not_y (ap (λ k. k / 4) is);
-  not_y_1 = λ is. outside.not_y (ap (λ k. k / 4) is ∙ on-crossing y 1);
-  not_z = λ is. outside.not_z (ap (λ k. k / 4) is);
-  not_z_1 = λ is. outside.not_z (ap (λ k. k / 4) is ∙ on-crossing z 1);
-}
+outside-no_side x y z place outside = omega arith
 
 -- what has one value at a dart and the next in its face
 abbrev pub IsOnFaces : ℕ → (ℕ → ℕ) → (ℕ → ℕ) → Type 0
@@ -228,22 +205,11 @@ IsOnFaces-open_faces n partner pairing place below =
     (omega arith) (omega (arith, below))
 
 face_of-below_x : (n x y z : ℕ) → x < 4 * n → y < 4 * n → z < 4 * n → (j : ℕ) → j < 4 → face_of x y z (on x j) < 4 * n
-face_of-below_x n x y z x_below y_below z_below j below =
-    subst (λ (k : ℕ). k < 4 * n) (sym (face_of-x x y z j below))
-    (below_four (λ i. slice_index (around x y z) i < 4 * n) (on-below n y 3 y_below) (on-below n z 2 z_below) x_below (on-below n y 2 y_below)
-    j below)
+face_of-below_x n x y z x_below y_below z_below j below = grind (arith, nat_tests)
 
 face_of-below : (n x y z : ℕ) → AreApart x y z → x < 4 * n → y < 4 * n → z < 4 * n → (place : ℕ) → place < 4 * n
     → face_of x y z place < 4 * n
-face_of-below n x y z apart x_below y_below z_below =
-    let once = face_of-rotated x y z apart in
-    let turned_apart = AreApart-rotated x y z apart in
-    let twice = once ∙ face_of-rotated y z x turned_apart in
-    at_places x y z (λ place. place < 4 * n → face_of x y z place < 4 * n)
-    (λ j below within. face_of-below_x n x y z x_below y_below z_below j below)
-    (λ j below within. subst (λ (f : ℕ → ℕ). f (on y j) < 4 * n) (sym once) (face_of-below_x n y z x y_below z_below x_below j below))
-    (λ j below within. subst (λ (f : ℕ → ℕ). f (on z j) < 4 * n) (sym twice) (face_of-below_x n z x y z_below x_below y_below j below))
-    (λ place outside within. subst (λ (k : ℕ). k < 4 * n) (sym (face_of-outside x y z place outside)) within)
+face_of-below n x y z apart x_below y_below z_below place has9 = grind (arith, nat_tests)
 
 -- a dart after the slide in the face of a dart before it
 abbrev pub behind : ℕ → ℕ → ℕ → List ℕ

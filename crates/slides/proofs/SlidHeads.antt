@@ -1,4 +1,5 @@
 -- Heads and tails after a slide, by the old signs.
+use Rattle.std.proofs.lemmas.Bool.Decides.{nat_tests}
 use Rattle.std.proofs.Common.{◌≡◌, ℕ, ◌+◌, ◌*◌, ◌/◌, ◌%◌, ◌<◌, ◌≤◌, ◌∙◌, List, length, refl, sym, ap, subst, arith, Bool, true, false, not, cond}
 use Rattle.std.specs.Prelude.{nat_eq, IsTrue, ◌||◌}
 use Rattle.kh_types.specs.declared.dart.Dart.{Dart}
@@ -22,8 +23,7 @@ pub record IsKind (n : ℕ) (partner : ℕ → ℕ) (kind : ℕ → Bool) : Type
   pub partners : (place : ℕ) → place < 4 * n → kind (partner place) ≡ not (kind place)
 
 not-not : (b : Bool) → not (not b) ≡ b
-not-not true = refl
-not-not false = refl
+not-not b = grind (arith, nat_tests)
 
 -- it goes with the arcs
 kind-source_x : (n : ℕ) (partner : ℕ → ℕ) (kind : ℕ → Bool) (x y z : ℕ) → IsKind n partner kind → HasSides n partner x y z
@@ -118,8 +118,7 @@ only-slid crossings kind x y z arc dart sides keeps only =
     }
 
 not-passes : (b : Bool) → not b ≡ true → b ≡ true → ⊥
-not-passes true fails passes = absurd (cc)
-not-passes false fails passes = absurd (cc)
+not-passes b fails passes = grind (arith, nat_tests)
 
 pub HasHeadsAndTails-slid : (code : Code) (x y z : ℕ) → IsTrue (accepted code)
     → HasSides (length code.crossings) (partner_at code.crossings) x y z

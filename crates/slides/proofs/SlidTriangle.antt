@@ -3,10 +3,10 @@
 -- gluing speaks of codes with a triangle whose crossings show their slots in some order (`triangle_before`, `triangle_after`). Here the
 -- three crossings of the code are those, with their arcs inside and the six ends, and the slid crossings are those after: so that the sum
 -- of the whole is that of the law.
-use Rattle.std.proofs.Common.{◌≡◌, ◌≢◌, ℕ, zero, suc, ◌⊎◌, inl, inr, ◌+◌, ◌-◌, ◌*◌, ◌/◌, ◌%◌, ◌<◌, ◌≤◌, ◌∙◌, List, [], ◌∷◌, length, refl, sym, ap, ap₂, subst, arith, true, ℤ}
+use Rattle.std.proofs.lemmas.Bool.Decides.{nat_tests}
+use Rattle.std.proofs.Common.{◌≡◌, ◌≢◌, ℕ, ◌⊎◌, inl, inr, ◌+◌, ◌-◌, ◌*◌, ◌/◌, ◌%◌, ◌<◌, ◌≤◌, ◌∙◌, List, [], ◌∷◌, length, refl, sym, ap, ap₂, subst, arith, true, ℤ}
 use Rattle.std.specs.Prelude.{slice_index, slice_index_or, IsTrue}
 use Rattle.std.proofs.lemmas.Bool.{cases_eq, cases_lt}
-use Rattle.std.proofs.lemmas.List.FromFn.{get_or-map-range_with_len}
 use Rattle.kh_types.specs.Acceptance.{accepted}
 use Rattle.kh_types.specs.Code.{Code, IsArc}
 use Rattle.kh_types.specs.Darts.{dart_at, partner_at, HasArcsTwice}
@@ -23,7 +23,7 @@ use Rattle.gluing.proofs.SlidSums.{sum_with-slide}
 use Rattle.gluing.proofs.Renumbered.{sum_with-renumbered}
 use Rattle.slides.specs.Triangles.{has_heights}
 use Rattle.slides.specs.Slid.{on, slid, slid_code}
-use Rattle.slides.proofs.Corners.{IsOutside, on-crossing, on-slot, on-zero, on-below, on-apart, source-x, source-outside}
+use Rattle.slides.proofs.Corners.{IsOutside, on-zero, on-below, on-apart, source-x, source-outside}
 use Rattle.slides.proofs.Sides.{HasSides, HasSides-rotated}
 use Rattle.slides.proofs.SlidArcs.{length-slid, arc_of_dart-slid, arc_of-at, HasArcsTwice-slid}
 use Rattle.slides.proofs.SlidRule.{slid-rotated}
@@ -42,33 +42,15 @@ inside_arcs crossings x y z number =
 -- finitely many numbers
 
 seven : (P : ℕ → Type 0) → P 0 → P 1 → P 2 → P 3 → P 4 → P 5 → P 6 → (i : ℕ) → i < 7 → P i
-seven P a b c d e f g zero below = a
-seven P a b c d e f g (suc zero) below = b
-seven P a b c d e f g (suc (suc zero)) below = c
-seven P a b c d e f g (suc (suc (suc zero))) below = d
-seven P a b c d e f g (suc (suc (suc (suc zero)))) below = e
-seven P a b c d e f g (suc (suc (suc (suc (suc zero))))) below = f
-seven P a b c d e f g (suc (suc (suc (suc (suc (suc zero)))))) below = g
-seven P a b c d e f g (suc (suc (suc (suc (suc (suc (suc i))))))) below = absurd (omega (arith, below))
+seven P a b c d e f g i below = grind (arith, nat_tests)
 
 at_sides : (P : ℕ → Type 0) → P 7 → P 8 → P 9 → (side : ℕ) → 7 ≤ side → side < 10 → P side
-at_sides P at_7 at_8 at_9 side from below = elim (cases_eq side 7) [
-  | inl is ↦ subst P (sym is) at_7
-  | inr not_7 ↦ elim (cases_eq side 8) [
-    | inl is ↦ subst P (sym is) at_8
-    | inr not_8 ↦
-        let is : 9 ≡ side = omega (arith, from, below, not_7, not_8) in
-        subst P is at_9
-  ]
-]
+at_sides P at_7 at_8 at_9 side from below = grind (arith, nat_tests)
 
 -- arcs of slots
 
 pub arc_at-there : (crossings : List (List ℕ)) (place slot : ℕ) → slot < 4 → arc_by_place crossings place slot ≡ arc_of_dart crossings (4 * place + slot)
-arc_at-there crossings place slot below =
-    let crossing : place ≡ (4 * place + slot) / 4 = omega (arith, below) in
-    let same_slot : slot ≡ (4 * place + slot) % 4 = omega (arith, below) in
-    ap₂ (λ k s. arc_by_place crossings k s) crossing same_slot
+arc_at-there crossings place slot below = grind (arith, nat_tests)
 
 IsArc-there : (crossings : List (List ℕ)) (place : ℕ) → HasArcsTwice crossings → place < 4 * length crossings
     → IsArc crossings (arc_of_dart crossings place)
@@ -76,9 +58,7 @@ IsArc-there crossings place twice below =
     subst (λ (a : ℕ). IsArc crossings a) (arc_of-at crossings place) (twice.slots (dart_at place) (IsDart-at crossings place below))
 
 pub HoldsArcs-twice : (code : Code) → HasArcsTwice code.crossings → HoldsArcs code
-HoldsArcs-twice code twice place slot below slot_below =
-    let is = IsArc-there code.crossings (4 * place + slot) twice (omega (arith, below, slot_below)) in
-    omega (arith, is.within, arc_at-there code.crossings place slot slot_below)
+HoldsArcs-twice code twice = grind (arith, nat_tests, IsArc-there, arc_at-there)
 
 -- the darts of an arc
 darts_of_arc : (crossings : List (List ℕ)) (place other : ℕ) → HasArcsTwice crossings → place < 4 * length crossings
@@ -104,39 +84,17 @@ record IsNoSideArc (crossings : List (List ℕ)) (x y z arc : ℕ) : Type 0 wher
 no_side_arc : (crossings : List (List ℕ)) (x y z place : ℕ) → HasArcsTwice crossings
     → HasSides (length crossings) (partner_at crossings) x y z → place < 4 * length crossings → IsNoSideDart x y z place
     → IsNoSideArc crossings x y z (arc_of_dart crossings place)
-no_side_arc crossings x y z place twice sides below no_side =
-    let cases = λ (side : ℕ) (side_below : side < 4 * length crossings) (same : arc_of_dart crossings place ≡ arc_of_dart crossings side).
-    darts_of_arc crossings side place twice side_below below same in
-    record {
-      not_x = λ same. elim (cases x sides.x_below same) [
-        | inl is ↦ no_side.not_x is
-        | inr is ↦ no_side.not_y_1 (is ∙ sides.from_x)
-      ];
-      not_y = λ same. elim (cases y sides.y_below same) [
-        | inl is ↦ no_side.not_y is
-        | inr is ↦ no_side.not_z_1 (is ∙ sides.from_y)
-      ];
-      not_z = λ same. elim (cases z sides.z_below same) [
-        | inl is ↦ no_side.not_z is
-        | inr is ↦ no_side.not_x_1 (is ∙ sides.from_z)
-      ];
-    }
+no_side_arc crossings x y z place twice sides below no_side = grind (arith, nat_tests, darts_of_arc)
 
 -- two sides have two arcs
 sides-apart : (crossings : List (List ℕ)) (x y z : ℕ) → HasArcsTwice crossings
     → HasSides (length crossings) (partner_at crossings) x y z → arc_of_dart crossings x ≢ arc_of_dart crossings y
-sides-apart crossings x y z twice sides same = elim (darts_of_arc crossings x y twice sides.x_below sides.y_below (sym same)) [
-  | inl is ↦ sides.apart.x_y (sym (ap (λ k. k / 4) is))
-  | inr is ↦ on-apart y 0 1 (omega arith) (omega arith) (omega arith) (on-zero y ∙ is ∙ sides.from_x)
-]
+sides-apart crossings x y z twice sides = grind (arith, nat_tests, darts_of_arc, on-apart, on-zero)
 
 -- the side to the dart before
 arc-side : (crossings : List (List ℕ)) (x y z : ℕ) → HasArcsTwice crossings
     → HasSides (length crossings) (partner_at crossings) x y z → arc_of_dart crossings (on y 1) ≡ arc_of_dart crossings x
-arc-side crossings x y z twice sides =
-    let partner = IsOtherPlace-partner_at crossings x twice sides.x_below in
-    ap (arc_of_dart crossings) (sym sides.from_x) ∙ sym (arc_of-at crossings (partner_at crossings x)) ∙ partner.same_arc
-    ∙ arc_of-at crossings x
+arc-side crossings x y z twice sides = grind (arith, nat_tests, IsOtherPlace-partner_at, arc_of-at)
 
 -- the triangle is placed
 pub IsPlaced-inside : (code : Code) (x y z : ℕ) → HasArcsTwice code.crossings
@@ -211,14 +169,7 @@ IsPlaced-inside code x y z twice sides =
 pub Shows-from : (crossings : List (List ℕ)) (arcs : ℕ → ℕ) (x : ℕ) (around : List ℕ)
     → ((j : ℕ) → j < 4 → arc_of_dart crossings (on x j) ≡ arcs (slice_index around j))
     → Shows arcs (slice_index_or crossings (x / 4) []) (quadruple_from (x % 4) around)
-Shows-from crossings arcs x around shows slot below =
-    let j = (slot + 4 - x % 4) % 4 in
-    let j_below : j < 4 = omega arith in
-    let crossing : x / 4 ≡ on x j / 4 = sym (on-crossing x j) in
-    let here : slot ≡ on x j % 4 = sym (on-slot x j ∙ (let e : (x % 4 + (slot + 4 - x % 4) % 4) % 4 ≡ slot = omega (arith, below) in e)) in
-    let plus_zero : 0 + slot ≡ slot = omega arith in
-    ap₂ (λ k s. arc_by_place crossings k s) crossing here ∙ shows j j_below
-    ∙ sym (ap arcs (get_or-map-range_with_len (λ at. slice_index around ((at + 4 - x % 4) % 4)) 0 4 slot slot 0 below plus_zero))
+Shows-from crossings arcs x around shows = grind (arith, nat_tests)
 
 -- before and after
 
@@ -245,22 +196,13 @@ shows-after crossings x y z arcs a b c d sides at_0 at_1 at_2 at_3 side =
     (moved 1 (omega arith) ∙ at_1) (moved 2 (omega arith) ∙ side ∙ at_2) (moved 3 (omega arith) ∙ at_3))
 
 outside-places : (x y z place slot : ℕ) → slot < 4 → place ≢ x / 4 → place ≢ y / 4 → place ≢ z / 4 → IsOutside x y z (4 * place + slot)
-outside-places x y z place slot below not_x not_y not_z =
-    let crossing : place ≡ (4 * place + slot) / 4 = omega (arith, below) in
-    record {
-      not_x = λ is. not_x (crossing ∙ is);
-      not_y = λ is. not_y (crossing ∙ is);
-      not_z = λ is. not_z (crossing ∙ is);
-    }
+outside-places x y z place slot below not_x not_y not_z = omega arith
 
 outside_arcs : (crossings : List (List ℕ)) (x y z place slot : ℕ) → HasSides (length crossings) (partner_at crossings) x y z
     → place < length crossings → slot < 4 → place ≢ x / 4 → place ≢ y / 4 → place ≢ z / 4
     → arc_by_place (slid crossings x y z) place slot ≡ arc_by_place crossings place slot
 outside_arcs crossings x y z place slot sides below slot_below not_x not_y not_z =
-    arc_at-there (slid crossings x y z) place slot slot_below
-    ∙ arc_of_dart-slid crossings x y z (4 * place + slot) (omega (arith, below, slot_below))
-    ∙ ap (arc_of_dart crossings) (source-outside x y z (4 * place + slot) (outside-places x y z place slot slot_below not_x not_y not_z))
-    ∙ sym (arc_at-there crossings place slot slot_below)
+    grind (arith, nat_tests, arc_at-there, arc_of_dart-slid, source-outside, outside-places)
 
 outside_sides : (crossings : List (List ℕ)) (x y z place slot : ℕ) → HasArcsTwice crossings
     → HasSides (length crossings) (partner_at crossings) x y z → place < length crossings → slot < 4 → place ≢ x / 4 → place ≢ y / 4

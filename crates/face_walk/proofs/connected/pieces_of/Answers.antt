@@ -1,14 +1,10 @@
-use Rattle.std.proofs.Common.{◌≡◌, arith}
-use Rattle.kh_types.specs.Faces.{pieces_of}
+use Rattle.std.proofs.lemmas.Bool.Decides.{nat_tests}
+use Rattle.std.proofs.Common.{arith}
 use Rattle.face_walk.proofs.FaceLemmas.{IsNamed-pieces, IsNamed-pieces_of}
 use Rattle.face_walk.proofs.connected.pieces_of.Goals as goal
 
 pub returns-clause-named : goal.returns-clause-named
-returns-clause-named c =
-    let is : c.classes_of.result.items ≡ pieces_of c.args.diagram.now.crossings = grind arith in
-    IsNamed-pieces c.args.diagram.now c.classes_of.result.items c.crossings-count.ensures.accepted is
+returns-clause-named = grind (arith, nat_tests, IsNamed-pieces)
 
 pub returns-clause-size : goal.returns-clause-size
-returns-clause-size c =
-    let is : c.classes_of.result.items ≡ pieces_of c.args.diagram.now.crossings = grind arith in
-    rw is (IsNamed-pieces_of c.args.diagram.now c.crossings-count.ensures.accepted).size
+returns-clause-size = grind (arith, nat_tests, IsNamed-pieces_of)

@@ -1,4 +1,4 @@
-use Rattle.std.proofs.Common.{◌≡◌, ◌≢◌, inl, inr, arith}
+use Rattle.std.proofs.Common.{◌≢◌, arith}
 use Rattle.std.proofs.lemmas.Bool.Decides.{nat_tests}
 use Rattle.face_walk.proofs.FaceCycles.{IsOnFace-first, IsOnFace-more, IsOnFace-last}
 use Rattle.kh_types.proofs.WalkLemmas.{unvisited-fewer}
@@ -16,13 +16,7 @@ walk-preserved c =
     c.requires.code c.requires.place apart c.walk.invariant c.place_after-place-in-walk.ensures
 
 pub walk-smaller : goal.walk-smaller
-walk-smaller c =
-    let apart : c.walk.place ≢ c.args.least = grind (arith, nat_tests) in
-    unvisited-fewer c.walk.classes c.args.least c.walk.place (omega (arith, c.walk.invariant.size, c.walk.invariant.below))
-    (elim c.walk.invariant.fresh [ inl same ↦ absurd (apart same) | inr other ↦ other ])
+walk-smaller = grind (arith, nat_tests, unvisited-fewer)
 
 pub returns : goal.returns
-returns c =
-    let back : c.walk.place ≡ c.args.least = grind (arith, nat_tests) in
-    IsOnFace-last c.args.diagram.now c.args.classes.now c.walk.classes c.args.least c.walk.place c.requires.code c.requires.walked
-    c.walk.invariant back
+returns = grind (arith, nat_tests, IsOnFace-last)

@@ -1,3 +1,5 @@
+use Rattle.std.proofs.lemmas.Bool.Decides.{nat_tests}
+use Rattle.std.proofs.Common.{arith}
 use Rattle.kh_types.proofs.AcceptedLemmas.{HasArcsTwice-accepted}
 use Rattle.slides.proofs.Corners.{source-source}
 use Rattle.slides.proofs.Sides.{HasSides-triangle}
@@ -13,16 +15,13 @@ returns-clause-passes c code x y z place accepted is within =
     KeepsPass-slid code x y z accepted (HasSides-triangle code.crossings x y z (HasArcsTwice-accepted code accepted) is) place within
 
 pub returns-clause-back : goal.returns-clause-back
-returns-clause-back c crossings x y z place is =
-    source-source x y z (record { x_y = is.x_y; x_z = is.x_z; y_z = is.y_z }) place
+returns-clause-back = grind (arith, nat_tests, source-source)
 
 pub returns-clause-components : goal.returns-clause-components
-returns-clause-components c crossings x y z twice is =
-    components_of-slid crossings x y z twice (HasSides-triangle crossings x y z twice is)
+returns-clause-components = grind (arith, nat_tests, components_of-slid, HasSides-triangle)
 
 pub returns-clause-count : goal.returns-clause-count
-returns-clause-count c crossings x y z twice is =
-    component_count-slid crossings x y z twice (HasSides-triangle crossings x y z twice is)
+returns-clause-count = grind (arith, nat_tests, component_count-slid, HasSides-triangle)
 
 pub returns-clause-apart : goal.returns-clause-apart
 returns-clause-apart c code x y z place accepted is within =

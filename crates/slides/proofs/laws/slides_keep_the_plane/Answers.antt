@@ -1,3 +1,5 @@
+use Rattle.std.proofs.lemmas.Bool.Decides.{nat_tests}
+use Rattle.std.proofs.Common.{arith}
 use Rattle.kh_types.proofs.AcceptedLemmas.{HasArcsTwice-accepted}
 use Rattle.slides.proofs.Sides.{HasSides-triangle}
 use Rattle.slides.proofs.SlidBack.{face_count-slid, piece_count-slid, planar-slid}
@@ -5,8 +7,7 @@ use Rattle.slides.proofs.SlidBoard.{IsCheckerboard-slid}
 use Rattle.slides.proofs.laws.slides_keep_the_plane.Goals as goal
 
 pub returns-clause-checkerboard : goal.returns-clause-checkerboard
-returns-clause-checkerboard c code x y z accepted is =
-    IsCheckerboard-slid code x y z accepted (HasSides-triangle code.crossings x y z (HasArcsTwice-accepted code accepted) is)
+returns-clause-checkerboard = grind (arith, nat_tests, IsCheckerboard-slid, HasSides-triangle, HasArcsTwice-accepted)
 
 pub returns-clause-pieces : goal.returns-clause-pieces
 returns-clause-pieces c crossings x y z twice is = piece_count-slid crossings x y z twice (HasSides-triangle crossings x y z twice is)
@@ -15,5 +16,4 @@ pub returns-clause-faces : goal.returns-clause-faces
 returns-clause-faces c crossings x y z twice is = face_count-slid crossings x y z twice (HasSides-triangle crossings x y z twice is)
 
 pub returns-clause-planar : goal.returns-clause-planar
-returns-clause-planar c code x y z accepted is =
-    planar-slid code x y z accepted (HasSides-triangle code.crossings x y z (HasArcsTwice-accepted code accepted) is)
+returns-clause-planar = grind (arith, nat_tests, planar-slid, HasSides-triangle, HasArcsTwice-accepted)
