@@ -1,4 +1,9 @@
--- What the loop over the lines of blocks keeps, and what it comes to.
+-- What the loop over the lines of blocks keeps, and what it comes to. It keeps that the lines read so far tell of blocks that
+-- stand, that the reading stands where these blocks say, and that the next line has the number behind theirs. A line comes to one
+-- of three things. It goes on, where it cancels or begins a block: then the blocks tell one line more. It closes: then the blocks
+-- prove the table, and the rows are those of all quantum degrees. Or it fails: then it is the wrong line behind these blocks, for
+-- its cause. Where the lines end before one closes, the log ends early. What a single line does is known from elsewhere; here it
+-- is carried over to the lists of lines and their numbers.
 use Rattle.std.proofs.Common.{◌≡◌, ℕ, ◌+◌, ◌≤◌, ◌∙◌, true, false, List, [], ◌∷◌, ◌++◌, length, inl, inr, refl, sym, ap, arith}
 use Rattle.std.specs.Prelude.{None, Some, Err}
 use Rattle.std.specs.List.{flat_map}

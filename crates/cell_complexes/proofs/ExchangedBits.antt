@@ -1,4 +1,10 @@
--- Numbers with two neighbouring bits exchanged.
+-- Numbers with two neighbouring bits exchanged, those at the places k and k + 1. All is by recursion on k: the lowest bit stays,
+-- and the half of the number has its bits exchanged, until they are the two lowest. To exchange twice changes nothing, for
+-- numbers as for places; each bit comes to where its place goes; numbers below a power of 2 that has room for both bits stay
+-- below it; and to set a bit and exchange is to exchange and set the bit where it goes. Lower and higher places stay, so the ones
+-- before a place are as many unless just one of the two bits is counted. Hence the ones before a 0 bit and those before where it
+-- goes have the same parity, but for whether both bits are 1 before it is set, and after. The last lemma is the same exchange of
+-- two neighbours in a list.
 use Rattle.std.proofs.Common.{◌≡◌, ℕ, inl, inr, zero, suc, ◌+◌, ◌*◌, ◌/◌, ◌%◌, ◌^◌, ◌<◌, ◌≤◌, ◌∙◌, List, [], ◌∷◌, ◌++◌, length, get_or, refl, sym, ap, ap₂, arith}
 use Rattle.std.proofs.lemmas.Bool.{cases_eq, cases_lt}
 use Rattle.std.proofs.lemmas.Nat.Bits.{bit_at-suc, bit_at_lowest}

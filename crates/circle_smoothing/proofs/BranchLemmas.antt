@@ -1,4 +1,9 @@
--- States on a branch: how many are counted at a place, and what is counted where the branch parts in two.
+-- States on a branch: how many are counted at a place, and what is counted where the branch parts in two. On a branch the
+-- smoothings of some crossings are chosen; a state of the other crossings is counted by its ones and by how many classes the
+-- joins take away. Twice a state and a bit more is a state with that smoothing at the first crossing and the old ones behind it.
+-- So it is counted where the rest is on the branch with this smoothing, and as the states are the even numbers and the odd ones,
+-- the count of a branch is the sum of those of its two parts. Where no crossing is left, there is one state, and the entry at its
+-- place goes up by one. Other parts are of the two joins of a smoothing, and of what is left behind the first crossing.
 use Rattle.std.proofs.lemmas.Bool.Decides.{nat_tests}
 use Rattle.std.proofs.Common.{◌≡◌, ℕ, zero, suc, ◌+◌, ◌-◌, ◌*◌, ◌^◌, ◌<◌, ◌≤◌, ◌∙◌, List, [], ◌∷◌, ◌++◌, map, length, get_or, ap, ap₂, sym, subst, refl, arith, Bool, cond, inl, inr, eq-eqb}
 use Rattle.std.proofs.lemmas.Bool.{ne_eqb}

@@ -1,5 +1,9 @@
--- Walks along the circles of a state: from a dart across the smoothing and on to the other end of the arc, so always on darts of one
--- colour, of which each arc has one.
+-- Walks along the circles of a state: from a dart across the smoothing and on to the other end of the arc, so always on darts of
+-- one colour, of which each arc has one. So a step goes from arc to arc by a permutation whose cycles are the circles, and a walk
+-- goes round one cycle. It begins at an arc that no walk has met, the least of its circle, and gives the name of this arc to each
+-- arc that it leaves; there are fewer others after each step, and when it is back, the circle is done. An arc that has another
+-- name begins no walk. The number 0 and the loops are circles of their own. When all arcs have been walked, the classes are the
+-- circles of the state, each named by its least number.
 use Rattle.std.proofs.lemmas.Bool.Decides.{nat_tests}
 use Rattle.std.proofs.Common.{◌≡◌, ◌≢◌, ℕ, zero, suc, inl, inr, ◌+◌, ◌-◌, ◌*◌, ◌<◌, ◌∙◌, List, refl, sym, ap, subst, length, arith, IsTrue, not}
 use Rattle.std.specs.Prelude.{nat_eq, slice_index}

@@ -1,5 +1,9 @@
--- The numbers of circles along an edge: the two that become one keep the lesser number, and the numbers above the greater go down by
--- one.
+-- The numbers of circles along an edge: the two that become one keep the lesser number, and the numbers above the greater go down
+-- by one. The number of a circle counts the least names of circles below its own. Where two circles become one, the greater of
+-- their two names is gone from these and all others stay: so as many are lesser than a name up to it, and one fewer than a name
+-- above it. From this follow the number of the circle that is kept, those of the others, and that of the circle of each arc and
+-- loop. An edge is such a join, forwards in a merge and backwards in a split; it is not both, as two touched circles are not one.
+-- So each edge does exactly one thing, and the circles are renumbered by what it does.
 use Rattle.std.proofs.Common.{◌≡◌, ◌≢◌, ℕ, inl, inr, ◌+◌, ◌-◌, ◌<◌, ◌≤◌, ◌∙◌, [], ◌∷◌, refl, sym, ap, subst, length, map, arith, Bool, false, ◌&&◌, not, IsTrue}
 use Rattle.std.specs.Prelude.{nat_eq, min, max, slice_index}
 use Rattle.std.specs.List.{filter, range_with_len}

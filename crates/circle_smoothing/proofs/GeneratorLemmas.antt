@@ -1,4 +1,8 @@
--- The number of generators, state by state and kind by kind.
+-- The number of generators, state by state and kind by kind. A state has a generator for each of its labels, so all generators
+-- are as many as the labels of all states together. For sums by kinds, a number counts for its own kind alone: so by induction on
+-- a list of numbers, the sum over the kinds of a value times how often the kind occurs is the sum of the values of the numbers'
+-- kinds. In an accepted code each state has a kind within the limit, and the kind tells its number of circles: so the generators
+-- of all kinds together are all generators. There are at most 2 to the power of the limits of crossings and of circles together.
 use Rattle.std.proofs.lemmas.Bool.Decides.{nat_tests}
 use Rattle.std.proofs.Common.{◌≡◌, ℕ, zero, suc, ◌+◌, ◌*◌, ◌^◌, ◌<◌, ◌≤◌, ◌∙◌, List, [], ◌∷◌, ap, ap₂, sym, refl, length, arith, Bool, cond, inl, inr, eq-eqb}
 use Rattle.std.specs.Prelude.{nat_eq}

@@ -1,4 +1,10 @@
--- Kinds of states: what a walk over the branches has counted, and sums over states by their kinds.
+-- Kinds of states: what a walk over the branches has counted, and how many states are of a kind. A kind is a number of ones and a
+-- number of circles. A number that is no arc is a class of its own; so among however many numbers, the classes that the joins
+-- take away are as many as the arcs and loops less the circles, and at most two for each crossing. A place in the table is that
+-- of its row, the ones, and its column, the joins, and of no others: so the states counted at the place of a kind are those of
+-- the kind. No state has more ones, circles or joins than the bounds, so past them a kind has no states. Hence the table that a
+-- walk over all branches has counted holds the number of states of each kind. The same way of numbering rows and columns gives
+-- back the ones and the circles of a kind from its own number.
 use Rattle.std.proofs.lemmas.Bool.Decides.{nat_tests}
 use Rattle.std.proofs.Common.{◌≡◌, ℕ, zero, suc, ◌+◌, ◌-◌, ◌*◌, ◌/◌, ◌%◌, ◌^◌, ◌<◌, ◌≤◌, ◌∙◌, List, [], ◌∷◌, length, get_or, ap, ap₂, sym, refl, arith, Bool, true, false, cond, eq-eqb}
 use Rattle.std.specs.Prelude.{nat_eq, ◌&&◌, slice_index, replicate, IsTrue}

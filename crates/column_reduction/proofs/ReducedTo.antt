@@ -1,4 +1,9 @@
--- A complex, reduced from its greatest degree down: at first no degree, then one degree more, and in the end all.
+-- A complex, reduced from its greatest degree down: at first no degree, then one degree more, and in the end all. The history so
+-- far is kept legal, with the places that are alive after it; no entry leads out of the degrees that are reduced, and the entries
+-- out of those below are as at first, but 0 at rows that are dead. At first this holds since a complex has no entries at dead
+-- rows. For one degree more, the columns of the degree without their entries at dead rows are those of the complex as it stands,
+-- so the stored columns reduce this degree. In the degree just below, the rows that are columns of their pivots are now dead and
+-- 0; further down nothing changes. In the end there is no entry out of any degree, and the complex is zero.
 use Rattle.std.proofs.Common.{◌≡◌, ℕ, ◌+◌, ◌∙◌, inl, inr, List, [], ◌++◌, ℤ, pos, ◌+ℤ◌, ◌-ℤ◌, ◌<ℤ◌, length, refl, ap, ap₂, sym, subst, arith, Bool, true, false}
 use Rattle.std.specs.Prelude.{slice_index_or, if◌then◌else◌}
 use Rattle.std.proofs.lemmas.Bool.Decides.{eqb_tells}

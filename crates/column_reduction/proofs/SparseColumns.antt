@@ -1,4 +1,9 @@
 -- The complex that names and columns make: its columns, its places, and its reduction by the columns of one degree after another.
+-- At first all its places are alive; each degree has as many places as columns, and its entries are those that the columns list,
+-- and 0 past the last row. So what is shown of the reduction of a complex applies to it: it begins with no degree reduced, and
+-- reduced columns of the degree below give one degree more. The rows of a degree's columns are the places of the next degree,
+-- also while it is reduced, and there are few enough columns to be counted. The first part and the last are of lists in memory:
+-- names and columns that fit make such a complex, and from the end of the list one degree's columns after another are taken.
 use Rattle.std.proofs.Common.{◌≡◌, ℕ, ◌+◌, ◌<◌, ◌^◌, ◌∙◌, inl, inr, List, [], ◌∷◌, ◌++◌, ℤ, pos, ◌+ℤ◌, length, map, refl, ap, sym, subst, arith, append_assoc, Bool, true}
 use Rattle.std.specs.Prelude.{get_or, slice_index_or, All}
 use Rattle.std.specs.Global.{Vec}

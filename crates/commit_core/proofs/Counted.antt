@@ -1,4 +1,9 @@
--- What the answers depend on of a state: the degree and the version of each block, and those of what each worker holds.
+-- What the answers depend on of a state: the degree and the version of each block, and those of what each worker holds. The
+-- counts of the opening state are the opening counts; what is looked up in the counts of a state is the count of what is looked
+-- up in the state; and they change with it where a worker holds something else, or where a block has one pivot more. So each row
+-- of the table of a sound state comes to the answer and the counts that the function of the counts says, by cases on the event
+-- and the answer. For a look the function compares the length of the history with the turns that the block takes, for a commit
+-- the two versions, and the row says how the test comes out.
 use Rattle.std.proofs.Common.{◌≡◌, ℕ, ◌+◌, ◌-◌, ◌∙◌, List, [], ◌∷◌, ℤ, length, map, refl, sym, ap, ap₂, subst, Bool, true, false, cond, eq-eqb, ne_eqb, Option, None, Some, length-append}
 use Rattle.std.specs.Prelude.{nat_eq}
 use Rattle.std.specs.Option.{option_map}

@@ -1,4 +1,8 @@
--- Each legal history of a block is that of a run: a worker looks and commits once for each pivot.
+-- Each legal history of a block is that of a run: a worker looks and commits once for each pivot. Between the turns the state is
+-- the opening one, but that one block has a history: this block is found at its degree, one pivot more is a commit to it, and
+-- with no pivot it is the opening state. In a turn worker 1 looks, and is not told that the block is zero, since a legal history
+-- that can go on has fewer pivots than all ranks together. It gets a copy for the next pivot, commits it at the version at which
+-- it looked, and holds nothing again. The run is put together by induction on the pivots that are left.
 use Rattle.std.proofs.Common.{◌≡◌, ◌≢◌, ℕ, zero, suc, ◌+◌, ◌<◌, ◌≤◌, ◌∙◌, List, [], ◌∷◌, ◌++◌, ℤ, length, get_or, set, map, replicate, refl, sym, ap, ap₂, subst, arith, Bool, true, false, cond, Option, None, Some, inl, inr, IsTrue, append_assoc, length-append}
 use Rattle.std.specs.List.{Contains, find}
 use Rattle.std.specs.Option.{option_map}

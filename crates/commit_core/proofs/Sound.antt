@@ -1,4 +1,9 @@
--- What a core keeps, along the rows of its table.
+-- What a core keeps, along the rows of its table: the blocks are those of the diagram, each with a legal history, and what a
+-- worker holds was copied of what the first pivots of its block's history left. At first there is no pivot and nothing is held.
+-- It stays where a worker holds something else of this kind, or nothing. A copy of a block as it stands is of this kind, and what
+-- is held at the version of its block is a copy of it as it stands. It stays after a commit of a pivot of the block: the history
+-- stays legal, only the place of this block in the list changes, as all degrees differ, and copies that are held depend on first
+-- pivots of a history alone, which stay the same.
 use Rattle.std.proofs.Common.{◌≡◌, ℕ, ◌-◌, ◌<◌, ◌≤◌, ◌∙◌, [], ◌∷◌, ℤ, length, get_or, set, map, take, sym, ap, subst, arith, cond, inl, inr, Option, None, Some, length-append, take_all}
 use Rattle.std.specs.Prelude.{IfSome}
 use Rattle.std.specs.List.{All}

@@ -1,4 +1,9 @@
--- The parts of an event, put together.
+-- The parts of an event, put together to the rows of the core's table. A core is sound when it is made, and stays so as a worker
+-- is given what it may hold, or nothing. What is seen of a block is that it had all its turns, exactly where its complex is zero,
+-- or else a copy for some pivot; where a worker then holds the copy, this is the row of a look. A commit to a block is never
+-- foreign, since what was copied of a complex does not differ from it: so either the copy is old, and the state stays, or the
+-- pivot stands at the end of the block's history. Both leave a sound state, and with what the worker held give the row of a
+-- commit. A worker that holds nothing changes nothing.
 use Rattle.std.proofs.Common.{◌≡◌, ◌↔◌, ℕ, ◌-◌, ◌<◌, ◌≤◌, ◌∙◌, List, ℤ, length, get_or, set, replicate, map, refl, sym, ap, subst, subst₂, arith, Option, None, Some, IsTrue, true, length-set, inl, inr}
 use Rattle.std.proofs.lemmas.List.{get_or-map, get_or_default, length-map, length-replicate, set-get_or}
 use Rattle.std.specs.Prelude.{IfSome}

@@ -1,4 +1,9 @@
--- What the seam of an added surface makes of terms is the terms of the new map.
+-- What the seam of an added surface makes of terms is the terms of the new map. Of a term the seam makes a term for each dot set
+-- that it chooses, with the product of the components' factors. The product times how often a dot set is chosen is the number of
+-- the surface that the crossing adds with this set. So the coefficients of the set add up to the old coefficient times that
+-- number, and a sum with the seam's terms is one with a term for each dot set. This is done twice: for the terms of a map, where
+-- the faces are the discs between the two old pairings, with the dots of the term, and for the saddle, where they are the discs
+-- of one pairing, without marks. A single term with the coefficient 1 is reduced.
 use Rattle.std.proofs.Common.{◌≡◌, ℕ, zero, suc, ◌+◌, ◌-◌, ◌*◌, ◌/◌, ◌%◌, ◌^◌, ◌<◌, ◌≤◌, ◌∙◌, List, [], ◌∷◌, ◌++◌, length, map, refl, sym, subst, subst₂, ap, ap₂, arith, Bool, true, false, cond}
 use Rattle.std.specs.Prelude.{nat_eq, slice_index}
 use Rattle.std.specs.List.{count_by, enumerate_from, range_with_len, AllByRecursion, Contains}

@@ -1,4 +1,9 @@
--- Partners that are made of pairs, where each arc is an end of one of them.
+-- Partners that are made of pairs, where each arc is an end of one of them. Each arc is its own partner at first, and a pair
+-- makes its two ends partners where both have none. A pair leaves the partners of all other arcs; so an arc keeps its partner
+-- where it is the end of no later pair, and the ends of a pair have no partners until it comes, and one another from then on. The
+-- pairs here are those of points in one class. Read off the partners again, they are the same, point by point: a point with a
+-- greater mate has just one, as it is an end of one pair only, and this is its partner; a point without is the greater end of its
+-- pair, and its partner is lesser, so no pair is read off there.
 use Rattle.std.proofs.Common.{◌≡◌, ◌≢◌, ℕ, ◌⊎◌, inl, inr, ◌<◌, ◌≤◌, ◌∙◌, List, [], ◌∷◌, ◌++◌, length, map, set, take, refl, sym, subst, ap, ap₂, arith, Bool, true, false, cond, not, ◌&&◌}
 use Rattle.std.specs.Prelude.{nat_eq, nat_lt, slice_index}
 use Rattle.std.specs.List.{filter, flat_map, fold, range_with_len, sum_by, AllByRecursion, Contains}

@@ -1,4 +1,8 @@
--- Sums of products over two lists of terms, and over the numbers of dot sets.
+-- Sums of products over two lists of terms, and over the numbers of dot sets. A sum over a range of numbers and one over terms
+-- can be exchanged (by induction on the range); so a sum over all pairs of terms, with their coefficients, can be taken before
+-- one over numbers or behind it. Hence, where the products of any two terms' entries add up to a sum over dot sets, so do those
+-- of two whole lists of terms. A sum over numbers of which one alone counts is that one's summand. So the sum over all dot sets,
+-- by their coefficients in a list of terms, is the sum over the terms (both by induction).
 use Rattle.std.proofs.Common.{◌≡◌, ℕ, zero, suc, ◌+◌, ◌*◌, ◌<◌, ◌∙◌, List, [], ◌∷◌, refl, sym, ap, ap₂, arith, cond}
 use Rattle.std.specs.Prelude.{nat_eq}
 use Rattle.std.specs.List.{sum_by, AllByRecursion}

@@ -1,4 +1,9 @@
--- The dot sets that are chosen are those that leave so many discs of each component without a dot, each once.
+-- The dot sets that are chosen are those that leave so many discs of each component without a dot, each once. A dot set is a
+-- number; its bits say which discs are dotted. The proof is by induction on the discs. An odd number has a dot on the first disc,
+-- and is counted as its half is for the other discs. An even one has none there: that is chosen only while a disc of that
+-- component may be left, and then its half must leave one fewer. So a number is counted once where it leaves as many as it
+-- should, and else not at all. Then: all that is chosen are dot sets of the discs; and the discs without a dot can also be
+-- counted by their places in the list.
 use Rattle.std.proofs.Common.{◌≡◌, ◌≢◌, ℕ, zero, suc, ◌⊎◌, inl, inr, ◌+◌, ◌-◌, ◌*◌, ◌/◌, ◌%◌, ◌^◌, ◌<◌, ◌∙◌, List, [], ◌∷◌, map, length, refl, sym, ap, ap₂, arith, Bool, true, false, cond, ◌&&◌, eq-eqb}
 use Rattle.std.specs.Prelude.{nat_eq}
 use Rattle.std.specs.List.{list_all, count_by, sum_by, enumerate_from, AllByRecursion, Contains}

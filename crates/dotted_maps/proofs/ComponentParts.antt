@@ -1,4 +1,8 @@
--- A composition's coefficient is a product over components.
+-- A composition's coefficient is a product over components: each gives a part that depends on its genus, its dots and its discs
+-- without a dot. By definition it is a product over all numbers below the size, in which a number that is no component counts as
+-- 1. First, a product over distinct numbers is one over all numbers below a bound, with 1 for the others. Then the surface of a
+-- composition has the components that are listed by their least arcs; on each of them its faces and marks are the discs and dots
+-- of the three pairings, so that its factor is the part. The listed arcs are distinct, as no arc is at two ends of a pairing.
 use Rattle.std.proofs.Common.{◌≡◌, ℕ, inl, inr, ◌+◌, ◌-◌, ◌*◌, ◌/◌, ◌<◌, ◌≤◌, ◌∙◌, List, [], ◌∷◌, ◌++◌, refl, sym, ap, ap₂, arith, Bool, true, false, cond, ◌||◌}
 use Rattle.std.specs.Prelude.{nat_eq, slice_index}
 use Rattle.std.specs.List.{filter, list_any, enumerate_from, sum_by, count_by, AllByRecursion, Contains}

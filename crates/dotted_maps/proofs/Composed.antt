@@ -1,4 +1,9 @@
--- Both ways to compose two terms are one surface, with the faces of both and the outer circles.
+-- Both ways to compose two terms are one surface, with the faces of both and the outer circles. So two sums agree: that of the
+-- products of both terms' entries, over the labels of the circles between them, and that of the composition's coefficients times
+-- the entries of the dot sets from the first pairing to the last. Either sum is the number of two parts laid on each other: both
+-- terms without the circles between them, or the composition and its outside without the discs between them. The parts are
+-- placed, are closed once these are filled, and meet along them. Both overlays have the same components, faces and strips, and so
+-- one number.
 use Rattle.std.proofs.Common.{◌≡◌, ℕ, ◌*◌, ◌^◌, ◌<◌, ◌∙◌, inl, inr, List, [], ◌++◌, map, length, refl, sym, ap, ap₂, arith, append_assoc}
 use Rattle.std.specs.List.{AllByRecursion, Contains}
 use Rattle.std.specs.List.Sorted.{IsPermutation}

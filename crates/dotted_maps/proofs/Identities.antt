@@ -1,4 +1,9 @@
--- The surface of a pairing with itself: cylinders, one for each circle.
+-- The surface of a pairing with itself: cylinders, one for each circle. So the entry of the term without dots is 1 where both
+-- labels agree, and 0 else, and the matrix of the identity is the unit matrix. First, sums in which one element counts. The
+-- components are the circles of the pairing and its outside, and each has half as many pairs as opened arcs; as it is closed, its
+-- Euler count leaves just one circle on either side, and genus 0. Its marks are the first label's bit there, and the other bit of
+-- the second label: one, where both labels have the same bit, and it counts 1; else none or two, and it counts 0. So where the
+-- labels agree all factors are 1, and where they differ in a bit one factor is 0.
 use Rattle.std.proofs.Common.{◌≡◌, ◌≢◌, ℕ, zero, suc, ◌⊎◌, inl, inr, ◌+◌, ◌-◌, ◌*◌, ◌%◌, ◌^◌, ◌<◌, ◌≤◌, ◌∙◌, List, [], ◌∷◌, ◌++◌, length, get_or, refl, sym, ap, ap₂, arith, Bool, true, false, cond, eq-eqb}
 use Rattle.std.specs.Prelude.{nat_eq}
 use Rattle.std.specs.List.{enumerate_from, sum_by, AllByRecursion, Contains}

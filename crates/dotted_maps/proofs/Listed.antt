@@ -1,4 +1,8 @@
--- The listed composition has the composition's coefficients.
+-- The listed composition has the composition's coefficients, and so it is a composition of the two maps. The part of a component
+-- is its factor where as many of its discs have no dot as its load allows (its dots and genus together); else it is 0, by cases:
+-- the load is 0, 1 or more. So the product over components is the product of the factors, times a test of all components; this
+-- test holds of the dot sets that are chosen, and of each of them once. Hence the coefficient of a dot set in the list is, pair
+-- of terms by pair of terms, that of the composition, and all dot sets of the list are sets of discs.
 use Rattle.std.proofs.Common.{◌≡◌, ◌≢◌, ℕ, inl, inr, ◌+◌, ◌-◌, ◌*◌, ◌/◌, ◌%◌, ◌^◌, ◌<◌, ◌∙◌, List, [], ◌∷◌, ◌++◌, map, length, refl, sym, ap, ap₂, arith, Bool, true, false, cond, ◌&&◌, eq-eqb}
 use Rattle.std.specs.Prelude.{nat_eq}
 use Rattle.std.specs.List.{list_all, flat_map, count_by, sum_by, AllByRecursion, Contains}

@@ -1,4 +1,8 @@
--- The discs of a pairing with itself are its pairs.
+-- The discs of a pairing with itself are its pairs: twice a sum over the discs is the sum over the opened arcs, where both ends
+-- of each pair have the same summand. As no arc is at two ends, no other pair has an end of a pair (by induction on the pairs).
+-- So no join leads out of a pair, and the class of its ends has one of them as its least point: of the two ends of each pair,
+-- just one stands for a disc. Added up over the pairs this is half the sum over their ends, and these are the opened arcs in
+-- another order.
 use Rattle.std.proofs.Common.{◌≡◌, ◌≢◌, ℕ, ◌⊎◌, inl, inr, ◌+◌, ◌*◌, ◌<◌, ◌≤◌, ◌∙◌, List, [], ◌∷◌, ◌++◌, refl, sym, ap, ap₂, arith, cond}
 use Rattle.std.specs.Prelude.{nat_eq, slice_index}
 use Rattle.std.specs.List.{sum_by, count_by, AllByRecursion, Contains}

@@ -1,4 +1,8 @@
--- The faces of sheets, and what sheets are closed.
+-- The faces of sheets, and what sheets are closed: a sheet is the surface between two pairings and what is joined outside. Marked
+-- faces lie at their places whatever the marks are, and the discs along circles at some places are such faces. So faces at the
+-- least points of discs and circles are at points that are alive, and a sheet with them is placed. How many faces are on a
+-- component depends on their places alone; so a sheet that is closed is so with all faces at the same places, in any order. The
+-- faces of a term are at the discs of both pairings and at the circles of each.
 use Rattle.std.proofs.Common.{◌≡◌, ℕ, ◌+◌, ◌-◌, ◌*◌, ◌∙◌, List, [], ◌∷◌, ◌++◌, map, refl, sym, ap, ap₂, arith}
 use Rattle.std.specs.List.{enumerate_from, sum_by, AllByRecursion, Contains}
 use Rattle.std.specs.List.Sorted.{IsPermutation}

@@ -1,4 +1,8 @@
--- What one more arc does to open darts, faces and pieces.
+-- What one more arc does to open darts, faces and pieces. The arc goes between two open darts; all darts are still partners in
+-- pairs, and two fewer are open. Two images of the face step are exchanged: so where both darts are of one face, the arc splits
+-- it, and where they are of two, it makes one face of these. Pieces are classes of crossings, tied by arcs, and the arc ties
+-- those of its two ends. So an arc between two pieces makes one piece and one face of two, as a face lies in one piece; and an
+-- arc inside a piece leaves the pieces, and joins two faces or splits one.
 use Rattle.std.proofs.Common.{◌≡◌, ◌≢◌, ℕ, inl, inr, ◌⊎◌, ◌+◌, ◌*◌, ◌/◌, ◌<◌, ◌∙◌, [], ◌∷◌, ◌++◌, sym, ap, map, arith, true, not, ◌&&◌, eq-eqb}
 use Rattle.std.specs.Prelude.{slice_index, nat_eq}
 use Rattle.std.specs.List.{range_with_len}

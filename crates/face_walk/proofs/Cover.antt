@@ -1,5 +1,9 @@
 -- The double cover of crossings with arcs: over each crossing there are two, and over each arc two, which lead from a dart of one
--- colour to one of the other, where the colour of a dart is told by its crossing's sheet and its slot.
+-- colour to one of the other, where the colour of a dart is told by its crossing's sheet and its slot. A face step of the cover
+-- goes above one below, and keeps the colour: so over each face there are two at least, one of either colour. Over the ends of an
+-- arc lie the same two pieces, so over each piece there are two at most, and fewer in all where both crossings above a crossing
+-- are in one piece. The cover too has at most as many faces as on the sphere. So of a planar whole without open darts, the two
+-- crossings above each crossing are in different pieces: else the cover would have too many faces for its pieces.
 use Rattle.std.proofs.Common.{◌≡◌, ◌≢◌, ℕ, ◌⊎◌, inl, inr, ◌+◌, ◌*◌, ◌/◌, ◌%◌, ◌<◌, ◌≤◌, ◌∙◌, List, length, map, sym, ap, arith, Bool, true, not, ◌&&◌, eq-eqb, eqb-true}
 use Rattle.std.specs.Prelude.{slice_index, nat_eq, min, max, if◌then◌else◌}
 use Rattle.std.specs.List.{count_by, range_with_len}

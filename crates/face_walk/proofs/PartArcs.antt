@@ -1,4 +1,9 @@
--- Some of the arcs of a partner function, and all of them, added one after another.
+-- Some of the arcs of a partner function, and all of them, added one after another. For each k there are, besides the arcs of the
+-- part, those of the whole that have an end below k; from each k to the next either nothing changes or one arc is added. One more
+-- arc never brings them nearer to the sphere in Euler's count; so, by induction on k, the whole is no nearer than the part. From
+-- bare crossings on this says: there are at most as many faces as on the sphere; and what is planar is planar with some of its
+-- arcs. So in a planar whole, an arc that a part has not and that stays inside a piece of it joins two darts of one face, and
+-- splits that face.
 use Rattle.std.proofs.Common.{◌≡◌, ◌≢◌, ℕ, zero, suc, ◌⊎◌, inl, inr, ◌+◌, ◌*◌, ◌/◌, ◌<◌, ◌≤◌, ◌∙◌, refl, sym, subst, arith, cond, ◌||◌}
 use Rattle.std.specs.Prelude.{slice_index, nat_lt}
 use Rattle.std.proofs.lemmas.Bool.{cases_eq}

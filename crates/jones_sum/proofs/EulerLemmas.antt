@@ -1,4 +1,8 @@
--- The Euler characteristic, row by row.
+-- The Euler characteristic, row by row. A row adds its dimension, with the sign of its homological degree, to the coefficient of
+-- its quantum degree, and nothing to the others. The size of a coefficient is at most the sum of all dimensions (by induction on
+-- the rows), so that the sums stay small. The list of all coefficients, with one row more, is that of before, with what the row
+-- adds put in at one place; and so for the first k rows of a list, which is one turn of the loop that computes them. At exponents
+-- outside the limits the characteristic is 0, since no row of a table has such a degree.
 use Rattle.std.proofs.Common.{◌≡◌, ◌≢◌, ℕ, suc, ◌+◌, ◌*◌, ◌%◌, ◌<◌, ◌≤◌, ◌∙◌, List, [], ◌∷◌, ◌++◌, map, length, get_or, take, ap, sym, refl, subst, inl, inr, arith, ℤ, pos, negsuc, neg_ℤ, ◌+ℤ◌, ◌-ℤ◌, Bool, true, false, cond}
 use Rattle.std.specs.Prelude.{unsigned_abs, nat_eq}
 use Rattle.std.specs.List.{All, filter, sum_by}

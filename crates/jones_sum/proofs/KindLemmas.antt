@@ -1,4 +1,9 @@
--- Sums over states, kind by kind.
+-- Sums over states, kind by kind: states with as many ones and as many circles have one term, so the state sum is the sum of each
+-- kind's term, taken as often as the kind is counted. One more in the count of a kind adds that kind's value to such a sum, and
+-- all counts 0 make 0. One more kind adds its count times its value; bounds on the size of a sum and of a term come with that.
+-- The counts of the first states, with one state more, have one more at its kind. By induction on the states, the sum by kinds is
+-- the sum over the states, and the counts together are the number of states. For all states, and the terms of kinds, this gives
+-- the state sum.
 use Rattle.std.proofs.Common.{◌≡◌, ℕ, zero, suc, ◌+◌, ◌*◌, ◌^◌, ◌<◌, ◌≤◌, ◌∙◌, List, [], ◌∷◌, ◌++◌, map, length, get_or, take, ap, sym, refl, arith, ℤ, pos, ◌+ℤ◌, ◌*ℤ◌, Bool, cond, inl, inr, eq-eqb}
 use Rattle.std.specs.Prelude.{nat_eq, replicate, unsigned_abs}
 use Rattle.std.specs.List.{count_by, enumerate_from, range_with_len, sum}

@@ -1,4 +1,8 @@
--- The rows of tables: how many there are, and those of diagrams.
+-- The rows of tables: how many there are, and those of diagrams. The pairs of degrees within the limits are numbered, by the
+-- quantum degree and then by the homological degree. Along the rows of a table these numbers rise, so there are no more rows than
+-- pairs; this bounds the sum of all dimensions too. Then, the rows made of any dimensions that are small enough are a table:
+-- those of one quantum degree ascend by the homological degree, those of later quantum degrees stand behind (by induction), and
+-- each row is within the limits. A diagram's dimensions are at most the number of its generators; so its table is one.
 use Rattle.std.proofs.Common.{◌≡◌, ℕ, zero, suc, ◌+◌, ◌-◌, ◌*◌, ◌<◌, ◌≤◌, ◌∙◌, List, [], ◌∷◌, ◌++◌, map, length, get_or, ap, sym, subst, refl, inl, inr, arith, true, ℤ, pos, ◌+ℤ◌, ◌-ℤ◌}
 use Rattle.std.specs.Prelude.{nat_lt, unsigned_abs, ◌≤ℤ◌}
 use Rattle.std.specs.List.{All, AllPairs, filter, flat_map, range_with_len}

@@ -1,4 +1,7 @@
--- An array has no more elements than its text has bytes, and one.
+-- An array has no more elements than its text has bytes, and one. The reader of JSON goes by steps, and none of them makes more
+-- of anything: a byte begins one lexeme at most; lexemes give no more tokens than they are, and one for a fault at the end; an
+-- array has no more items than there are tokens, as it is parsed in at most so many turns; and the data made of it have as many
+-- elements as it has items. Each step is shown by induction on its list, or on the number of turns.
 use Rattle.std.proofs.Common.{◌≡◌, ℕ, zero, suc, ◌+◌, ◌≤◌, Bool, true, false, List, [], ◌∷◌, length, Option, Some, None, option_map, option_and_then, refl, subst, arith}
 use Rattle.std.specs.Prelude.{⊤}
 use Rattle.json.specs.Token.{Token}

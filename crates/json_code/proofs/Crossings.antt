@@ -1,4 +1,8 @@
--- What is computed of an element is a quadruple of numbers or its first wrong slot, and it is the only such thing.
+-- What is computed of an element is a quadruple of numbers or its first wrong slot, and it is the only such thing. A value is
+-- taken for a number exactly where it is a whole one. The slots are looked at in order: the first that holds no number is the
+-- wrong one; where all four hold numbers there may be a fifth member, and slot 4 is wrong, or the four are all members. A value
+-- that is no array is wrong at slot 0. The other way: one slot alone can be the first wrong one, and four numbers have none. So a
+-- quadruple is read as the arcs that it names, and a wrong element as where it is wrong.
 use Rattle.std.proofs.Common.{◌≡◌, ◌≢◌, ℕ, zero, suc, ◌<◌, ◌≤◌, Bool, true, false, nat_lt, cond, List, [], ◌∷◌, length, map, inl, inr, Option, None, Some, option_map, option_and_then, ok_or, Result, Ok, Err, refl, sym, ◌∙◌, ap, subst, arith, below_more, below_none}
 use Rattle.std.proofs.lemmas.List.{length-map}
 use Rattle.std.specs.Prelude.{slice_get}

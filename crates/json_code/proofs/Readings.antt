@@ -1,4 +1,8 @@
--- What is computed of the value of a text is the reading of the text, and no text has another.
+-- What is computed of the value of a text is the reading of the text, and no text has another. First, by induction on the
+-- elements, they are quadruples up to a first wrong one, whose number is one more than there are before it. With too many
+-- elements, and values that are no arrays, each value so gives a reading; and bytes that are not UTF-8, or have no value, are no
+-- JSON. The other way, each reading is that of no JSON text, or it is what is computed of the text's value: quadruples are read
+-- as their arcs, and a wrong element behind them as where it is wrong. As a text has one value at most, two readings of it agree.
 use Rattle.std.proofs.Common.{◌≡◌, ℕ, suc, ◌+◌, ◌<◌, ◌≤◌, Bool, true, false, nat_lt, cond, List, [], ◌∷◌, ◌++◌, length, map, All, ◌⊎◌, inl, inr, Option, None, Some, IsUtf8, Result, Ok, Err, refl, sym, ◌∙◌, ap, subst, arith}
 use Rattle.std.proofs.lemmas.Bool.{ltb-true, ltb-false, le-ltb, lt-ltb}
 use Rattle.std.proofs.lemmas.List.{append-nil, length-map}

@@ -1,4 +1,9 @@
--- What a machine that reads a grammar shows: where it refuses a symbol, or ends too early, is the first fault.
+-- What a machine that reads a grammar shows: where it refuses a symbol, or ends too early, is the first fault. It leads texts of
+-- the grammar, and only these, from the start to an end, and from each state some symbols lead to an end. So symbols that it
+-- takes can go on to a text, and those before one that it refuses are the longest that can: no text begins with that one too.
+-- Symbols that are taken but lead to no end are no text yet, and the fault is at their end. By induction on the symbols, they
+-- lead to an end or to a first fault, which is computed. Then the same of the tokens of a text: they leave the grammar at the
+-- place of the refused token, or at the text's end.
 use Rattle.std.proofs.lemmas.Bool.Decides.{nat_tests}
 use Rattle.std.proofs.Common.{◌≡◌, ℕ, suc, ◌+◌, ◌<◌, Bool, true, false, cond, List, [], ◌∷◌, ◌++◌, length, drop, get_or, take, Option, None, Some, Result, Ok, Err, refl, sym, ◌∙◌, ap, subst, arith, add-zero, append_assoc, length-append, take-append-drop}
 use Rattle.std.specs.Option.{option_and_then, option_map_or}

@@ -1,4 +1,8 @@
--- What begins a text: the token or the fault that is read there is the one of the definition.
+-- What begins a text: the token or the fault that is read there is the one of the definition. The text is not empty and begins
+-- with no blank. Its first byte decides, in this order: a letter begins a word, which is the longest run of letters; a digit, or
+-- a minus sign and a digit, begins a number, which is a fault where it is too large; one of five bytes is a mark. Any other byte
+-- begins no token of any kind, as each kind tells what its first byte is. Last, a piece that is read is a blank or a token that
+-- begins the text.
 use Rattle.std.proofs.lemmas.Bool.Decides.{nat_tests}
 use Rattle.std.proofs.Common.{◌≡◌, ℕ, ◌+◌, ◌<◌, ◌≤◌, nat_lt, ◌==◌, nat_abs, ℤ, pos, Bool, true, false, cond, List, [], ◌∷◌, ◌++◌, length, IfSome, Option, None, Some, Result, Ok, Err, refl, sym, ◌∙◌, ap, subst, arith, slice_index, take-append-drop, length-append, drop}
 use Rattle.std.proofs.lemmas.Bool.{eqb-true, ltb-false, ltb-true}

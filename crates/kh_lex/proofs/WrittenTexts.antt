@@ -1,4 +1,8 @@
--- How a text is written so that it means some symbols: symbol by symbol, from its end on.
+-- How a text is written so that it means some symbols: symbol by symbol, from its end on. The empty text writes no symbols.
+-- Before a text that writes some, there may be put: a mark; a word, where the text begins with no letter; a number in decimal
+-- digits, with its sign, where it begins with no digit; and a space, which adds no symbol. So each word and each number is a
+-- longest run. At last, a text means what it writes: by induction on the symbols its tokens are found, each at its place in the
+-- whole text, and they cut the text.
 use Rattle.std.proofs.lemmas.Bool.Decides.{nat_tests}
 use Rattle.std.proofs.Common.{◌≡◌, suc, ◌+◌, ◌<◌, ◌≤◌, ℕ, ℤ, pos, negsuc, neg_ℤ, nat_abs, true, false, List, [], ◌∷◌, ◌++◌, length, take, drop, refl, sym, ◌∙◌, ap, arith, codes}
 use Rattle.std.proofs.Math.Seq.{drop-append_seam, take-append_seam}

@@ -1,4 +1,8 @@
--- What is written of a reply is what a run promises, whatever answers it.
+-- What is written of a reply is what a run promises, whatever answers it. There are four cases of how the reply was made and
+-- written, and in each every promise of a run is met, or what it supposes is not so. The reply is written whole, with its own
+-- status, and the sink had no fault; or the sink had one, and the first bytes of the reply are written; or the source had a
+-- fault, or memory ran out, and nothing is written. At last, a run that no fault of reading, of writing or of memory disturbed
+-- has written its answer whole.
 use Rattle.std.proofs.Common.{◌≡◌, ◌⊎◌, inl, inr, ℕ, List, [], take, IfSome, sym, subst, refl, ◌∙◌, Result, Ok, Err, None, Some}
 use Rattle.std.specs.declared.option.Option.{Option}
 use Rattle.std.specs.Io.KnownBytes.{Appends}

@@ -1,5 +1,10 @@
--- Each rule of acceptance is broken nowhere exactly where its fact holds, and so a code breaks no rule exactly where it is accepted
--- in the words of the subject.
+-- Each rule of acceptance is broken nowhere exactly where its fact holds, and so a code breaks no rule exactly where it is
+-- accepted in the words of the subject. A rule is a test of each crossing, arc or slot, and the first fault is that of the first
+-- number in a range; so there is none exactly where all pass. Then rule by rule: slots hold arcs, each arc stands twice,
+-- components are intervals, under and over passes go to the next arc, in a component of two arcs no two under passes go in one
+-- direction; the number of faces, and that of components and loops (the checkerboard's rule is shown elsewhere). A code is
+-- directed where it breaks none of the first six rules, and accepted where it breaks none at all. The arcs of an accepted code
+-- stand twice.
 use Rattle.std.proofs.Common.{◌≡◌, ◌≢◌, ◌↔◌, ℕ, ◌⊎◌, inl, inr, ◌+◌, ◌-◌, ◌<◌, ◌≤◌, ◌∙◌, List, length, sym, ap, subst, arith, Bool, true, false, not, ◌&&◌}
 use Rattle.std.specs.Prelude.{Option, None, IsTrue, nat_eq, nat_lt, ◌||◌}
 use Rattle.std.specs.List.{list_any, range_with_len}

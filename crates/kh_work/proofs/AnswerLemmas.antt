@@ -1,4 +1,8 @@
--- From the reply of a command to the answer to words.
+-- From the reply of a command to the answer to words: words that mean a command are answered by the reply of its order, and
+-- others by the usage line. First the general steps: a reply or an answer that does not depend on the bytes, words that read up
+-- to a limit, and the reply to bytes within the limit of an order, or of a task. Then the answers to what is done, task by task:
+-- the table and the Jones line of an accepted code, the Jones line alone, a schedule, an edit, and a number of the bench, which
+-- has a diagram or is too large. Each unfolds the reply of its order, with the tests of limits decided.
 use Rattle.std.proofs.Common.{◌≡◌, ◌≤◌, ◌<◌, ◌++◌, ℕ, List, length, IfOk, OnOk, inl, inr, refl, sym, ap, subst, ◌∙◌, Result, Ok, Err, None, Some, arith}
 use Rattle.std.specs.declared.option.Option.{Option}
 use Rattle.kh_types.specs.declared.limits.TheConstants.{INPUT_BYTES}

@@ -1,4 +1,8 @@
--- The cases of an answer that come before what a command tells.
+-- The cases of an answer that come before what a command tells, each as the answer to words and bytes. Words without a command
+-- get the usage line, and too many bytes the limit, which is one of two. A text that is no code, and a code with a fault, are
+-- refused; this is said of a whole input, and of the part before the first semicolon where a script or a second code stands
+-- behind it. Then scripts, as they were read, get their replies, and codes with too many generators their number, for homology,
+-- certify, reduced and schedule. Last, the verdict on a log is told. All unfold what an answer is, with the reading put in.
 use Rattle.std.proofs.Common.{◌≡◌, ◌<◌, ◌≤◌, ◌⊎◌, inl, inr, ℕ, List, length, nat_lt, true, refl, sym, subst, Result, Ok, Err, Some}
 use Rattle.std.specs.Prelude.{IsTrue, Option}
 use Rattle.kh_types.specs.Acceptance.{accepted, first_fault}

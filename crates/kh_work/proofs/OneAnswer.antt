@@ -1,4 +1,8 @@
--- There is an answer to all words and all bytes, and one alone, but where the words mean `certify` and it is done.
+-- There is an answer to all words and all bytes, and one alone, but where the words mean `certify` and it is done. It is shown
+-- from the inside out: what a script was read as has one reply; each order has a reply to each input, and one alone, but for a
+-- log that is done; so has a command, whether the bytes are within its limit or beyond it; and so have words, which mean one
+-- command or none. Hence two answers are equal where the words do not mean `certify`, or where one of them is not done; and two
+-- answers always have one status.
 use Rattle.std.proofs.Common.{◌≡◌, ◌≢◌, ℕ, ◌<◌, ◌≤◌, ◌⊎◌, inl, inr, List, length, Bool, true, false, nat_lt, refl, sym, ap, subst, ◌∙◌, Result, Ok, Err, None, Some, arith}
 use Rattle.std.specs.Prelude.{Option}
 use Rattle.std.proofs.lemmas.Grind.{common_steps}

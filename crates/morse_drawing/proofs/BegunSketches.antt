@@ -1,4 +1,10 @@
--- What is read of a drawing's slices, after a crossing has begun in an empty row.
+-- Rule 1 of the drawing: in an empty row a crossing begins, as two caps and a cross whose slot 0 is at the upper left. If what is
+-- read of the slices so far fits the drawing under way, it still does after these three slices. There are six new segments, two
+-- of each cap and two that come out of the cross. Two darts of the crossing meet the inner segments of the caps, whose outer
+-- segments are in the row; the other two meet those that come out, which are in the row themselves. Each part of what is known is
+-- shown by cases: a dart is one of these four or of an old crossing, a segment is one of these six or old. Old darts and segments
+-- keep what they had, as the crossing was not drawn, and its darts are still open. The new segments are painted by the arcs of
+-- their darts, so segments of different arcs stay apart.
 use Rattle.std.proofs.lemmas.Bool.Decides.{nat_tests}
 use Rattle.std.proofs.Common.{◌≡◌, ◌≢◌, ℕ, inl, inr, ◌+◌, ◌*◌, ◌/◌, ◌<◌, ◌≤◌, ◌∙◌, List, [], ◌∷◌, ◌++◌, length, map, refl, sym, ap, subst, arith, min}
 use Rattle.std.proofs.lemmas.Bool.{cases_eq}

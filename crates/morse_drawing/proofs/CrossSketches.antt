@@ -1,4 +1,10 @@
--- What is read of a drawing's slices, after a strand has met its crossing.
+-- Rule 2 of the drawing: a strand meets its partner at a crossing that is not drawn, with a cap at its right and a cross below.
+-- If what is read of the slices so far fits the drawing under way, it still does after these two slices: the strand's arc is
+-- closed, and the other three darts of the crossing take its place in the row. There are four new segments. The partner meets the
+-- strand's own segment; the next two darts meet the two that come out of the cross; the last meets the left segment of the cap,
+-- whose right one is in the row. Each part of what is known is shown by cases: a dart is one of these four or old, a segment is
+-- one of the four new ones or old. The new segments are painted by the arcs of the three darts that are open, and the strand's
+-- segment has the colour of the closed arc already.
 use Rattle.std.proofs.Common.{◌≡◌, ◌≢◌, ℕ, inl, inr, ◌+◌, ◌*◌, ◌/◌, ◌%◌, ◌<◌, ◌≤◌, ◌∙◌, List, [], ◌∷◌, ◌++◌, length, map, sym, ap, ap₂, subst, arith, min}
 use Rattle.std.specs.List.{AllByRecursion}
 use Rattle.std.proofs.lemmas.Bool.{cases_eq}

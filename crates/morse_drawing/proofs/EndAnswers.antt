@@ -1,4 +1,9 @@
--- What open ends know of the pairs of darts and of the loops.
+-- What open ends know is what the classes of segments tell: the pairs of darts that have found each other are the pairs of darts
+-- that meet one class, and the number of loops is that of the classes that are loops. Two segments have one label exactly where
+-- they are in one class. So two darts that meet one class have one label, and by the state of each, bare, open or paired, they
+-- have found each other; and darts that have found each other have one label. Both lists of pairs go through the darts in order,
+-- so they are equal. A class is a loop where no dart meets it and it has no end in the row: that is, where its label is the
+-- number of a loop. Counted by labels, each number of a loop has exactly one class.
 use Rattle.std.proofs.Common.{◌≡◌, ℕ, zero, suc, inl, inr, ◌+◌, ◌-◌, ◌*◌, ◌<◌, ◌≤◌, ◌∙◌, List, [], ◌∷◌, map, get_or, sym, ap, refl, arith, Bool, true, false, cond}
 use Rattle.std.specs.Prelude.{◌&&◌, ◌||◌, nat_eq, nat_lt, not, slice_index}
 use Rattle.std.specs.List.{AllByRecursion, filter, list_any, range_with_len, sum_by}

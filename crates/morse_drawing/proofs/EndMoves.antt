@@ -1,5 +1,9 @@
--- Open ends: what they keep where a row is put in another order, where a dart begins a segment, where a cap begins two, and where a
--- dart that was tied to an end meets that end.
+-- Four moves keep what is known of open ends, that is of the labels of segments, the states of darts and the labels in the row.
+-- First, the row is put in another order, and the list of darts too: only how often each label stands is asked. Second, a segment
+-- begins at a dart that has met none; its label is the place of the dart, which no old segment has. Third, a cap begins two
+-- joined segments under a label that nothing has, which then stands twice in the row. In both the old segments keep their labels.
+-- Fourth, a dart that began a segment which was tied to an end meets that end itself: the last segment is left out, and the end
+-- has the same label, as the two were tied.
 use Rattle.std.proofs.Common.{◌≡◌, ◌≢◌, ℕ, ◌⊎◌, inl, inr, ◌+◌, ◌*◌, ◌<◌, ◌≤◌, ◌∙◌, List, [], ◌∷◌, ◌++◌, map, get_or, sym, ap, ap₂, subst, refl, arith, Bool, true, false, cond}
 use Rattle.std.specs.Prelude.{◌||◌, nat_lt}
 use Rattle.std.specs.List.{AllByRecursion}

@@ -1,4 +1,9 @@
--- The row of open ends, and the same by numbers alone.
+-- The row of open ends, and the same by numbers alone. An end at a dart has the dart's place as its label, and an end on a line
+-- the line's number, behind all places of darts; a dart whose other is not known has the number of all darts. As long as all
+-- darts are of crossings up to the limit, two ends are the same exactly where their labels are. So it comes to the same to rename
+-- an end or its label, to look for a line that is free, to tie two ends, and to end two strands in a cup. Hence a cap, a cup and
+-- a cross do by numbers what they do in the row, and all darts stay within the limit. Last, the pairs of darts that are found are
+-- the same by numbers. Lists whose members are all of one kind come first.
 use Rattle.std.proofs.Common.{◌≡◌, ℕ, zero, suc, ◌+◌, ◌-◌, ◌*◌, ◌<◌, ◌≤◌, ◌∙◌, List, [], ◌∷◌, length, map, get_or, set, take, drop, sym, ap, ap₂, refl, arith, Bool, true, false, cond, not}
 use Rattle.std.specs.Prelude.{◌&&◌, nat_eq, nat_le, nat_lt, unwrap_or, Option, Some, None}
 use Rattle.std.specs.List.{AllByRecursion, filter, find, insert, list_any, range_with_len, remove}

@@ -1,4 +1,10 @@
--- The open ends of segments under labels: what the row knows of the classes of segments, and what it keeps when ends are tied.
+-- The open ends of segments under labels. Two segments have one label exactly where they are joined, and a label is the place of
+-- a dart, or behind these one of 64 that stand for lines in the row, or behind these the number of a loop. A dart is bare; or
+-- open, and its place stands in the row once; or it has found another dart, and neither stands there. The label of a line stands
+-- twice in the row or not at all, and that of a loop never. The lemma is on two ends that are tied: their segments are joined and
+-- leave the row, and one label is renamed to another. All is kept, if it is so of these two labels, which the lemma asks for: any
+-- other label stays as it is, stands in the row as often as before, and keeps its dart's state. Ways to tie that meet this are
+-- found in other files.
 use Rattle.std.proofs.lemmas.Bool.Decides.{nat_tests}
 use Rattle.std.proofs.Common.{◌≡◌, ◌≢◌, ℕ, ◌⊎◌, inl, inr, ◌+◌, ◌*◌, ◌<◌, ◌≤◌, ◌∙◌, List, [], ◌∷◌, ◌++◌, length, map, get_or, sym, ap, subst, refl, arith, Bool, true, false}
 use Rattle.std.specs.List.{AllByRecursion}

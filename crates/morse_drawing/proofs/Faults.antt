@@ -1,4 +1,9 @@
--- The slices of a drawing have no fault.
+-- The slices of a drawing have no fault. The first fault of two lists of slices is that of the first list, or else that of the
+-- second behind it; so slices without a fault may be added one rule after another. A cap, a cup or a cross has no fault where its
+-- place, its label and its counts are in range. What is read of the slices tells that they are: the row of segments is as long as
+-- the row of darts, a crossing that is not drawn is not met, and there is no loop, since each segment is of the class of one that
+-- a dart meets. So there is no fault in the slices of any of the three rules: where a crossing begins, where a strand meets its
+-- crossing, and where two neighbours end.
 use Rattle.std.proofs.Common.{◌≡◌, ℕ, zero, suc, inl, inr, ◌+◌, ◌-◌, ◌*◌, ◌/◌, ◌%◌, ◌<◌, ◌≤◌, ◌∙◌, List, [], ◌∷◌, ◌++◌, length, take, drop, refl, sym, ap, arith, Bool, true, false, cond}
 use Rattle.std.specs.Prelude.{◌&&◌, nat_eq, not, slice_index, Option, None}
 use Rattle.std.specs.List.{count_by, fold, list_any, range_with_len}

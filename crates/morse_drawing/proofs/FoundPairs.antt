@@ -1,4 +1,9 @@
--- Darts that have found each other are at most two for each crossing, counted by their first darts.
+-- The pairs of darts that have found each other are at most two for each crossing, when each is counted at its first dart. A dart
+-- is not both the first of a pair and the second of another, nor the second of two. So if each first dart is counted for itself
+-- and once more for its second, no dart is counted twice: twice the number of pairs is at most the number of darts, four for each
+-- crossing. The sum over first darts is turned into one over second darts for this. So before the pair of a dart is added, there
+-- are fewer than two pairs for each crossing. At the end: the list of pairs before the next dart has one pair more if this dart
+-- has found a later one, and else is the same.
 use Rattle.std.proofs.Common.{◌≡◌, ℕ, zero, suc, ◌⊎◌, inl, inr, ◌+◌, ◌-◌, ◌*◌, ◌<◌, ◌≤◌, ◌∙◌, List, [], ◌∷◌, ◌++◌, length, map, sym, ap, refl, arith, Bool, true, false, cond}
 use Rattle.std.specs.Prelude.{◌&&◌, nat_eq, nat_lt, unwrap_or, Option, Some, None}
 use Rattle.std.specs.List.{count_by, filter, range_with_len, sum_by}

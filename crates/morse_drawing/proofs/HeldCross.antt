@@ -1,4 +1,9 @@
--- The row of open ends by numbers: what it keeps at a cross.
+-- The row of open ends by numbers: if it fits what is read of the slices, it still does after a cross. The two neighbours that
+-- cross are taken to the front. Then the first meets the upper left dart, the second meets the upper right one, and two segments
+-- begin at the lower darts; the lemmas on open ends say that each of these four steps keeps what is known. At last the row is put
+-- in its order again, and the four darts in the order in which the cross lists them. By numbers the same labels are renamed, and
+-- then the lower darts are set in the two places: both ways give one row. The crossing was not drawn, so none of its darts stands
+-- in the row before. The crossings that are drawn are those before and this one.
 use Rattle.std.proofs.Common.{◌≡◌, ◌≢◌, ℕ, inl, inr, ◌+◌, ◌-◌, ◌*◌, ◌/◌, ◌%◌, ◌<◌, ◌≤◌, ◌∙◌, List, [], ◌∷◌, ◌++◌, length, map, get_or, set, take, drop, sym, ap, ap₂, subst, refl, arith, Bool, true, false, cond}
 use Rattle.std.specs.Prelude.{◌||◌, nat_eq}
 use Rattle.std.specs.List.{AllByRecursion}

@@ -1,4 +1,9 @@
--- The row of open ends by numbers: what it keeps at a cap and at a cup.
+-- The row of open ends by numbers fits what is read of the slices if segments can be labelled so that the row has their labels,
+-- open ends know its pairs and loops by these, and it tells which crossings are drawn. This is kept at a cap and at a cup. A cap
+-- needs a label that no strand has: there are 64 for lines, and a row beside which a cap stands has at most 62 strands. Then two
+-- segments begin under it, and come to their place. At a cup the two neighbours are taken to the front, and tied: if they have
+-- one label, a loop is closed, and that label is gone from the row; if not, one label gives way to the other, or two darts find
+-- each other. The row by numbers is edited in the same way. Two neighbours and the rest of a row are for a cross too.
 use Rattle.std.proofs.Common.{◌≡◌, ℕ, inl, inr, ◌+◌, ◌-◌, ◌*◌, ◌/◌, ◌<◌, ◌≤◌, ◌∙◌, List, [], ◌∷◌, ◌++◌, length, map, get_or, take, drop, sym, ap, ap₂, subst, refl, arith, false, cond}
 use Rattle.std.specs.Prelude.{not, unwrap_or, Option}
 use Rattle.std.specs.List.{AllByRecursion, insert, remove}

@@ -1,4 +1,9 @@
--- The row of open ends answers what the classes of segments join, or the same fault.
+-- The row of open ends answers what the classes of segments join, or the same fault. Before the first slice it fits what is read:
+-- no segment has begun, and all darts are bare. As long as it fits, the next slice has a fault in the row exactly where it has
+-- one by segments, and the same: both rows have one length, the same crossings are drawn, and after a cup there are as many
+-- loops. A slice without a fault keeps the row fitting, by the lemmas on caps, cups and crosses and the step from the row to
+-- numbers. Behind the last slice the row is empty in both or in neither, the pairs that are found are those of the classes, and
+-- the loops are as many. So both ways give one answer for each list of slices, by induction over it.
 use Rattle.std.proofs.lemmas.Bool.Decides.{nat_tests}
 use Rattle.std.proofs.Common.{◌≡◌, ℕ, zero, suc, inl, inr, ◌+◌, ◌-◌, ◌*◌, ◌<◌, ◌≤◌, ◌∙◌, List, [], ◌∷◌, length, map, get_or, sym, ap, ap₂, refl, arith, false}
 use Rattle.std.specs.Prelude.{◌||◌, nat_lt, replicate, Option, None, Result}

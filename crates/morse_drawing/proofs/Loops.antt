@@ -1,4 +1,9 @@
--- What is read of a finished drawing and of loops after it: the pairs of darts are the partners, and each loop is one.
+-- What is read of a finished drawing and of loops after it. The drawing has the segments before some number, and each loop has
+-- the next two. Behind the drawing alone, each of its segments is joined with one that a dart meets, partners meet joined
+-- segments, and a colour tells different arcs apart. A loop more, which is a cap and a cup, joins two new segments with each
+-- other only, and keeps all this. A value for each side, one for the drawing and one for each loop, is kept by all joins: so
+-- loops are joined neither with each other nor with the drawing. So the first segment of each loop names a class that no dart
+-- meets, no other segment does, and as many loops are counted as were drawn. If they are at most 255, their slices have no fault.
 use Rattle.std.proofs.Common.{◌≡◌, ℕ, zero, suc, ◌⊎◌, inl, inr, ◌+◌, ◌-◌, ◌*◌, ◌/◌, ◌<◌, ◌≤◌, ◌∙◌, List, [], ◌∷◌, ◌++◌, length, min, refl, sym, ap, subst, arith, Bool, true, false, cond}
 use Rattle.std.specs.Prelude.{◌&&◌, nat_eq, nat_lt, not, slice_index, None}
 use Rattle.std.specs.List.{count_by, fold, list_any, range_with_len}

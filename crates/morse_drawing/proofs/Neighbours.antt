@@ -1,4 +1,9 @@
--- In a row that holds the partners of all its darts, two neighbours are partners.
+-- In a row that holds the partners of all its darts, two neighbours are partners. The proof is by induction over the length of
+-- the row. The partner of the first dart stands behind it. If it comes next, the two are found. Else the arc between both is
+-- added: it splits their face, and the darts between them are a shorter row, of one of the two new faces. This row holds the
+-- partners of its own darts too: a partner behind the arc's other end would be in the same piece, but on the other of the two
+-- faces, and in planar crossings partners that are in one piece are on one face. So two neighbours are partners in the shorter
+-- row, and they are neighbours in the whole row. Lists in which a number stands come first.
 use Rattle.std.proofs.lemmas.Bool.Decides.{nat_tests}
 use Rattle.std.proofs.Common.{◌≡◌, ◌≢◌, ℕ, zero, suc, ◌⊎◌, inl, inr, ◌*◌, ◌/◌, ◌<◌, ◌∙◌, List, [], ◌∷◌, ◌++◌, refl, sym, ap, subst, length, arith}
 use Rattle.std.specs.Prelude.{slice_index}

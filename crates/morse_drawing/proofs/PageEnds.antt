@@ -1,4 +1,9 @@
--- The steps of a drawing come to an end, where all crossings are drawn and all arcs are closed.
+-- The steps of a drawing come to an end, where all crossings are drawn and all arcs are closed. Each step keeps what a page is,
+-- and unless the page is finished it leaves less over: five for each crossing that is not drawn, and one for each strand of the
+-- row. A finished page stays as it is. On the blank page five for each crossing are left over, so five steps for each crossing
+-- are enough. Then the row is empty and all crossings are drawn, hence all arcs are closed, and what is read of the slices is
+-- that of the whole. There are as many crosses as crossings, no fault, and three slices for each crossing and two for each piece.
+-- All this holds for the partners in an accepted code, which are on the sphere.
 use Rattle.std.proofs.lemmas.Bool.Decides.{nat_tests}
 use Rattle.std.proofs.Common.{◌≡◌, ℕ, zero, suc, ◌⊎◌, inl, inr, ◌*◌, ◌/◌, ◌<◌, ◌≤◌, ◌∙◌, List, [], ◌∷◌, length, refl, sym, ap, subst, arith, Bool, true, false, cond}
 use Rattle.std.specs.Prelude.{min, not, None, IsTrue}

@@ -1,4 +1,10 @@
--- Each step of the drawing keeps what the row is; where the row is not empty and no strand leads on, two neighbours are partners.
+-- Each step of the drawing keeps what a page is, and leaves less over, or the page is finished. Where the row is empty, the least
+-- crossing that is not drawn begins, or all are drawn and the page is finished. Where no strand leads on, the partners of all
+-- darts of the row are at drawn crossings, so two neighbours are partners: the search finds them, and they end in a cup. Where a
+-- strand leads on, it meets its crossing. For each rule, what a page has to keep is put together from the lemmas on that rule:
+-- the row of open darts, what is read of the slices, the numbers of slices, crosses and strands, and that there is no fault. Left
+-- over are five for each crossing that is not drawn and one for each strand: a crossing takes five away and adds at most four
+-- strands, a cup takes two strands away.
 use Rattle.std.proofs.Common.{◌≡◌, ◌≢◌, ℕ, suc, inl, inr, ◌+◌, ◌-◌, ◌*◌, ◌/◌, ◌%◌, ◌<◌, ◌∙◌, List, [], ◌∷◌, ◌++◌, length, get_or, take, drop, refl, sym, ap, subst, arith, false}
 use Rattle.std.specs.Prelude.{not, Option, Some, None}
 use Rattle.std.specs.Option.{IsSome}

@@ -1,4 +1,10 @@
--- The pairs of darts that are read of a finished drawing are its arcs.
+-- The pairs of darts that are read of a finished drawing are its arcs; so its slices join its arcs and loops. Two darts meet one
+-- class of segments exactly where they are one or partners: partners meet joined segments, and the colour of a class is the
+-- lesser dart of its arc. So each dart that comes before its partner gives one pair, and no other dart gives any. From this
+-- follow the laws on drawings: the slices join the arcs and loops without a fault, there are three for each crossing and two for
+-- each piece and loop, there are as many crosses as crossings, and the code that is read back is the drawn one up to the numbers
+-- of arcs. Loops alone are a drawing without crossings: up to 255 are joined, and of more the slice 512, which closes one loop
+-- too many, has the fault. At the top stand tests and lists that other files use too.
 use Rattle.std.proofs.Common.{◌≡◌, ℕ, zero, suc, ◌⊎◌, inl, inr, ◌+◌, ◌-◌, ◌*◌, ◌<◌, ◌≤◌, ◌∙◌, List, [], ◌∷◌, ◌++◌, length, map, min, refl, sym, ap, subst, arith, Bool, true, false, cond}
 use Rattle.std.specs.Prelude.{◌&&◌, nat_eq, nat_lt, slice_index, Some, None, Ok, Err, Result, IsTrue}
 use Rattle.std.specs.List.{count_by, filter, flat_map, fold, range_with_len}

@@ -1,4 +1,9 @@
--- A drawing tells its code, up to the numbers of the arcs.
+-- A drawing tells its code, up to the numbers of the arcs: two darts have one arc in the code that is read back exactly where
+-- they have one in the drawn code. The arc that is read at a dart is the number of the first pair that has this dart, where the
+-- pairs are the arcs, each as a dart and its partner. Two darts with one number stand in one pair, which is shown by induction
+-- over the list of pairs; so they are one dart or partners. Back, a dart and its partner stand in the same pairs, so they have
+-- one number. In the drawn code two darts have one arc exactly where they are one or partners, as each arc stands twice. The two
+-- together give the statement.
 use Rattle.std.proofs.Common.{◌≡◌, ◌≢◌, ℕ, zero, suc, ◌⊎◌, inl, inr, ◌+◌, ◌-◌, ◌*◌, ◌/◌, ◌%◌, ◌<◌, ◌≤◌, ◌∙◌, List, [], ◌∷◌, length, map, get_or, refl, sym, ap, ap₂, subst, arith, Bool, true, false, cond}
 use Rattle.std.specs.Prelude.{◌↔◌, ◌||◌, nat_eq, nat_lt, slice_index, slice_index_or}
 use Rattle.std.specs.List.{AllByRecursion, filter, range_with_len}

@@ -1,4 +1,9 @@
--- The row after each rule of the drawing.
+-- The row after each rule of the drawing is a row again: the open darts of one face, each once, each leading by face steps to its
+-- left neighbour, and the first to the last. A row may be turned round, its first dart put at its end: so each rule is shown at
+-- the front of a row. Rule 3: two neighbours become partners and leave the row; the way that led to the right one of them now
+-- goes on along that from the left one. Rule 2: a bare crossing is joined at one of its darts to a dart of the row, and its other
+-- three darts take that dart's place, since the face steps go round the crossing from dart to dart. Rule 1: the four darts of a
+-- bare crossing are a row, as each leads to the next one round it.
 use Rattle.std.proofs.lemmas.Bool.Decides.{nat_tests}
 use Rattle.std.proofs.Common.{◌≡◌, ◌≢◌, ℕ, ◌*◌, ◌/◌, ◌<◌, ◌∙◌, List, [], ◌∷◌, ◌++◌, refl, sym, ap, subst, arith}
 use Rattle.std.specs.List.{AllByRecursion}

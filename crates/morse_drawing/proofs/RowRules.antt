@@ -1,4 +1,10 @@
--- The rules of the drawing keep what the row is, and rule 3 always finds its pair.
+-- The rules of the drawing keep what the row is: the open darts of the crossings drawn so far, each once, in their order round
+-- one face, while all darts of other crossings are bare. This holds where nothing is drawn. Rule 1 begins a crossing with its
+-- four darts, rule 2 puts the other three darts of a new crossing in the place of a dart whose partner is there, and rule 3 takes
+-- out two neighbours that are partners. That the order stays comes from the moves of rows; the rest is that a dart which is open
+-- afterwards stands in the row: it is of the new crossing, or was open before and is no end of the new arc. Where rule 2 finds
+-- nothing, the partner of each dart of the row is open at a drawn crossing, so it stands in the row too, and as the whole is
+-- planar rule 3 finds its pair. Where the row is empty and all crossings are drawn, all arcs are closed.
 use Rattle.std.proofs.lemmas.Bool.Decides.{nat_tests}
 use Rattle.std.proofs.Common.{◌≡◌, ◌≢◌, ℕ, inl, inr, ◌*◌, ◌/◌, ◌<◌, ◌∙◌, List, [], ◌∷◌, ◌++◌, refl, sym, ap, subst, arith}
 use Rattle.std.specs.List.{AllByRecursion}

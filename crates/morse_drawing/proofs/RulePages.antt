@@ -1,4 +1,10 @@
--- Pages follow one another by the rules, and no others do.
+-- Pages follow one another by the rules, and no others do. The definition makes the next page by searches; the rules speak of the
+-- least crossing that is not drawn, the leftmost strand that leads on, and the leftmost two neighbours that are partners. A
+-- search finds the first number that passes, or none passes, so both say the same. What follows by one of the three rules is the
+-- next page, and nothing follows the last page; so by induction the pages behind a page are determined. Conversely the next page
+-- follows by a rule, or the page stays as it is; as the steps of an accepted code come to a last page, they make a whole list of
+-- pages. So there are all pages of its drawing and no others, and the last one has the slices of the code, before those of its
+-- loops.
 use Rattle.std.proofs.lemmas.Bool.Decides.{nat_tests}
 use Rattle.std.proofs.Common.{◌≡◌, ℕ, zero, suc, ◌⊎◌, inl, inr, ◌+◌, ◌-◌, ◌*◌, ◌/◌, ◌<◌, ◌≤◌, ◌∙◌, List, [], ◌∷◌, length, refl, sym, ap, ap₂, subst, arith, ◌++◌, Bool, true, false, cond, not, IsTrue, eq-eqb, eqb-true}
 use Rattle.std.specs.Prelude.{get_or, Some, None}

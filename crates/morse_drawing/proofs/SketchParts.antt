@@ -1,4 +1,10 @@
--- What changes in what is read of slices, when a cup or a cross is read.
+-- What changes in what is read of slices, when a cup or a cross is read. A cup at two neighbours joins their segments and takes
+-- them out of the row. A cap beside a strand, and then a crossing of that strand with the first of the new two, put three new
+-- segments in its place; the darts of the crossing meet the strand's segment, the two that the crossing begins, and the first of
+-- the cap. Then the parts that the proofs on cups and crossings share: a list of segments with their darts, cut at a dart; a
+-- partner function with one more arc; the four darts of a crossing as turns of one of them, and the segment that each dart meets
+-- afterwards; segments that are of the class of one met by a new dart; colours of new segments that leave the old ones as they
+-- were; and the cases of the next segments.
 use Rattle.std.proofs.Common.{◌≡◌, ◌≢◌, ℕ, ◌+◌, ◌-◌, ◌*◌, ◌/◌, ◌%◌, ◌<◌, ◌≤◌, ◌∙◌, List, [], ◌∷◌, ◌++◌, length, get_or, map, take, drop, refl, sym, ap, ap₂, arith, true, cond, min}
 use Rattle.std.specs.Prelude.{◌⊎◌, nat_eq, nat_lt}
 use Rattle.std.proofs.Math.Seq.{drop-append_seam, get_or-append_seam, take-append_seam}

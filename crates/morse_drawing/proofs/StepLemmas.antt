@@ -1,4 +1,10 @@
--- What a step of a drawing finds, and the room that it has.
+-- What a step of a drawing finds, and the room that it has. A search in which the numbers below k fail finds k if it passes, and
+-- else goes on. What a search finds is in range and passes: so on a page of an accepted code within the limits there is room for
+-- a crossing that is not drawn, and for two strands more where a strand leads on, and two neighbours stand in the row. The reason
+-- is that a page bounds its crossings and its strands by the number of crossings that are left, and one is left. The blank page
+-- is the page after no steps, the next page that after one step more, and one loop more is a cap and a cup behind. Last, for the
+-- page after any number of steps: it has at most 2n + 2 strands, there is a pair where no strand leads on, and more than 5n steps
+-- change nothing.
 use Rattle.std.proofs.lemmas.Bool.Decides.{nat_tests}
 use Rattle.std.proofs.Common.{◌≡◌, ◌≢◌, ◌∙◌, ℕ, zero, suc, ◌+◌, ◌-◌, ◌*◌, ◌<◌, ◌≤◌, List, [], ◌∷◌, ◌++◌, length, get_or, sym, ap, subst, refl, arith, Bool, true, false, cond}
 use Rattle.std.specs.Prelude.{IsTrue, not, unwrap_or, Option, Some, None}

@@ -1,4 +1,8 @@
--- The text of a drawing, line by line.
+-- The text of a drawing, line by line. Where the tests find no fault in a slice, it has its place in the row, by cases for cap,
+-- cup and crossing; and it leaves as many strands as the text counts. So by induction all slices of a list without faults have
+-- their places. While slices are printed, the text so far, with the lines of the slices that are left, is the text of the
+-- drawing: this holds where nothing is printed, stays with one line more, and at the end nothing is left. Last, how many cells a
+-- line has: with one more they are as many as the strands before or after the slice, whichever are more.
 use Rattle.std.proofs.Common.{◌≡◌, ◌∙◌, ℕ, zero, suc, ◌+◌, ◌-◌, ◌<◌, ◌≤◌, List, [], ◌∷◌, ◌++◌, length, take, drop, sym, ap, ap₂, subst, refl, arith, Bool, false}
 use Rattle.std.specs.Prelude.{◌||◌, max, nat_lt, replicate, slice_index_or, Option, Some, None}
 use Rattle.std.specs.Option.{option_or}

@@ -1,4 +1,10 @@
--- Two ends of a row are tied: they close a loop, or one label gives way to the other, or two darts find each other.
+-- Two ends of a row are tied: they close a loop, or one label gives way to the other, or two darts find each other. A label of
+-- the row is the place of a dart and stands there once, or it is that of a line with both ends in the row and stands there twice.
+-- Three cases give what has to be known for the invariant of open ends. Where both labels are the same, one line is closed and
+-- gets the name of a new loop. Else, where the first is of no dart, it gives way to the second. Else the second gives way to the
+-- first, and where it is of a dart too, each of the two darts is noted as the other's partner. All is shown by counting how often
+-- both labels stand in the rest of the row. At the end: nothing is left in the row of a line that is closed, nor of the second
+-- label where it is a dart's.
 use Rattle.std.proofs.Common.{◌≡◌, ◌≢◌, ℕ, inl, inr, ◌+◌, ◌*◌, ◌<◌, ◌≤◌, ◌∙◌, List, ◌∷◌, length, map, get_or, set, sym, ap, subst, refl, arith, Bool, true, false, cond}
 use Rattle.std.specs.Prelude.{nat_le}
 use Rattle.std.proofs.lemmas.Bool.Decides.{nat_tests}

@@ -1,4 +1,9 @@
--- A code in print: its text spells its items, and these stand for it.
+-- A code in print: its text spells its items, and these stand for it. So the text of a code with four slots at each crossing and
+-- within the limits reads as this code, and so does the line with this text. First, one loop more is one item more. Then the text
+-- is read from its end to its start: a number, a word, a bracket or a comma before a written text gives a written text, so the
+-- same holds for an item, for items behind commas, and for all of them, as the numbers of a code are small enough to be read.
+-- Then the items are gone through: the slots of the item of a crossing are the crossing's, loops give no crossing, and as many
+-- items are loops as the code has.
 use Rattle.std.proofs.Common.{◌≡◌, ℕ, zero, suc, ◌+◌, ◌-◌, ◌≤◌, nat_abs, All, Some, List, [], ◌∷◌, ◌++◌, map, length, codes, Ok, refl, ap, sym, subst, ◌∙◌, arith, append_assoc}
 use Rattle.std.specs.Fmt.{signed_decimal}
 use Rattle.std.specs.List.{AllByRecursion, cons_option, filter, flat_map, range_with_len}

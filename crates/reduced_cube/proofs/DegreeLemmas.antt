@@ -1,4 +1,9 @@
--- The reduced quantum degrees that have a generator, by the shapes of states.
+-- The reduced quantum degrees that have a generator, by the shapes of states. A state has a generator of the reduced degree j
+-- exactly where some number of labels v-, from one to the number of its circles, gives the degree j - 1. For each such number
+-- there is a labelling with v- on the marked circle; and where that circle has v- there is at least one. So the shapes of all
+-- states tell which degrees have a generator, one state of each kind is enough, and the degrees are the same for each mark. They
+-- are within the exponents. Then how they are computed: a shape has a degree where there is a number of labels v- that gives it,
+-- from one to the number of circles; and the degrees are tried one after another, from the least on.
 use Rattle.std.proofs.Common.{◌≡◌, ℕ, zero, suc, inl, inr, get_or, subst, ◌+◌, ◌-◌, ◌*◌, ◌^◌, ◌<◌, ◌≤◌, ◌∙◌, ℤ, pos, neg_ℤ, ◌-ℤ◌, List, [], ◌∷◌, ◌++◌, length, map, refl, sym, ap, arith, Bool, true, false, cond, IsTrue, Option, None, Some}
 use Rattle.std.specs.Prelude.{nat_le, ◌&&◌, ◌≤ℤ◌}
 use Rattle.std.specs.List.{All, Contains, filter, list_any, range_with_len}

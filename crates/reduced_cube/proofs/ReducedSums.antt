@@ -1,4 +1,9 @@
--- (q + q^-1) times the graded Euler characteristic of a reduced table is the state sum.
+-- (q + q^-1) times the graded Euler characteristic of a reduced table is the state sum: the coefficients at e - 1 and e + 1 add
+-- up to that of the state sum at e. The reduced generators are counted state by state: the marked circle has v-, so they are
+-- labellings of the other circles, and their number is a coefficient of (q + q^-1)^k for k other circles. The alternating sum of
+-- the dimensions is that of the generators, since each rank comes twice there, with opposite signs. A generator with a v- is
+-- below the greatest degree, so there is none outside of the exponents, and a coefficient of the table is this alternating sum at
+-- any degree. Last, state by state, (q + q^-1) more means one circle more.
 use Rattle.std.proofs.Common.{◌≡◌, ℕ, suc, inl, inr, ◌+◌, ◌-◌, ◌*◌, ◌^◌, ◌<◌, ◌≤◌, ◌∙◌, List, [], ℤ, pos, ◌+ℤ◌, ◌-ℤ◌, sym, refl, length, map, ap, ap₂, subst, arith, Bool, true, false, cond, ◌&&◌, IsTrue}
 use Rattle.std.specs.Prelude.{nat_eq}
 use Rattle.std.specs.List.{All, sum_by, count_by, range_with_len}

@@ -1,5 +1,9 @@
--- Adding a crossing keeps all coefficients. Between outer states of the others they are those of the edges at later crossings, where
--- object, smoothing and the labels of closed circles stay, and else 0 on both sides.
+-- Adding a crossing keeps all coefficients, so the complexes before and after are alike. Within one outer state of the other
+-- crossings this is known. Between outer states of the others they are those of the edges at later crossings, where object,
+-- smoothing and the labels of closed circles stay, and else 0 on both sides. The cases, in order: between different objects
+-- nothing leads, before or after; where the smoothing of the new crossing changes there is no edge, as an edge changes one bit
+-- only; and where object and smoothing stay, the coefficient is that of the edge behind the crossing if the labels of closed
+-- circles are the same, else 0.
 use Rattle.std.proofs.Common.{◌≡◌, ◌≢◌, ℕ, zero, suc, inl, inr, ◌+◌, ◌*◌, ◌/◌, ◌%◌, ◌^◌, ◌<◌, ◌≤◌, ◌∙◌, refl, sym, subst, ap, ap₂, arith, cond}
 use Rattle.std.specs.Prelude.{nat_eq}
 use Rattle.std.proofs.lemmas.Bool.{cases_eq, eq-eqb, ne_eqb}

@@ -1,5 +1,9 @@
--- Each step of a scan of an accepted code keeps that it is one, that its complex is one, and its dimensions. So what the last scan
--- counts are the dimensions of the cube.
+-- Each step of a scan of an accepted code keeps that it is one, that its complex is one, and its dimensions. So what the last
+-- scan counts are the dimensions of the cube. Where cells are alike to those of a complex, with the same coefficients under other
+-- names, they are a complex too, and have the same dimensions. A scan with one crossing more is alike to the one before; one with
+-- an entry eliminated is alike to what the cancellation leaves, which has the same dimensions; and under other numbers each map
+-- has the same matrix. The first scan is alike to the cube, and from there induction goes over the steps to any scan that they
+-- lead to.
 use Rattle.std.proofs.Common.{◌≡◌, ℕ, inl, inr, ◌<◌, ◌∙◌, ℤ, List, [], ◌∷◌, sym, subst, ap, arith, IsTrue}
 use Rattle.std.specs.List.{AllByRecursion, Contains}
 use Rattle.std.proofs.lemmas.Bool.{cases_eq}

@@ -1,5 +1,8 @@
--- Steps can be made: to each scan of a code the next crossing can be added, with one term for each dot set; and each map that is a number
--- times the identity can be eliminated.
+-- Steps can be made: to each scan of a code the next crossing can be added, with one term for each dot set; and each map that is
+-- a number times the identity can be eliminated. Both times the next scan is written down. A map gets a term for each dot set
+-- with the coefficient that is asked for, and the sum of its terms at a dot set is this coefficient. With one crossing more the
+-- objects come from all origins, and their numbers are the places in the list of origins, where none stands twice. With one entry
+-- less all numbers but tail and head are left, and the coefficients are the old ones minus those of the ways through these two.
 use Rattle.std.proofs.Common.{◌≡◌, ◌≢◌, ℕ, zero, suc, inl, inr, ◌+◌, ◌^◌, ◌<◌, ◌≤◌, ◌∙◌, List, ◌∷◌, get_or, length, map, refl, sym, subst, ap, ap₂, arith, Bool, true, false, cond, not, ◌&&◌}
 use Rattle.std.specs.Prelude.{nat_eq}
 use Rattle.std.specs.List.{AllByRecursion, Contains, filter, position_or_len, range_with_len}

@@ -1,4 +1,9 @@
--- What cancellations and commits leave of a block.
+-- What cancellations and commits leave of a block. The complex that a legal history leaves of the block of an accepted code is a
+-- complex. One pivot more keeps the history legal, and cancels once more, which takes two live places away. A block in memory has
+-- room for half as many pivots more as it has live places: so where its complex has a pivot there is room for it, and after the
+-- cancellation the same holds again. A copy of a block as it stands shows no difference from its complex, in columns or rows, so
+-- it is never foreign. Last, a turn of finishing: it leaves fewer live places, and a longer history of the same diagram and
+-- degree.
 use Rattle.std.proofs.Common.{◌≡◌, ℕ, ◌+◌, ◌/◌, ◌<◌, ◌∙◌, List, [], ◌∷◌, ◌++◌, ℤ, length, map, get_or, inl, inr, append_assoc, IsTrue, sym, ap, subst, subst₂, arith}
 use Rattle.std.specs.List.{Any}
 use Rattle.std.proofs.lemmas.List.{get_or-map, length-append, length-map}

@@ -1,4 +1,10 @@
--- What is held of a complex after a cancellation.
+-- What is held of a complex after a cancellation, where k is the number of the pivot's degree. A place dies in its list. The
+-- number of a degree is k, one more, one less, or another; the proofs on lines go by these cases. Named here for them: that the
+-- pivot's own columns and rows are those after the cancellation, and all others as they were. Then where the pivot stands: its
+-- column is a place of degree k and its row one of degree k + 1, and both have an entry, so there are lines in memory. Columns
+-- and rows of a degree show the same numbers from both sides. So the pivot's own column and row may be cleared, and after its own
+-- lines have changed also its row's column in the degree after and its column's row in the degree before. Last, both places that
+-- die are within their lists.
 use Rattle.std.proofs.lemmas.Bool.Decides.{nat_tests}
 use Rattle.std.proofs.Common.{◌≡◌, ◌≢◌, ℕ, zero, suc, ◌+◌, ◌<◌, ◌∙◌, inl, inr, List, [], ◌∷◌, ℤ, pos, ◌+ℤ◌, ◌≤ℤ◌, length, map, set, ap, ap₂, sym, subst, arith, refl, Bool, false}
 use Rattle.std.specs.Prelude.{nat_eq, slice_index_or, if◌then◌else◌}

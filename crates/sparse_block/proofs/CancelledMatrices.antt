@@ -1,4 +1,9 @@
--- The matrices of a complex after a cancellation: they keep their sizes, and are 0 in the rows and columns of dead places.
+-- The matrices of a complex after a cancellation: they keep their sizes, with entries below p, and are 0 in the rows and columns
+-- of dead places. In the pivot's degree the entries are what the pivot leaves modulo p; in the degree after it a column is put to
+-- 0, in the degree before it a row, and elsewhere nothing changes. An entry 0 stays 0 where its row has 0 in the pivot's column,
+-- or its column has 0 in the pivot's row; and the pivot's own column and row become 0. A place that is dead afterwards was dead
+-- before, so its whole line was 0 and stays 0; or it is that of the pivot's column or row, whose lines the cancellation puts to 0
+-- in its degree and beside it.
 use Rattle.std.proofs.lemmas.Bool.Decides.{nat_tests}
 use Rattle.std.proofs.Common.{◌≡◌, ℕ, ◌+◌, ◌*◌, ◌%◌, ◌<◌, ◌≢◌, ◌∙◌, ◌⊎◌, inl, inr, List, ℤ, pos, ◌+ℤ◌, length, ap, sym, subst, refl, arith, Bool, true, false}
 use Rattle.std.specs.Prelude.{nat_eq, slice_index_or, if◌then◌else◌}

@@ -1,4 +1,9 @@
--- Lines of each degree after some were emptied or crossed out, and what may be cleared then.
+-- Lines of each degree after some were emptied or crossed out, and what may be cleared then. To empty a line, or to cross out a
+-- place of all lines, keeps all sizes and changes one degree only; in it the emptied line has no entries, and a line that was
+-- crossed out has lost its entry at the place. The same is said of the degree before another, if there is one. Columns and rows
+-- show the same numbers from both sides still, after one line was emptied and its place crossed out on the other side: at that
+-- place both have 0, and at others nothing changed. So after one side of a matrix was cleared the other may be, and whether a
+-- line may be cleared does not depend on other degrees.
 use Rattle.std.proofs.lemmas.Bool.Decides.{nat_tests}
 use Rattle.std.proofs.Common.{◌≡◌, ◌≢◌, ℕ, zero, suc, ◌+◌, ◌<◌, ◌∙◌, inl, inr, List, [], length, map, get_or, set, refl, ap, sym, subst, arith}
 use Rattle.std.specs.Prelude.{slice_index_or, All}

@@ -1,4 +1,8 @@
--- Lines that are exchanged, emptied, and rid of their entries at a place, in memory.
+-- Lines that are exchanged, emptied, and rid of their entries at a place, in memory, as loops do it one by one. Where one more of
+-- the named lines is put in its place, each line is one that was named so far or is as it was. A place that dies in memory dies
+-- in its list. To cross out a place, only the lines that the entries of the line across name are visited. No entry comes twice,
+-- so the line that the next entry names has lost nothing yet; it loses its entry at the place. In the end the lines that were not
+-- named had no entry there, so all lines are without it.
 use Rattle.std.proofs.lemmas.Bool.Decides.{nat_tests}
 use Rattle.std.proofs.Common.{◌≡◌, ℕ, zero, suc, ◌+◌, ◌<◌, ◌∙◌, ◌⊎◌, inl, inr, List, [], ◌∷◌, ◌++◌, length, map, get_or, set, take, refl, ap, ap₂, sym, subst, arith, append_assoc, Bool, false}
 use Rattle.std.specs.Prelude.{slice_index_or, All}

@@ -1,4 +1,9 @@
--- The entries of a line of numbers, and the numbers at places that entries denote.
+-- The entries of a line of numbers, and the numbers at places that entries denote. The number at a place is the value of the
+-- first entry there; it is 0 before the first entry, and below p. A number 0 of a line gives no entry, and each other number
+-- gives one; a number at the end of the line gives one more at the end. The two ways are inverse, by induction along the line:
+-- entries that ascend are those of the line that they denote, and the entries of a line ascend and denote it. A line has no
+-- entries exactly where all its numbers are 0. Last, entries taken one by one: the next one changes the number at its own place,
+-- from 0 to its value, and at no other.
 use Rattle.std.proofs.lemmas.Bool.Decides.{nat_tests}
 use Rattle.std.proofs.Common.{◌≡◌, ◌≢◌, ℕ, zero, suc, ◌+◌, ◌<◌, ◌≤◌, ◌∙◌, inl, inr, List, [], ◌∷◌, ◌++◌, length, map, get_or, take, refl, ap, sym, subst, arith, Bool, false, cond, not, ◌&&◌}
 use Rattle.std.specs.Prelude.{Option, Some, slice_index, nat_eq, All}

@@ -1,4 +1,9 @@
--- Lines in memory that are counted where they have an entry, and empty ones behind them.
+-- Lines in memory that are counted where they have an entry, and empty ones behind them. The count is 0 exactly where no line has
+-- an entry; where one line gets another length it changes by whether that line was empty before and is now. Empty lines behind
+-- change neither what stands at a place nor whether there are entries. All lines of a degree are in memory or none is. So an
+-- empty line may be written where none is in memory; where the count is 0 all lines may be let go, as they are all empty; and
+-- where some line has an entry all are in memory, so to exchange lines there is to exchange them. A number other than 0 in a line
+-- means an entry.
 use Rattle.std.proofs.lemmas.Bool.Decides.{nat_tests}
 use Rattle.std.proofs.Common.{◌≡◌, ◌≢◌, ℕ, zero, suc, ◌+◌, ◌-◌, ◌<◌, ◌≤◌, ◌∙◌, inl, inr, List, [], ◌∷◌, ◌++◌, length, get_or, set, replicate, refl, ap, ap₂, sym, subst, arith, append-nil, Bool, true, false, cond, not}
 use Rattle.std.specs.Prelude.{slice_index_or, nat_eq, min, ◌&&◌}

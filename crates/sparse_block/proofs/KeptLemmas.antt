@@ -1,4 +1,9 @@
--- What a complex in memory keeps, at a degree and a place of it.
+-- What a complex in memory keeps, at a degree and a place of it. Its columns and its rows are both the entries of its matrices.
+-- So for the degree that is k above the least one: it has as many columns as places and as many rows as the next degree has
+-- places, and each is the list of entries of the complex's column or row. Counts of places, places alive and names are read in
+-- the same way; below the least degree there are none; and the distance k comes out right in the signed numbers of the program.
+-- All rows are empty exactly where all entries are 0. What contracts see is a complex, has a degree, and is within the limits of
+-- degrees and counts. Last, an entry of the complex is the number at its row in the entries of its column.
 use Rattle.std.proofs.lemmas.Bool.Decides.{nat_tests}
 use Rattle.std.proofs.Common.{◌≡◌, ℕ, inl, inr, true, ◌+◌, ◌<◌, ◌^◌, ◌∙◌, List, [], ◌∷◌, ℤ, pos, ◌+ℤ◌, ◌-ℤ◌, ◌<ℤ◌, ◌≤ℤ◌, length, map, ap, sym, subst, arith, refl, Bool, FitsSigned, w16, to_z, of_z}
 use Rattle.std.specs.Prelude.{slice_index, slice_index_or, nat_eq, All, ◌&&◌}

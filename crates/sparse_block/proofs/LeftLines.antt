@@ -1,4 +1,9 @@
--- The entries of columns and rows after a cancellation, from those before.
+-- The entries of columns and rows after a cancellation, from those before. Entries in order that denote the numbers of a line are
+-- its entries; so it is enough to compare numbers, for a line that stays, one that loses its number at a place, and one that
+-- loses all. Away from the pivot nothing changes. In the degree before, the row of the pivot's column is emptied and all columns
+-- lose their number there; in the degree after, the column of the pivot's row is emptied and all rows lose theirs. In the pivot's
+-- own degree its column and its row are emptied, and all else stays where it stands alone in one of them: then the product that
+-- is taken from another entry is 0.
 use Rattle.std.proofs.lemmas.Bool.Decides.{nat_tests}
 use Rattle.std.proofs.Common.{◌≡◌, ◌≢◌, ℕ, ◌+◌, ◌-◌, ◌*◌, ◌%◌, ◌<◌, ◌∙◌, ◌⊎◌, inl, inr, List, [], ℤ, pos, ◌+ℤ◌, ap, sym, subst, arith, refl, Bool, true, false}
 use Rattle.std.specs.Prelude.{nat_eq, if◌then◌else◌, ◌||◌}

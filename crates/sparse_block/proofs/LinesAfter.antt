@@ -1,4 +1,9 @@
--- The columns, rows and places in memory after a cancellation, one by one.
+-- The columns, rows and places in memory after a cancellation, one by one: each is that of the cancelled complex. The pivot's own
+-- columns and rows are given as right. Beside it, in the degree before, the place of the pivot's column is crossed out of the
+-- columns, and the row of that place is emptied; in the degree after, the column of the place of the pivot's row is emptied, and
+-- that place is crossed out of the rows; and both places die. First the columns, then the rows, then the places, each by four
+-- cases: the degree is the pivot's, the one after, the one before, or another. What was done in that degree is what the
+-- cancellation does there, and the rest does not touch it.
 use Rattle.std.proofs.lemmas.Bool.Decides.{nat_tests}
 use Rattle.std.proofs.Common.{◌≡◌, ◌≢◌, ℕ, ◌+◌, ◌<◌, ◌∙◌, inl, inr, List, [], ℤ, pos, ◌+ℤ◌, length, set, ap, sym, arith, Bool, false}
 use Rattle.std.specs.Prelude.{slice_index_or}

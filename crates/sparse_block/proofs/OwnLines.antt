@@ -1,4 +1,9 @@
--- The pivot's own columns and rows, after they were exchanged, and after they were cleared.
+-- The pivot's own columns and rows, after they were exchanged, and after they were cleared: both times they are those of the
+-- cancelled complex, and all other degrees are as they were. Where lines are exchanged, a line that is named has the entries
+-- after; one that is not named is the same before and after, since all that differ are named. Where the pivot stands alone in its
+-- column or its row, its column and its row are emptied, and their places crossed out of the rows and of the columns: so all
+-- other lines lose at most one entry, as in the cancellation. Last, a pivot whose column or row has one entry stands alone there,
+-- as all other numbers of that line are 0.
 use Rattle.std.proofs.lemmas.Bool.Decides.{nat_tests}
 use Rattle.std.proofs.Common.{◌≡◌, ◌≢◌, ℕ, ◌<◌, ◌∙◌, ◌⊎◌, inl, inr, List, [], ◌∷◌, ℤ, pos, ◌+ℤ◌, length, set, ap, sym, arith, refl, Bool}
 use Rattle.std.specs.Prelude.{slice_index_or}

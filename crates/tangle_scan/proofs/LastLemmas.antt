@@ -1,5 +1,8 @@
--- Behind all crossings, where no map is a number other than 0 times the identity, no map is left. No arc is open there: so all objects
--- have the same partners, and a map has one dot set at most, the empty one.
+-- Behind all crossings, where no map is a number other than 0 times the identity, no map is left. No arc is open there: so all
+-- objects have the same partners, and a map has one dot set at most, the empty one. A reduced sum of terms without dots has no
+-- term, or one, and is then a number. Where partners pair no arc, each arc is its own partner, so tail and head of a map agree; a
+-- map with a term would be a number times the identity, and there is no such map. All coefficients between objects that are there
+-- are 0: the scan is a last one.
 use Rattle.std.proofs.Common.{◌≡◌, ℕ, inl, inr, ◌%◌, ◌^◌, ◌<◌, ◌∙◌, List, [], ◌∷◌, ◌++◌, length, get_or, map, refl, sym, subst, ap, arith, Bool, true, false, cond, not, IsTrue}
 use Rattle.std.specs.Prelude.{◌⊎◌, All, None, Some, nat_eq, slice_index, slice_index_or}
 use Rattle.std.specs.List.{AllByRecursion, Contains, filter, find, range_with_len}

@@ -1,5 +1,9 @@
--- The column of a new object. Its entries are right for their heads, so what has to be shown is that it leaves nothing out: where it has
--- no entry the coefficient is 0. No head stands twice, since the heads of the old column do not, and neither do labels.
+-- The column of a new object. Its entries are right for their heads, so what has to be shown is that it leaves nothing out: where
+-- it has no entry the coefficient is 0. First, a column has an entry for a head, whose terms it gives, or none, and gives no
+-- terms. An entry of the new column is that of some target, and a target without an entry has no terms, as no origin stands at
+-- two places. Where there is no entry for an origin: with the same smoothing, if the old column leads to its object it is a
+-- target, and else the coefficient is a sum over no terms; from 0 to 1 at one object it is a target of the saddle; in all other
+-- cases the coefficient is 0. So a map of the new column has the new coefficients, and its dot sets are in range.
 use Rattle.std.proofs.Common.{◌≡◌, ◌⊎◌, ℕ, inl, inr, ◌*◌, ◌^◌, ◌<◌, ◌≤◌, ◌∙◌, List, [], ◌∷◌, get_or, length, map, refl, sym, subst, ap, ap₂, arith, false, cond, not}
 use Rattle.std.specs.Prelude.{nat_eq, ◌&&◌, Some}
 use Rattle.std.specs.List.{Contains, count_by, find, flat_map, range_with_len, sum_by}

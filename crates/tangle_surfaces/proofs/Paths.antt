@@ -1,5 +1,9 @@
--- Where pairs lead from ends to starts, the classes are paths and circles: a class has at most one point whose end is free, and then
--- one whose start is free. One more pair of a free end and a free start keeps that.
+-- Where pairs lead from ends to starts, the classes are paths and circles: a class has at most one point whose end is free, and
+-- then one whose start is free. One more pair of a free end and a free start keeps that: if two paths become one, it has the free
+-- end of one and the free start of the other. Pairs that lead from some points to others lead back as well; and alone they make
+-- paths of two points, with all other points for themselves. A point that has one kind alone meets one that has the other alone,
+-- and a search through its class finds it. So pairs that join the open points of paths lead from those with a free start alone to
+-- those with a free end alone, one to one.
 use Rattle.std.proofs.Common.{◌≡◌, ◌≢◌, ℕ, ◌⊎◌, inl, inr, ◌<◌, ◌∙◌, List, refl, sym, ap, subst, length, arith, Bool, true, false, not, ◌&&◌, cond, eq-eqb, ◌||◌}
 use Rattle.std.specs.Prelude.{nat_eq, slice_index, unwrap_or}
 use Rattle.std.proofs.lemmas.Bool.{cases_Bool, cases_eq, eqb-true, false_from_ne_true, or_left, or_right, not-true, and_parts, and_from}

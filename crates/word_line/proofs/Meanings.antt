@@ -1,4 +1,8 @@
--- What a value means is what is read from it.
+-- What a value means is what is read from it: for each kind of value both ways, from what is read to what is named and back.
+-- Tasks, fields and forms are found by comparing the value with one name after another; the test that succeeds says which name it
+-- is. Numbers of workers, numbers and marks are numerals of some digits, within their limits. An option with one value is what
+-- the value says, an option without is the default, and two values say nothing. Last, a command is finished unless it is `bench`
+-- without a number or `reduced` without a mark.
 use Rattle.std.proofs.lemmas.Bool.Decides.{nat_tests}
 use Rattle.std.proofs.Common.{◌≡◌, ℕ, ◌+◌, ◌≤◌, ◌&&◌, ◌⊎◌, inl, inr, Bool, true, List, [], ◌∷◌, length, Option, Some, None, refl, ap, subst, cond, ◌∙◌, arith, nat_le}
 use Rattle.std.specs.Prelude.{codes, slice_get}

@@ -1,4 +1,9 @@
--- The texts that the parts of a line give for each option.
+-- The texts that the parts of a line give for each option. The texts for a slot, out of all that were given, are those with its
+-- name; those of two lists are put one behind the other. There are none where `clap` has no row for the slot, and else the first
+-- text of its row is the first of them. Where no slot has two texts, a slot has none before its text comes, and one more text for
+-- a slot without any keeps this. Then the texts of a line, part by part, as no two options and no option and the positional have
+-- one name: for an option they are the values that the parts give it, and for the positional the positionals among the parts and
+-- all words behind `--`.
 use Rattle.std.proofs.lemmas.Bool.Decides.{nat_tests}
 use Rattle.std.proofs.Common.{◌≡◌, ◌+◌, ◌≤◌, ◌||◌, Bool, true, false, List, [], ◌∷◌, ◌++◌, length, map, Some, None, refl, sym, ap, cond, ◌∙◌, arith, append-nil}
 use Rattle.std.proofs.lemmas.List.{length-append}
