@@ -1,5 +1,5 @@
 -- The labels of the arcs of a directed code: each names a crossing, and no two arcs have one label.
-use Rattle.std.proofs.Common.{◌≡◌, ◌⊎◌, inl, inr, ℕ, zero, suc, ◌≤◌, ◌∙◌, ℤ, pos, neg_ℤ, nat_abs, List, refl, sym, ap, arith, Bool, true, false}
+use Rattle.std.proofs.Common.{◌≡◌, ◌⊎◌, inl, inr, ℕ, ◌≤◌, ◌∙◌, ℤ, pos, neg_ℤ, nat_abs, List, sym, ap, arith, Bool, true, false}
 use Rattle.std.specs.Prelude.{nat_eq, if◌then◌else◌}
 use Rattle.std.proofs.lemmas.Bool.Decides.{nat_tests}
 use Rattle.kh_types.specs.declared.dart.Dart.{Dart}

@@ -4,8 +4,8 @@
 -- All facts go by recursion over the components: the passes of the first have the arcs from a first one on, those of the others the arcs
 -- behind. So a function of arcs is defined by the same recursion (the first arc of its component, the arc that follows, the label entered),
 -- and each pass of the whole list is shown to agree with it, first in one component then behind it.
-use Rattle.std.proofs.Common.{◌≡◌, ◌≢◌, ℕ, zero, suc, inl, inr, ◌⊎◌, ◌+◌, ◌-◌, ◌<◌, ◌≤◌, ◌∙◌, List, [], ◌∷◌, length, map, refl, sym, ap, arith, Bool, true, false, ℤ, pos, min}
-use Rattle.std.specs.Prelude.{nat_eq, nat_lt, int_lt, ◌&&◌, if◌then◌else◌}
+use Rattle.std.proofs.Common.{◌≡◌, ◌≢◌, ℕ, zero, suc, inl, inr, ◌⊎◌, ◌+◌, ◌-◌, ◌<◌, ◌≤◌, ◌∙◌, List, [], ◌∷◌, length, map, refl, sym, ap, arith, Bool, ℤ, pos, min}
+use Rattle.std.specs.Prelude.{nat_eq, nat_lt, if◌then◌else◌}
 use Rattle.std.specs.List.{sum_by, range_with_len, AllByRecursion}
 use Rattle.std.proofs.lemmas.Bool.{cases_eq, cases_lt}
 use Rattle.std.proofs.lemmas.Bool.Decides.{nat_tests}
@@ -13,12 +13,9 @@ use Rattle.std.proofs.lemmas.List.{length-append}
 use Rattle.std.proofs.lemmas.List.Elements.{All-from_recursion, All-get_or}
 use Rattle.kh_types.proofs.Lists.{AllByRecursion-append, AllByRecursion-first, AllByRecursion-second, AllByRecursion-weaker}
 use Rattle.code_passes.specs.Labels.{listed_number}
-use Rattle.code_passes.specs.Passes.{Pass, is_over, turned_labels, pass_at, passes_from, all_passes, all_labels}
+use Rattle.code_passes.specs.Passes.{Pass, turned_labels, pass_at, passes_from, all_passes, all_labels}
 
 -- a turned component has the same labels
-
-turned_labels-two : (P : List ℤ → Type 0) (first second : ℤ) → P (first ∷ second ∷ []) → P (second ∷ first ∷ []) → P (turned_labels (first ∷ second ∷ []))
-turned_labels-two P first second stays turns = grind (arith, nat_tests)
 
 pub length-turned_labels : (labels : List ℤ) → length (turned_labels labels) ≡ length labels
 length-turned_labels labels = grind (arith, nat_tests)

@@ -3,7 +3,7 @@
 -- A label that is not bad names a crossing and is new. So among the labels of a body no label stands twice, each names one of n crossings
 -- with one of its two passes, and there are 2n of them: summed over the crossings, each of the 2n names of passes counts at most 1, and
 -- together they count 2n, so each stands exactly once.
-use Rattle.std.proofs.Common.{◌≡◌, ℕ, zero, suc, inl, inr, ◌+◌, ◌*◌, ◌/◌, ◌<◌, ◌≤◌, ◌∙◌, List, [], ◌∷◌, length, take, sym, ap, arith, Bool, true, false, true≢false, cond, ℤ, pos, negsuc, neg_ℤ, nat_abs}
+use Rattle.std.proofs.Common.{◌≡◌, ℕ, zero, suc, inl, inr, ◌+◌, ◌*◌, ◌/◌, ◌<◌, ◌≤◌, ◌∙◌, List, [], ◌∷◌, length, take, sym, ap, arith, Bool, true, false, cond, ℤ, pos, negsuc, neg_ℤ, nat_abs}
 use Rattle.std.specs.Prelude.{nat_eq, nat_lt, ◌||◌, Option, Some, None}
 use Rattle.std.specs.List.{find, list_any, sum_by, count_by, range_with_len, AllByRecursion}
 use Rattle.std.specs.Ordering.{int_eq}
@@ -16,7 +16,6 @@ use Rattle.std.proofs.lemmas.List.Sums.{sum_by_more}
 use Rattle.code_passes.specs.Labels.{listed_number, is_bad_label, bad_label}
 use Rattle.code_passes.proofs.Sums.{value_if, only_at, sum-only, sum_by-ones, sum-at_most_two, each-two, count_by-none}
 use Rattle.kh_types.proofs.ListSums.{sum_by-range_alike, sum_by-plus, sum_by-turned, sum_by-on}
-use Rattle.kh_types.proofs.Integers.{int_eq-other, int_eq-same}
 
 -- a label names one of some crossings
 abbrev pub Names : ℕ → ℤ → Type 0

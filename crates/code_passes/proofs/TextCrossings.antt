@@ -1,9 +1,8 @@
 -- The crossings of the code of some components and signs: their slots, and the pairs of arcs that their passes join.
 use Rattle.std.proofs.lemmas.Bool.Decides.{nat_tests}
-use Rattle.std.proofs.Common.{◌≡◌, ℕ, zero, suc, inl, inr, ◌⊎◌, ◌-◌, ◌<◌, List, [], ◌∷◌, length, refl, sym, subst, arith, true, false, ℤ, pos}
-use Rattle.std.specs.Prelude.{None, slice_index_or, if◌then◌else◌}
+use Rattle.std.proofs.Common.{◌≡◌, ℕ, zero, suc, ◌⊎◌, ◌-◌, ◌<◌, List, [], ◌∷◌, length, sym, subst, arith, ℤ}
+use Rattle.std.specs.Prelude.{None, slice_index_or}
 use Rattle.std.specs.List.{flat_map, AllByRecursion}
-use Rattle.std.specs.Ordering.{int_eq}
 use Rattle.std.proofs.lemmas.List.FromFn.{length-map-range_with_len, get_or-map-range_with_len}
 use Rattle.kh_types.specs.Code.{arc_in, arc_count, slots_of, IsCrossing}
 use Rattle.kh_types.specs.Components.{passes_of}
@@ -56,9 +55,6 @@ pairs-each P (slots ∷ rest) all (suc place) below = pairs-each P rest all.1.1 
 
 -- what passes have in either direction, the pairs of arcs that they join have, and the other way round
 module _ (R : ℕ → ℕ → Type 0) (turns : (x y : ℕ) → R x y → R y x) where
-  same_pair : (x y a b : ℕ) → x ≡ a → y ≡ b → R a b → R x y
-  same_pair x y a b same_first same_second holds = grind (arith, nat_tests)
-
   pairs-of_slots : (under over : Pass) (slots : List ℕ) → HasSlots under over slots → R under.enters under.leaves
       → R over.enters over.leaves → AllByRecursion (λ pair. R pair.0 pair.1) (passes_of slots)
   pairs-of_slots under over slots has at_under at_over = grind (arith, nat_tests)

@@ -1,5 +1,5 @@
 -- A component that is over at both of its two crossings begins with the lesser label.
-use Rattle.std.proofs.Common.{◌≡◌, ◌≢◌, ℕ, inl, inr, ◌⊎◌, ◌+◌, ◌-◌, ◌<◌, ◌≤◌, ◌∙◌, List, [], ◌∷◌, length, refl, sym, ap, arith, Bool, true, false, true≢false, ℤ, pos, negsuc}
+use Rattle.std.proofs.Common.{◌≡◌, ◌≢◌, ℕ, inl, inr, ◌⊎◌, ◌+◌, ◌-◌, ◌<◌, ◌≤◌, ◌∙◌, List, [], ◌∷◌, length, sym, ap, arith, Bool, true, false, ℤ}
 use Rattle.std.specs.Prelude.{int_lt, ◌&&◌, if◌then◌else◌}
 use Rattle.std.proofs.lemmas.Bool.{cases_lt}
 use Rattle.std.proofs.lemmas.Bool.Decides.{nat_tests}
@@ -13,12 +13,6 @@ not_both x y less = grind (arith, nat_tests)
 -- two labels, turned or not
 abbrev chosen : ℤ → ℤ → Bool → Bool → Bool → List ℤ
 chosen first second a b c = if (a && b) && c then second ∷ first ∷ [] else first ∷ second ∷ []
-
--- the labels of two over passes rise
-turned_labels-rises : (first second : ℤ) → is_over (listed_number (turned_labels (first ∷ second ∷ [])) 0) ≡ true
-    → is_over (listed_number (turned_labels (first ∷ second ∷ [])) 1) ≡ true
-    → int_lt (listed_number (turned_labels (first ∷ second ∷ [])) 1) (listed_number (turned_labels (first ∷ second ∷ [])) 0) ≡ false
-turned_labels-rises first second has2 has3 = grind (arith, nat_tests)
 
 turned_labels-rises_of_two : (labels : List ℤ) → length labels ≡ 2 → is_over (listed_number (turned_labels labels) 0) ≡ true
     → is_over (listed_number (turned_labels labels) 1) ≡ true → int_lt (listed_number (turned_labels labels) 1) (listed_number (turned_labels labels) 0) ≡ false
