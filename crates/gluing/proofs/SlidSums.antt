@@ -17,7 +17,6 @@ use Rattle.kh_types.specs.Generators.{one_count}
 use Rattle.kh_types.specs.StateSum.{int_sum, signed_by_parity, circle_coefficient, term_with, sum_with}
 use Rattle.kh_types.specs.StateSum as kh
 use Rattle.kh_types.proofs.EdgeBits.{bit-set_there, bit-set_other}
-use Rattle.kh_types.proofs.AlternatingSums.{signed_by_parity-alike}
 use Rattle.gluing.proofs.Terms.{term_at, signed_by_count}
 use Rattle.gluing.specs.Codes.{name_count}
 use Rattle.gluing.specs.Slides.{triangle_before, triangle_after, ends_joined, closed_inside, IsNoSide}

@@ -7,7 +7,6 @@ use Rattle.std.proofs.lemmas.Bool.Decides.{Decides-int_eq, Decides-like, same_fr
 use Rattle.std.proofs.lemmas.Int.{ints}
 use Rattle.kh_types.specs.StateSum.{circle_coefficient, signed_by, term_of}
 use Rattle.link_algebra.proofs.IntSums.{sum_over, sum-range_alike}
-use Rattle.kh_types.proofs.AlternatingSums.{signed_by_parity-alike}
 
 -- (q + q^-1) ^ k is the same at q^-1
 pub circle_coefficient-opposite : (k : ℕ) (e d : ℤ) → d ≡ neg_ℤ e → circle_coefficient k d ≡ circle_coefficient k e
