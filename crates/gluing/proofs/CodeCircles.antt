@@ -8,23 +8,22 @@
 -- names alone: that is what renumberings, kinks, fingers and slides compare. The last part is for codes of one crossing more: its smoothing
 -- is the last pair of pairs, and its bit the highest of the state, so that sums over states split into two halves.
 use Rattle.std.proofs.lemmas.Bool.Decides.{nat_tests}
-use Rattle.std.proofs.Common.{◌≡◌, ℕ, zero, suc, ◌+◌, ◌*◌, ◌/◌, ◌%◌, ◌^◌, ◌<◌, ◌≤◌, ◌∙◌, List, [], ◌∷◌, ◌++◌, sym, refl, length, ap, ap₂, arith, Bool, true, false, cond}
-use Rattle.std.specs.Prelude.{slice_index, slice_index_or, nat_eq}
-use Rattle.std.specs.List.{filter, flat_map, enumerate_from, range_with_len}
+use Rattle.std.proofs.Common.{◌≡◌, ℕ, zero, suc, ◌+◌, ◌*◌, ◌/◌, ◌%◌, ◌^◌, ◌<◌, ◌≤◌, ◌∙◌, List, [], ◌∷◌, ◌++◌, sym, refl, length, ap, ap₂, arith, Bool, cond}
+use Rattle.std.specs.Prelude.{slice_index_or}
+use Rattle.std.specs.List.{flat_map, enumerate_from, range_with_len}
 use Rattle.std.proofs.Math.Nat.{div-eq_of_lt}
-use Rattle.std.proofs.lemmas.List.{map-append, append-nil}
-use Rattle.std.proofs.lemmas.Grind.{flat_map-append}
+use Rattle.std.proofs.lemmas.List.{map-append}
 use Rattle.std.proofs.lemmas.Bool.{eq-eqb}
 use Rattle.kh_types.specs.Bits.{bit}
 use Rattle.kh_types.specs.Code.{Code, arc_in}
-use Rattle.kh_types.specs.Classes.{is_least, class_count, AreBelow}
+use Rattle.kh_types.specs.Classes.{class_count, AreBelow}
 use Rattle.kh_types.specs.Circles.{smoothing_of, smoothings_of, circles_of, circle_count}
 use Rattle.gluing.specs.Arcs.{arc_by_place}
 use Rattle.kh_types.proofs.JoinedClasses.{IsNamed-classes_of}
-use Rattle.kh_types.proofs.EdgeBits.{bit-set_there, bit-set_other}
+use Rattle.kh_types.proofs.EdgeBits.{bit-set_other}
 use Rattle.kh_types.proofs.ClassLemmas.{AreBelow-append}
-use Rattle.gluing.specs.Glue.{renamed, Places}
-use Rattle.gluing.specs.Codes.{arc_of_dart, name_count, HoldsArcs}
+use Rattle.gluing.specs.Glue.{renamed}
+use Rattle.gluing.specs.Codes.{arc_of_dart, name_count}
 use Rattle.gluing.proofs.DartPairs.{darts_of, dart_smoothings}
 pub use Rattle.std.proofs.lemmas.List.{append-nil as append-nothing}
 pub use Rattle.kh_types.proofs.LabelDegrees.{ones-lower as ones-not_highest}
@@ -34,10 +33,6 @@ pub use Rattle.kh_types.proofs.LabelDegrees.{ones-upper as ones-highest}
 
 abbrev pub smoothing_by : Bool → ℕ → ℕ → ℕ → ℕ → List (ℕ × ℕ)
 smoothing_by is_zero w x y z = cond is_zero ((w, x) ∷ (y, z) ∷ []) ((w, z) ∷ (x, y) ∷ [])
-
-pub smoothing_by-renamed : (f : ℕ → ℕ) (is_zero : Bool) (w x y z : ℕ)
-    → smoothing_by is_zero (f w) (f x) (f y) (f z) ≡ renamed f (smoothing_by is_zero w x y z)
-smoothing_by-renamed f is_zero w x y z = grind (arith, nat_tests)
 
 pub smoothing_by-same : (is_zero : Bool) (w x y z a b c d : ℕ) → w ≡ a → x ≡ b → y ≡ c → z ≡ d
     → smoothing_by is_zero w x y z ≡ smoothing_by is_zero a b c d
@@ -88,10 +83,6 @@ dart_smoothings-from n state at (suc count) within =
 pub dart_smoothings-below : (count state : ℕ) → AreBelow (4 * count) (dart_smoothings count state)
 dart_smoothings-below count state = dart_smoothings-from count state 0 count (omega arith)
 
--- the darts of a code stand for numbers below its name count
-pub Places-darts : (code : Code) → HoldsArcs code → Places (arc_of_dart code.crossings) (4 * length code.crossings) (name_count code)
-Places-darts code holds dart below = holds (dart / 4) (dart % 4) (omega arith) (omega arith)
-
 -- the number 0 is a class of its own, which is no circle
 pub class_count-circles : (code : Code) (state : ℕ) → AreBelow (name_count code) (smoothings_of code.crossings state)
     → class_count (circles_of code state) ≡ circle_count code state + 1
@@ -117,17 +108,9 @@ dart_smoothings-same_from first second at zero same = refl
 dart_smoothings-same_from first second at (suc count) same =
     grind (arith, nat_tests, darts_of, dart_smoothings-same_from first second (at + 1) count (λ k from below. same k (omega arith) (omega arith)))
 
-pub dart_smoothings-highest : (n state : ℕ) → state < 2 ^ n → dart_smoothings n (2 ^ n + state) ≡ dart_smoothings n state
-dart_smoothings-highest n state below = grind (arith, nat_tests, dart_smoothings-same_from, bit-lower)
-
 -- one crossing more, at the end of the list
 
 enumerate_from-append : (at : ℕ) (xs ys : List (List ℕ))
     → enumerate_from at (xs ++ ys) ≡ enumerate_from at xs ++ enumerate_from (at + length xs) ys
 enumerate_from-append at [] ys = let e : at ≡ at + 0 = omega arith in ap (λ k. enumerate_from k ys) e
 enumerate_from-append at (x ∷ xs) ys = grind (arith, nat_tests, enumerate_from-append (at + 1) xs ys)
-
-pub smoothings_of-more : (crossings : List (List ℕ)) (quadruple : List ℕ) (state : ℕ)
-    → smoothings_of (crossings ++ quadruple ∷ []) state
-    ≡ smoothings_of crossings state ++ smoothing_of (bit state (length crossings)) quadruple
-smoothings_of-more crossings quadruple state = grind (arith, nat_tests, enumerate_from-append, flat_map-append, append-nil)

@@ -3,13 +3,12 @@
 -- Two diagrams are compared, the one round a triangle and the one in which its six ends are joined as a state joins them. A value is given
 -- to each class of the first: of a class with an end the class of the second, of a class closed inside one of its own. What both join alike
 -- stays alike when the rest is joined (Glued), so the first has the classes of the second and those that are closed inside.
-use Rattle.std.proofs.Common.{◌≡◌, ◌≢◌, ℕ, zero, suc, ◌⊎◌, inl, inr, ◌+◌, ◌-◌, ◌<◌, ◌≤◌, ◌∙◌, List, [], ◌∷◌, ◌++◌, sym, length, ap, ap₂, arith, cond}
+use Rattle.std.proofs.Common.{◌≡◌, ◌≢◌, ℕ, zero, suc, ◌⊎◌, inl, inr, ◌+◌, ◌<◌, ◌≤◌, ◌∙◌, List, [], ◌∷◌, ◌++◌, sym, ap, ap₂, arith, cond}
 use Rattle.std.specs.Prelude.{slice_index, nat_eq, nat_lt}
-use Rattle.std.specs.List.{range_with_len, filter}
 use Rattle.std.proofs.lemmas.Bool.Decides.{nat_tests}
 use Rattle.std.proofs.lemmas.List.{map-append}
 use Rattle.std.proofs.lemmas.Bool.{eq-eqb, cases_order}
-use Rattle.kh_types.specs.Classes.{classes_of, is_least, class_count, Respects, AreBelow}
+use Rattle.kh_types.specs.Classes.{classes_of, class_count, Respects, AreBelow}
 use Rattle.kh_types.specs.Circles.{smoothings_of}
 use Rattle.kh_types.proofs.ClassLemmas.{classes-together, classes-finest, AreBelow-append}
 use Rattle.kh_types.proofs.JoinedClasses.{IsNamed-classes_of}
@@ -264,23 +263,3 @@ rest_circles-positive n arcs outer joined placed outer_below ties_below =
     (AreBelow-append (n + 6) (stubs n arcs 6) outer (stubs-below n arcs 6 placed.below (omega arith))
     (AreBelow-more n (n + 6) outer (omega arith) outer_below)))
     (omega arith)
-
--- what is left with the ends joined, on the arcs themselves
-pub rest_circles-on_arcs : (n : ℕ) (arcs : ℕ → ℕ) (outer : List (ℕ × ℕ)) (joined : List ℕ) → IsPlacedTriangle n arcs → AreBelow n outer
-    → AreBelow 10 (ties_of joined)
-    → rest_circles n arcs outer joined ≡ class_count (classes_of n (outer ++ renamed arcs (ties_of joined)))
-rest_circles-on_arcs n arcs outer joined placed outer_below ties_below =
-    let k = n + 6 in
-    let g = at_stubs n arcs in
-    let ties = ties_of joined in
-    let all_outer = stubs n arcs 6 ++ outer in
-    let wide_outer = AreBelow-more n k outer (omega arith) outer_below in
-    let all_below = AreBelow-append k (stubs n arcs 6) outer (stubs-below n arcs 6 placed.below (omega arith)) wide_outer in
-    let wide_ties = AreBelow-renamed 10 k g ties (at_stubs-places n arcs placed) ties_below in
-    ap class_count (classes_of-turned k (renamed g ties) all_outer wide_ties all_below)
-    ∙ ap (λ ps. class_count (classes_of k ps)) (append-three (stubs n arcs 6) outer (renamed g ties))
-    ∙ sym (class_count-unstubbed n arcs (outer ++ renamed g ties) placed.below (AreBelow-append k outer (renamed g ties) wide_outer wide_ties))
-    ∙ ap (λ ps. class_count (classes_of n ps))
-    (map-append (λ pair. (unstubbed n arcs pair.0, unstubbed n arcs pair.1)) outer (renamed g ties)
-    ∙ ap₂ (λ ps qs. ps ++ qs) (renamed-below (unstubbed n arcs) n outer (unstubbed-below n arcs) outer_below)
-    (renamed-twice 10 (unstubbed n arcs) g arcs ties (unstubbed-at_stubs n arcs placed) ties_below))

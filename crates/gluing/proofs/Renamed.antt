@@ -87,24 +87,3 @@ class_count-fresh n old pairs below old_below =
   where
     kept : (a b c old n x : ℕ) → a ≡ old → b ≡ n → c ≡ x → old < n → x < n → merged a b c ≡ x
     kept a b c old n x is_old is_n is_x old_below x_below = grind (arith, nat_tests)
-
--- two parts of a diagram, and for each of them pairs of ends that tie the ends as the part does: the circles of the whole are those
--- of the tied ends, and those that each part has beyond its tied ends
-pub class_count-parts : (m e n : ℕ) (f ends : ℕ → ℕ) (outer inner outer_ties inner_ties : List (ℕ × ℕ))
-    → AreBelow m outer → AreBelow n inner → AreBelow e outer_ties → AreBelow e inner_ties → Places f m n → Places ends e n
-    → JoinAlike m f f (classes_of n inner) (classes_of n (renamed ends inner_ties))
-    → JoinAlike e ends ends (classes_of n (renamed f outer)) (classes_of n (renamed ends outer_ties))
-    → class_count (classes_of n (inner ++ renamed f outer))
-    + (class_count (classes_of n (renamed ends outer_ties)) + class_count (classes_of n (renamed ends inner_ties)))
-    ≡ class_count (classes_of n (renamed ends outer_ties ++ renamed ends inner_ties))
-    + (class_count (classes_of n (renamed f outer)) + class_count (classes_of n inner))
-class_count-parts m e n f ends outer inner outer_ties inner_ties below inner_below outer_ties_below inner_ties_below places
-    ends_place alike outer_alike =
-    let ties_below = AreBelow-renamed e n ends inner_ties ends_place inner_ties_below in
-    let outer_below = AreBelow-renamed m n f outer places below in
-    let by_inner = class_count-glued_parts m n n f f outer inner (renamed ends inner_ties) below inner_below ties_below places places
-    alike in
-    let by_outer = class_count-glued_parts e n n ends ends inner_ties (renamed f outer) (renamed ends outer_ties) inner_ties_below
-    outer_below (AreBelow-renamed e n ends outer_ties ends_place outer_ties_below) ends_place ends_place outer_alike in
-    let turn = ap class_count (classes_of-turned n (renamed ends inner_ties) (renamed f outer) ties_below outer_below) in
-    omega (arith, by_inner, by_outer, turn)

@@ -21,7 +21,7 @@ use Rattle.gluing.specs.Codes.{name_count, HoldsArcs}
 use Rattle.gluing.specs.SlidCodes.{Shows, HasTriangle}
 use Rattle.gluing.proofs.OutsidePairs.{is_one_of, outside_at, outside_of}
 use Rattle.gluing.proofs.Renamed.{AreBelow-renamed}
-use Rattle.gluing.proofs.CodeCircles.{smoothing_by, smoothing_by-renamed, smoothing_by-same, smoothing_by-below}
+use Rattle.gluing.proofs.CodeCircles.{smoothing_by, smoothing_by-below}
 use Rattle.gluing.proofs.Stubs.{Respects-renamed, Respects-from_renamed}
 
 -- pairs at each crossing
@@ -54,11 +54,6 @@ pub one_of_three : (c d e k : ℕ)
     → ((is_one_of c d e k ≡ true) × ((k ≡ c) ⊎ ((k ≡ d) ⊎ (k ≡ e))))
     ⊎ ((is_one_of c d e k ≡ false) × (k ≢ c) × (k ≢ d) × (k ≢ e))
 one_of_three c d e k = grind (arith, nat_tests)
-
--- the smoothing of a crossing that shows another
-pub smoothing_of-shown : (arcs : ℕ → ℕ) (smoothing : ℕ) (quadruple inside : List ℕ) → Shows arcs quadruple inside
-    → smoothing_of smoothing quadruple ≡ renamed arcs (smoothing_of smoothing inside)
-smoothing_of-shown arcs smoothing quadruple inside shows = grind (arith, nat_tests)
 
 all_of_smoothing : (P : ℕ → Type 0) (is_zero : Bool) (w x y z : ℕ) → P w → P x → P y → P z
     → AllByRecursion (λ pair. P pair.0 × P pair.1) (smoothing_by is_zero w x y z)

@@ -5,14 +5,14 @@
 -- triangle (SlideTerms). Before and after the slide these tables have one sum for each way of joining (SlideTable), so the state sums are
 -- the same.
 use Rattle.std.proofs.lemmas.Bool.Decides.{nat_tests}
-use Rattle.std.proofs.Common.{◌≡◌, ◌≢◌, ℕ, inl, inr, ◌+◌, ◌-◌, ◌^◌, ◌<◌, ◌∙◌, List, [], ◌∷◌, ℤ, pos, negsuc, suc, ◌*◌, ◌+ℤ◌, ◌-ℤ◌, sym, refl, length, map, get_or, ap, ap₂, arith, true, cond}
-use Rattle.std.specs.Prelude.{slice_index_or, nat_eq}
+use Rattle.std.proofs.Common.{◌≡◌, ◌≢◌, ℕ, ◌+◌, ◌-◌, ◌^◌, ◌<◌, ◌∙◌, List, [], ◌∷◌, ℤ, pos, ◌+ℤ◌, ◌-ℤ◌, sym, refl, length, map, get_or, ap, ap₂, arith, true}
+use Rattle.std.specs.Prelude.{slice_index_or}
 use Rattle.std.specs.List.{range_with_len}
 use Rattle.std.proofs.lemmas.Int.{ints}
 use Rattle.kh_types.specs.Bits.{bit, ones}
 use Rattle.kh_types.specs.Code.{Code, arc_in}
 use Rattle.kh_types.specs.Classes.{class_count}
-use Rattle.kh_types.specs.Circles.{smoothing_of, circle_count}
+use Rattle.kh_types.specs.Circles.{circle_count}
 use Rattle.kh_types.specs.Generators.{one_count}
 use Rattle.kh_types.specs.StateSum.{int_sum, signed_by_parity, circle_coefficient, term_with, sum_with}
 use Rattle.kh_types.specs.StateSum as kh

@@ -1,17 +1,9 @@
 -- The table of the third Reidemeister move, computed.
-use Rattle.std.proofs.Common.{◌≡◌, ℕ, ◌+◌, ◌<◌, ◌≤◌, Bool, true, false, not, ◌||◌, refl, [], ◌∷◌, map, arith}
+use Rattle.std.proofs.Common.{◌≡◌, ℕ, ◌+◌, ◌<◌, ◌≤◌, Bool, true, false, not, ◌||◌, refl, arith}
 use Rattle.std.specs.List.{range_with_len, list_all}
-use Rattle.gluing.specs.Slides.{inside_terms, triangle_before, triangle_after, closed_inside, is_slidable}
+use Rattle.gluing.specs.Slides.{inside_terms, triangle_before, triangle_after, is_slidable}
 use Rattle.kh_types.proofs.RangeCounts.{list_all-at}
 use Rattle.gluing.proofs.Tallies.{slide_keeps_sum, have_one_sum}
-
--- of the eight states of a triangle at slots 0, 0 and 1 one closes a circle inside
-closed_inside-001 : map (closed_inside (triangle_before 0 0 1)) (range_with_len 0 8) ≡ 0 ∷ 0 ∷ 0 ∷ 0 ∷ 1 ∷ 0 ∷ 0 ∷ 0 ∷ []
-closed_inside-001 = refl
-
--- where all slots have one parity the sums differ
-not-000 : have_one_sum (inside_terms (triangle_before 0 0 0)) (inside_terms (triangle_after 0 0 0)) ≡ false
-not-000 = refl
 
 all_slots : list_all (λ p. list_all (λ q. list_all (λ r. slide_keeps_sum p q r) (range_with_len 0 4)) (range_with_len 0 4)) (range_with_len 0 4)
     ≡ true

@@ -1,5 +1,5 @@
 -- The terms of the eight states of a triangle, with the rest of the diagram.
-use Rattle.std.proofs.Common.{◌≡◌, ℕ, zero, suc, ◌⊎◌, inl, inr, ◌+◌, ◌*◌, ◌%◌, ◌<◌, ◌∙◌, List, [], ◌∷◌, ℤ, pos, neg_ℤ, ◌+ℤ◌, ◌-ℤ◌, sym, refl, map, ap, ap₂, arith, Bool, true, false, cond}
+use Rattle.std.proofs.Common.{◌≡◌, ℕ, zero, suc, ◌+◌, ◌*◌, ◌%◌, ◌<◌, ◌∙◌, List, [], ◌∷◌, ℤ, pos, neg_ℤ, ◌+ℤ◌, ◌-ℤ◌, sym, refl, map, ap, ap₂, arith, Bool, true, false, cond}
 use Rattle.std.specs.Prelude.{nat_eq}
 use Rattle.std.specs.List.{range_with_len, flat_map}
 use Rattle.std.proofs.lemmas.Bool.Decides.{nat_tests}
@@ -9,7 +9,7 @@ use Rattle.kh_types.specs.Bits.{ones}
 use Rattle.kh_types.specs.StateSum.{int_sum, circle_coefficient}
 use Rattle.gluing.proofs.Terms.{term_at, signed_by_count}
 use Rattle.gluing.specs.Slides.{inside_sum, terms_of_state, term_exponents, ends_joined, closed_inside, is_slidable, triangle_before, triangle_after}
-use Rattle.gluing.proofs.KinkSums.{signed_by-add, signed_by-next}
+use Rattle.gluing.proofs.KinkSums.{signed_by-add}
 use Rattle.gluing.proofs.SlideSums.{inside_sum-append, inside_sum-slide}
 use Rattle.kh_types.proofs.IntSums.{int_sum-alike, int_sum-append}
 
@@ -55,11 +55,6 @@ inside_sum-signed rest true joined (shift ∷ shifts) =
     negated : (x y : ℤ) → neg_ℤ x +ℤ neg_ℤ y ≡ neg_ℤ (x +ℤ y)
     negated x y = omega (arith, ints)
 inside_sum-signed rest false joined (shift ∷ shifts) = grind (arith, nat_tests, inside_sum-signed rest false joined shifts)
-
-parity-sum : (k r : ℕ)
-    → ((nat_eq (r % 2) 1 ≡ true) × (nat_eq ((k + r) % 2) 0 ≡ nat_eq ((k + 1) % 2) 0))
-    ⊎ ((nat_eq (r % 2) 1 ≡ false) × (nat_eq ((k + r) % 2) 0 ≡ nat_eq (k % 2) 0))
-parity-sum k r = grind (arith, nat_tests)
 
 -- more ones turn the sign round where their number is odd
 signed_by-more : (k r x : ℕ) → cond (nat_eq (r % 2) 1) (neg_ℤ (signed_by_count k x)) (signed_by_count k x) ≡ signed_by_count (k + r) x

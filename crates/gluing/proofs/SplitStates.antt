@@ -3,7 +3,7 @@
 -- To add up f over all states by the bits at three places, a function takes at each state with zeros there the sum of the eight values
 -- around it, and 0 at all others. One place at a time: the values at a number with 0 there and at the one with 1 there are added at the
 -- first. Three such steps give sums of eight, so that two functions whose eights have one sum have one sum over all states.
-use Rattle.std.proofs.Common.{◌≡◌, ◌≢◌, ℕ, zero, suc, ◌⊎◌, inl, inr, ◌+◌, ◌^◌, ◌<◌, ◌≤◌, ◌∙◌, ℤ, pos, ◌+ℤ◌, sym, refl, map, ap, ap₂, arith, Bool, true, false, cond}
+use Rattle.std.proofs.Common.{◌≡◌, ◌≢◌, ℕ, zero, suc, ◌⊎◌, inl, inr, ◌+◌, ◌^◌, ◌<◌, ◌≤◌, ◌∙◌, ℤ, pos, ◌+ℤ◌, sym, refl, map, ap, ap₂, arith, Bool, cond}
 use Rattle.std.specs.Prelude.{nat_eq}
 use Rattle.std.specs.List.{range_with_len}
 use Rattle.std.proofs.Math.Nat.{pow-suc}

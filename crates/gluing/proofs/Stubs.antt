@@ -3,11 +3,10 @@
 -- Sides may stand for one arc, or end at each other. So each of the nine numbers of a triangle gets a number of its own behind all others,
 -- a stub, which a pair joins with the arc that it stands for. Stubs add no class, and pairs on stubs have as many classes as the pairs on
 -- the arcs themselves. So the triangle can be glued as if all its ends were different.
-use Rattle.std.proofs.Common.{◌≡◌, ℕ, zero, suc, ◌⊎◌, inl, inr, ◌+◌, ◌-◌, ◌<◌, ◌≤◌, ◌∙◌, List, [], ◌∷◌, ◌++◌, sym, refl, ap, ap₂, arith, cond}
-use Rattle.std.specs.Prelude.{slice_index, nat_eq, nat_lt}
+use Rattle.std.proofs.Common.{◌≡◌, ℕ, zero, suc, ◌⊎◌, inl, inr, ◌+◌, ◌-◌, ◌<◌, ◌≤◌, ◌∙◌, List, [], ◌∷◌, ◌++◌, sym, refl, ap, arith, cond}
+use Rattle.std.specs.Prelude.{slice_index, nat_lt}
 use Rattle.std.specs.List.{range_with_len}
 use Rattle.std.proofs.lemmas.Bool.Decides.{nat_tests}
-use Rattle.std.proofs.lemmas.Bool.{cases_order}
 use Rattle.kh_types.specs.Classes.{classes_of, class_count, Respects, AreBelow}
 use Rattle.kh_types.proofs.ClassLemmas.{classes-together, classes-finest}
 use Rattle.kh_types.proofs.JoinedClasses.{slice_index-range}
@@ -198,10 +197,6 @@ unstubbed-at_stubs n arcs placed i below = elim (kind_of i below) [
 -- an end or the number 0 is at no side's place
 pub end-no_side : (n : ℕ) (arcs : ℕ → ℕ) → IsPlacedTriangle n arcs → (i : ℕ) → i < 7 → IsNoSide arcs (at_stubs n arcs i)
 end-no_side n arcs placed i below = grind (arith, nat_tests)
-
-at_stubs-apart_ordered : (n : ℕ) (arcs : ℕ → ℕ) → IsPlacedTriangle n arcs → (i j : ℕ) → i < j → j < 10
-    → at_stubs n arcs i ≡ at_stubs n arcs j → ⊥
-at_stubs-apart_ordered n arcs placed i j less below same = grind (arith, nat_tests)
 
 pub at_stubs-apart : (n : ℕ) (arcs : ℕ → ℕ) → IsPlacedTriangle n arcs → (i j : ℕ) → i < 10 → j < 10
     → at_stubs n arcs i ≡ at_stubs n arcs j → i ≡ j
