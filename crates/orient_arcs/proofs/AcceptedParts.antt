@@ -2,12 +2,10 @@
 use Rattle.std.proofs.lemmas.Bool.Decides.{nat_tests}
 use Rattle.std.proofs.Common.{◌≡◌, ◌≢◌, ℕ, inl, inr, ◌+◌, ◌-◌, ◌*◌, ◌/◌, ◌%◌, ◌<◌, ◌∙◌, List, [], length, sym, ap, ap₂, arith, ℤ}
 use Rattle.std.specs.Prelude.{slice_index_or, IsTrue}
-use Rattle.std.specs.List.{count_by, range_with_len}
 use Rattle.kh_types.specs.Code.{Code, arc_in, slots_of, IsCrossing}
-use Rattle.kh_types.specs.Components.{components_of}
 use Rattle.kh_types.specs.Classes.{class_count}
 use Rattle.kh_types.specs.Darts.{arc_of, dart_at}
-use Rattle.kh_types.specs.Directions.{is_positive, is_positive_in, plus_count, HasNoSingleArcs}
+use Rattle.kh_types.specs.Directions.{is_positive, plus_count, HasNoSingleArcs}
 use Rattle.kh_types.specs.StateSum.{state_sum}
 use Rattle.kh_types.specs.Accepted.{IsDirected, IsAccepted}
 use Rattle.kh_types.specs.Acceptance.{accepted}

@@ -4,16 +4,15 @@
 -- is said by darts: the partner of a dart is the other one with its name, faces and pieces go by partners, an equation of the checkerboard
 -- is one of a dart and its partner, circles are classes of darts under smoothings. So all of these agree.
 use Rattle.std.proofs.lemmas.Bool.Decides.{nat_tests}
-use Rattle.std.proofs.Common.{◌≡◌, ℕ, zero, suc, inl, inr, ◌+◌, ◌-◌, ◌*◌, ◌/◌, ◌%◌, ◌^◌, ◌<◌, ◌≤◌, ◌∙◌, List, [], ◌∷◌, length, map, get_or, refl, sym, ap, ap₂, subst, arith, Bool, true, cond, not, ◌&&◌, ℤ}
-use Rattle.std.specs.Prelude.{nat_eq, unwrap_or, Some, slice_index}
+use Rattle.std.proofs.Common.{◌≡◌, ℕ, zero, suc, inl, inr, ◌+◌, ◌-◌, ◌*◌, ◌/◌, ◌%◌, ◌^◌, ◌<◌, ◌≤◌, ◌∙◌, List, [], ◌∷◌, length, map, get_or, refl, sym, ap, ap₂, subst, arith, Bool, true, ℤ}
+use Rattle.std.specs.Prelude.{nat_eq, slice_index}
 use Rattle.std.specs.List.{find, list_all, range_with_len}
-use Rattle.std.specs.Option.{option_map}
-use Rattle.std.proofs.lemmas.Bool.{cases_eq, eq-eqb, eqb-true, ne_eqb}
+use Rattle.std.proofs.lemmas.Bool.{eq-eqb, eqb-true}
 use Rattle.std.proofs.lemmas.List.Elements.{All-from_get_or, recursion_from_All}
 use Rattle.kh_types.specs.declared.dart.Dart.{Dart}
 use Rattle.kh_types.specs.Bits.{bit, ones}
 use Rattle.kh_types.specs.Code.{Code, IsArc, arcs, arc_in, place_of}
-use Rattle.kh_types.specs.Darts.{dart_at, dart_place, arc_of, first_dart, is_same_dart, is_partner, partner, partner_at, IsDart, HasArcsTwice}
+use Rattle.kh_types.specs.Darts.{dart_at, dart_place, arc_of, first_dart, partner, partner_at, IsDart, HasArcsTwice}
 use Rattle.kh_types.specs.Faces.{face_pair, piece_pair, faces_of, pieces_of, open_faces, open_pieces}
 use Rattle.kh_types.specs.Classes.{classes_of, class_count, AreBelow}
 use Rattle.kh_types.specs.Components.{component_count}

@@ -3,7 +3,7 @@
 -- The least arcs are the numbers that pass a test in a range, so they ascend, and each stands once in their list. The number of a component
 -- is the place of its least arc there. From this: arcs have one number exactly where they are in one component, the arc that follows has
 -- the same, and the arcs of a number are an interval from its least arc on.
-use Rattle.std.proofs.Common.{◌≡◌, ◌↔◌, ℕ, zero, suc, inl, inr, ◌+◌, ◌-◌, ◌<◌, ◌≤◌, ◌∙◌, List, ◌∷◌, length, get_or, refl, sym, ap, subst, arith, Bool, true, false, cond}
+use Rattle.std.proofs.Common.{◌≡◌, ◌↔◌, ℕ, zero, suc, inl, inr, ◌+◌, ◌-◌, ◌<◌, ◌≤◌, ◌∙◌, List, ◌∷◌, length, get_or, refl, sym, ap, subst, arith, Bool, true, false}
 use Rattle.std.specs.Prelude.{nat_eq, IsTrue}
 use Rattle.std.specs.List.{Contains, filter, range_with_len, position_or_len}
 use Rattle.std.proofs.lemmas.Bool.{cases_Bool, cases_lt, eq-eqb, eqb-true}

@@ -3,9 +3,9 @@
 -- A component of names has labels, those of the passes that enter on them. Turned names have turned labels, so the list of labels stands
 -- for the components in order, and the place of a name in the order is its new number. A pass of these labels enters on such a number and
 -- leaves on the next in its component (`all-numbered`). The labels name crossings, each pass once, so that none is bad.
-use Rattle.std.proofs.Common.{◌≡◌, ℕ, zero, suc, ◌⊎◌, inl, inr, ◌+◌, ◌/◌, ◌<◌, ◌≤◌, ◌∙◌, List, [], ◌∷◌, ◌++◌, length, map, take, get_or, refl, sym, ap, subst, arith, Bool, true, false, ◌&&◌, ◌||◌}
-use Rattle.std.specs.Prelude.{nat_eq, nat_lt, if◌then◌else◌, None, ℤ, nat_abs, int_lt}
-use Rattle.std.specs.List.{flat_map, list_any, position_or_len, range_with_len, AllByRecursion}
+use Rattle.std.proofs.Common.{◌≡◌, ℕ, zero, suc, ◌⊎◌, inl, inr, ◌+◌, ◌/◌, ◌<◌, ◌≤◌, ◌∙◌, List, [], ◌∷◌, ◌++◌, length, map, take, get_or, refl, sym, ap, subst, arith, false, ◌||◌}
+use Rattle.std.specs.Prelude.{nat_eq, nat_lt, None, ℤ, nat_abs}
+use Rattle.std.specs.List.{flat_map, list_any, range_with_len, AllByRecursion}
 use Rattle.std.specs.Ordering.{int_eq}
 use Rattle.std.proofs.lemmas.Bool.{cases_eq}
 use Rattle.std.proofs.lemmas.Bool.Decides.{nat_tests}
@@ -27,11 +27,6 @@ pub turned-cases : (label : ℕ → ℤ) (names : List ℕ)
     → (turned_names label names ≡ names)
     ⊎ ((a : ℕ) × (b : ℕ) × (names ≡ a ∷ b ∷ []) × (turned_names label names ≡ b ∷ a ∷ []))
 turned-cases label names = grind (arith, nat_tests)
-
--- so what holds of both, holds of it
-turned-holds : (label : ℕ → ℤ) (P : List ℕ → Type 0) (names : List ℕ) → P names → ((a b : ℕ) → P (a ∷ b ∷ []) → P (b ∷ a ∷ []))
-    → P (turned_names label names)
-turned-holds label P names holds exchanged = grind (arith, nat_tests)
 
 length-turned_names : (label : ℕ → ℤ) (names : List ℕ) → length (turned_names label names) ≡ length names
 length-turned_names label names = grind (arith, nat_tests)

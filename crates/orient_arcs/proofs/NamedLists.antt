@@ -1,6 +1,6 @@
 -- Lists of numbers under names.
-use Rattle.std.proofs.Common.{◌≡◌, ◌≢◌, ℕ, suc, inl, inr, ◌<◌, ◌∙◌, List, [], ◌∷◌, length, map, refl, ap, ap₂, arith, Bool, true, false, ◌&&◌, ℤ, pos, negsuc}
-use Rattle.std.specs.Prelude.{if◌then◌else◌, slice_index_or, int_lt}
+use Rattle.std.proofs.Common.{◌≡◌, ◌≢◌, ℕ, suc, inl, inr, ◌<◌, List, [], ◌∷◌, length, map, refl, ap, ap₂, arith, true, false, ℤ}
+use Rattle.std.specs.Prelude.{slice_index_or, int_lt}
 use Rattle.std.specs.List.{AllByRecursion}
 use Rattle.std.proofs.lemmas.Bool.Decides.{nat_tests}
 use Rattle.kh_types.specs.Code.{arc_in}

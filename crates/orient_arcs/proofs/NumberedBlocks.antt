@@ -5,10 +5,10 @@
 -- are those from there on (`block`). A block is turned where it has two arcs that are both over; then its least arc comes second, and that
 -- is the one way in which a least arc is not the first of its component (`HasOverLabels`).
 use Rattle.std.proofs.lemmas.Bool.Decides.{nat_tests}
-use Rattle.std.proofs.Common.{ℤ, ◌≡◌, ◌≢◌, ℕ, ◌⊎◌, inl, inr, ◌+◌, ◌<◌, ◌≤◌, ◌∙◌, List, [], ◌∷◌, ◌++◌, length, get_or, refl, sym, ap, ap₂, subst, arith, Bool, true, false, not, ◌&&◌, cond, length-append}
-use Rattle.std.specs.Prelude.{nat_eq, int_lt, if◌then◌else◌}
+use Rattle.std.proofs.Common.{ℤ, ◌≡◌, ◌≢◌, ℕ, ◌⊎◌, inl, inr, ◌+◌, ◌<◌, ◌≤◌, ◌∙◌, List, [], ◌∷◌, ◌++◌, length, get_or, refl, sym, ap, ap₂, subst, arith, true, not, ◌&&◌, cond, length-append}
+use Rattle.std.specs.Prelude.{nat_eq, int_lt}
 use Rattle.std.specs.List.{position_or_len}
-use Rattle.std.proofs.lemmas.Bool.{cases_eq, cases_lt, eq-eqb, and_parts, ne_eqb}
+use Rattle.std.proofs.lemmas.Bool.{cases_eq, cases_lt, eq-eqb, ne_eqb}
 use Rattle.kh_types.specs.Code.{Code, IsArc}
 use Rattle.kh_types.specs.Accepted.{IsDirected}
 use Rattle.kh_types.proofs.NextArcs.{component, HasPlace-directed}

@@ -4,7 +4,7 @@
 -- so it is as often a head as the arc is, and as often a tail. The arcs of a code are so once each, hence the names are; other numbers are
 -- so never.
 use Rattle.std.proofs.lemmas.Bool.Decides.{nat_tests}
-use Rattle.std.proofs.Common.{◌≡◌, ℕ, zero, suc, inl, inr, ◌+◌, ◌-◌, ◌*◌, ◌/◌, ◌%◌, ◌<◌, ◌≤◌, ◌∙◌, List, [], length, refl, sym, ap, ap₂, arith, Bool, true, false, cond}
+use Rattle.std.proofs.Common.{◌≡◌, ℕ, zero, suc, inl, inr, ◌+◌, ◌-◌, ◌*◌, ◌/◌, ◌%◌, ◌<◌, ◌≤◌, ◌∙◌, List, [], length, refl, sym, ap, ap₂, arith, Bool, false, cond}
 use Rattle.std.specs.Prelude.{nat_eq, if◌then◌else◌, slice_index_or}
 use Rattle.std.specs.List.{count_by, flat_map, list_any, range_with_len}
 use Rattle.std.proofs.lemmas.Bool.{cases_Bool, both_ways, eqb-true, ne_eqb}

@@ -5,7 +5,7 @@
 -- passes are told apart by names and by labels. Two passes a crossing make twice as many names as crossings.
 use Rattle.std.proofs.lemmas.Bool.Decides.{nat_tests}
 use Rattle.std.proofs.Common.{◌≡◌, ◌≢◌, ℕ, zero, suc, inl, inr, ◌+◌, ◌*◌, ◌<◌, ◌≤◌, ◌∙◌, List, [], ◌∷◌, length, map, refl, sym, ap, subst, arith, cond}
-use Rattle.std.specs.Prelude.{nat_eq, unwrap_or, Some, ℤ, pos, negsuc, nat_abs}
+use Rattle.std.specs.Prelude.{nat_eq, unwrap_or, ℤ, pos, negsuc, nat_abs}
 use Rattle.std.specs.List.{find, count_by, flat_map, range_with_len, AllByRecursion}
 use Rattle.std.proofs.lemmas.Bool.{cases_eq, eq-eqb, ne_eqb}
 use Rattle.std.proofs.lemmas.List.{length-map}

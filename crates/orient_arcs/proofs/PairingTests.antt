@@ -1,7 +1,7 @@
 -- The test whether names are paired.
 use Rattle.std.proofs.lemmas.Bool.Decides.{nat_tests}
 use Rattle.std.proofs.Common.{◌≡◌, ℕ, ◌⊎◌, inl, inr, ◌≤◌, ◌∙◌, List, [], ◌∷◌, map, refl, sym, ap, arith, Bool, true, ◌&&◌}
-use Rattle.std.specs.Prelude.{nat_eq, nat_lt, IsTrue, ◌↔◌}
+use Rattle.std.specs.Prelude.{nat_eq, IsTrue, ◌↔◌}
 use Rattle.std.specs.List.{count_by, list_all}
 use Rattle.std.proofs.lemmas.Bool.{and_parts, and_from}
 use Rattle.std.proofs.lemmas.List.Folds.{list_all-map}

@@ -1,6 +1,6 @@
 -- The steps of renumbering.
 use Rattle.std.proofs.lemmas.Bool.Decides.{nat_tests}
-use Rattle.std.proofs.Common.{◌≡◌, ℕ, zero, suc, ◌+◌, ◌*◌, ◌<◌, ◌≤◌, ◌∙◌, List, [], ◌∷◌, ◌++◌, length, map, take, get_or, max, refl, sym, ap, ap₂, arith, true, false}
+use Rattle.std.proofs.Common.{◌≡◌, ℕ, zero, suc, ◌+◌, ◌*◌, ◌<◌, ◌≤◌, ◌∙◌, List, [], ◌∷◌, ◌++◌, length, map, take, get_or, max, refl, sym, ap, ap₂, arith, false}
 use Rattle.std.specs.Prelude.{nat_eq, ◌||◌, if◌then◌else◌}
 use Rattle.std.specs.List.{flat_map, list_any, range_with_len}
 use Rattle.std.proofs.lemmas.List.{take_more, map_push}
@@ -46,10 +46,6 @@ walk_step order next first fuel less name size other =
     assoc : (xs : List ℕ) → (xs ++ name ∷ []) ++ walk next first less (next name) ≡ xs ++ name ∷ walk next first less (next name)
     assoc [] = refl
     assoc (x ∷ xs) = ap (λ ys. x ∷ ys) (assoc xs)
-
-pub walk_last : (order : List ℕ) (next : ℕ → ℕ) (first fuel less name : ℕ) → fuel ≡ suc less → nat_eq (next name) first ≡ true
-    → order ++ name ∷ [] ≡ order ++ walk next first fuel name
-walk_last order next first fuel less name size same = grind (arith, nat_tests)
 
 pub length_walk : (next : ℕ → ℕ) (first fuel less name : ℕ) → fuel ≡ suc less → 1 ≤ length (walk next first fuel name)
 length_walk next first fuel less name size = grind (arith, nat_tests)

@@ -1,9 +1,6 @@
 -- The next arc of an accepted code is an arc.
 use Rattle.std.proofs.lemmas.Bool.Decides.{nat_tests}
-use Rattle.std.proofs.Common.{ap, arith, sym, subst, ◌∙◌, ◌≤◌, ℕ, List, length}
-use Rattle.kh_types.specs.declared.limits.TheConstants.{CROSSINGS}
-use Rattle.kh_types.specs.Code.{IsArc}
-use Rattle.kh_types.specs.Components.{components_of, next_in}
+use Rattle.std.proofs.Common.{arith}
 use Rattle.kh_types.proofs.NextArcs.{IsArc-next}
 use Rattle.orient_arcs.proofs.ComponentLemmas.{IsDirected-accepted}
 use Rattle.orient_arcs.proofs.of_diagram.next.Goals as goal

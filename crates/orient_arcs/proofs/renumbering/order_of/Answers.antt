@@ -1,6 +1,5 @@
 use Rattle.std.proofs.lemmas.Bool.Decides.{nat_tests}
-use Rattle.std.proofs.Common.{◌∙◌, ap, arith, length}
-use Rattle.orient_arcs.specs.Steps.{order_below}
+use Rattle.std.proofs.Common.{arith}
 use Rattle.orient_arcs.proofs.ComponentSteps.{length-order_below}
 use Rattle.orient_arcs.proofs.renumbering.order_of.Goals as goal
 

@@ -1,5 +1,5 @@
 use Rattle.std.proofs.lemmas.Bool.Decides.{nat_tests}
-use Rattle.std.proofs.Common.{◌∙◌, sym, arith}
+use Rattle.std.proofs.Common.{arith}
 use Rattle.orient_arcs.proofs.ComponentSteps.{step_more, step_room, step_same}
 use Rattle.orient_arcs.proofs.renumbering.push_component.Goals as goal
 

@@ -1,8 +1,5 @@
 use Rattle.std.proofs.lemmas.Bool.Decides.{nat_tests}
-use Rattle.std.proofs.Common.{arith, ◌∙◌, ap, map}
-use Rattle.kh_types.specs.Code.{Code}
-use Rattle.code_passes.specs.Parts.{Parts, passes_through}
-use Rattle.orient_arcs.specs.Renumbered.{order_of, number_in, renamed_crossing}
+use Rattle.std.proofs.Common.{arith}
 use Rattle.orient_arcs.proofs.StepLemmas.{code_is}
 use Rattle.orient_arcs.proofs.OneOrder.{AreInOrder-order}
 use Rattle.orient_arcs.proofs.renumbering.renumber.Goals as goal

@@ -1,6 +1,5 @@
 use Rattle.std.proofs.lemmas.Bool.Decides.{nat_tests}
-use Rattle.std.proofs.Common.{arith, ◌∙◌, ◌+◌, ◌*◌, ap, ap₂, sym}
-use Rattle.kh_types.specs.Classes.{class_count}
+use Rattle.std.proofs.Common.{arith}
 use Rattle.orient_arcs.proofs.AlikeCrossings.{partner_at-alike, faces-alike, pieces-alike, IsCheckerboard-alike}
 use Rattle.orient_arcs.proofs.laws.alike.alike_crossings_have_the_same_faces.Goals as goal
 
