@@ -1,15 +1,13 @@
 -- Kinks and fingers as they are added.
+use Rattle.std.proofs.lemmas.Bool.Decides.{nat_tests}
 use Rattle.std.proofs.Common.{◌≡◌, ℕ, ◌+◌, ◌<◌, ◌∙◌, ℤ, List, [], ◌∷◌, ◌++◌, length, map, arith, Bool, false, IsTrue}
 use Rattle.std.specs.Prelude.{None, get_or}
-use Rattle.std.specs.Option.{option_or}
 use Rattle.std.specs.List.{range_with_len}
 use Rattle.std.proofs.lemmas.List.{length-map}
 use Rattle.std.proofs.lemmas.List.FromFn.{get_or-map-range_with_len, length-map-range_with_len, length-range_with_len, map-range_with_len_more}
 use Rattle.kh_types.specs.Acceptance.{accepted}
-use Rattle.kh_types.specs.Code.{Code, arc_count}
+use Rattle.kh_types.specs.Code.{Code}
 use Rattle.kh_types.specs.Directions.{positive_at}
-use Rattle.kh_types.specs.Faces.{face_count, planar_face_count}
-use Rattle.kh_types.specs.declared.limits.TheConstants.{CROSSINGS}
 use Rattle.kh_types.specs.StateSum.{state_sum}
 use Rattle.kinks_and_fingers.proofs.AddedSums.{state_sum-fingered}
 use Rattle.kinks_and_fingers.specs.FingerAdd.{moved_slots, with_finger, differ}
@@ -19,9 +17,8 @@ use Rattle.kinks_and_fingers.proofs.FingerPlanar.{accepted-fingered}
 use Rattle.kinks_and_fingers.proofs.KinkFaces.{accepted-kinked}
 use Rattle.diagram_moves.specs.AddSteps.{IsTakenArc, AreTakenArcs, kinked_there}
 use Rattle.diagram_moves.proofs.MadeSoFar.{kinked_to, fingered_to}
-use Rattle.diagram_moves.specs.MoveFaults.{kink_add_fault, finger_place_fault, no_arc, crossing_limit_fault, on_loop, same_arc, wrong_genus}
-use Rattle.diagram_moves.specs.declared.fault.MoveFault.TheVariants.{NoArc, CrossingLimit, OnLoop, SameArc, Genus}
-use Rattle.diagram_moves.proofs.FaultLemmas.{both-none, none-above, none-apart, none-same, none-within}
+use Rattle.diagram_moves.specs.MoveFaults.{kink_add_fault, finger_place_fault, wrong_genus}
+use Rattle.diagram_moves.proofs.FaultLemmas.{none-same}
 
 pub sign_there : (crossings : List (List ℕ)) (place : ℕ) → place < length crossings
     → get_or (map (positive_at crossings) (range_with_len 0 (length crossings))) place false ≡ positive_at crossings place
@@ -50,49 +47,15 @@ pub accepted_kinked : (code : Code) (a : ℕ) (over positive : Bool) → IsTrue 
 accepted_kinked code a over positive holds taken = accepted-kinked code a over positive holds taken.is_arc
 
 pub kinks_are_taken : (code : Code) (a : ℕ) → kink_add_fault code a ≡ None → IsTakenArc code a
-kinks_are_taken code a none =
-    let first = both-none (no_arc code a) (option_or (crossing_limit_fault code 1) (on_loop code a)) none in
-    let second = both-none (crossing_limit_fault code 1) (on_loop code a) first.1 in
-    record {
-      is_arc = record {
-        positive = (none-within a (arc_count code.crossings + code.loops) (NoArc a) first.0).0;
-        within = none-above (arc_count code.crossings) a (OnLoop a) second.1;
-      };
-      room = none-above CROSSINGS (length code.crossings + 1) (CrossingLimit (length code.crossings + 1)) second.0;
-    }
+kinks_are_taken code a none = grind (arith, nat_tests)
 
 pub fingers_are_taken : (code : Code) (a b : ℕ) → finger_place_fault code a b ≡ None → AreTakenArcs code a b
-fingers_are_taken code a b none =
-    let last = same_arc a b in
-    let fourth = option_or (on_loop code b) last in
-    let third = option_or (on_loop code a) fourth in
-    let second = option_or (crossing_limit_fault code 2) third in
-    let from_a = both-none (no_arc code a) (option_or (no_arc code b) second) none in
-    let from_b = both-none (no_arc code b) second from_a.1 in
-    let from_room = both-none (crossing_limit_fault code 2) third from_b.1 in
-    let from_loop = both-none (on_loop code a) fourth from_room.1 in
-    let from_other = both-none (on_loop code b) last from_loop.1 in
-    record {
-      over_arc = record {
-        positive = (none-within a (arc_count code.crossings + code.loops) (NoArc a) from_a.0).0;
-        within = none-above (arc_count code.crossings) a (OnLoop a) from_loop.0;
-      };
-      under_arc = record {
-        positive = (none-within b (arc_count code.crossings + code.loops) (NoArc b) from_b.0).0;
-        within = none-above (arc_count code.crossings) b (OnLoop b) from_other.0;
-      };
-      apart = none-apart a b (SameArc a) from_other.1;
-      room = none-above CROSSINGS (length code.crossings + 2) (CrossingLimit (length code.crossings + 2)) from_room.0;
-    }
+fingers_are_taken code a b none = grind (arith, nat_tests)
 
 pub fingers_on_the_sphere_are_accepted : (code : Code) (a b : ℕ) (a_left b_left : Bool) → IsTrue (accepted code)
     → AreTakenArcs code a b → wrong_genus (with_finger code a a_left b b_left).crossings ≡ None
     → IsTrue (accepted (with_finger code a a_left b b_left))
-fingers_on_the_sphere_are_accepted code a b a_left b_left holds taken none =
-    let made = with_finger code a a_left b b_left in
-    (accepted-fingered code a b b_left (differ a_left b_left) holds taken.over_arc taken.under_arc taken.apart).0
-    (none-same (face_count made.crossings) (planar_face_count made.crossings)
-    (Genus (face_count made.crossings) (planar_face_count made.crossings)) none)
+fingers_on_the_sphere_are_accepted code a b a_left b_left holds taken none = grind (arith, nat_tests, accepted-fingered, none-same)
 
 pub sum-fingered : (code : Code) (a b : ℕ) (a_left b_left : Bool) → IsTrue (accepted code) → AreTakenArcs code a b → (exponent : ℤ)
     → state_sum (with_finger code a a_left b b_left) exponent ≡ state_sum code exponent

@@ -1,14 +1,13 @@
 -- What moves keep, and when they leave the sphere.
-use Rattle.std.proofs.Common.{◌≡◌, ◌≢◌, ℕ, ◌+◌, ◌∙◌, ℤ, length, refl, sym, ap, arith, Bool, not, true, false, IsTrue}
-use Rattle.std.specs.Prelude.{◌↔◌, nat_eq, nat_lt, ◌||◌, is_none, Option, Some, None, Result, Err, IfOk}
+use Rattle.std.proofs.Common.{◌≡◌, ◌≢◌, ℕ, ◌+◌, ◌∙◌, ℤ, sym, ap, arith, Bool, not, IsTrue}
+use Rattle.std.specs.Prelude.{◌↔◌, nat_eq, is_none, Option, Some, None, Err, IfOk}
 use Rattle.std.specs.Option.{option_or}
 use Rattle.std.proofs.lemmas.Bool.Decides.{nat_tests}
 use Rattle.kh_types.specs.Acceptance.{accepted}
-use Rattle.kh_types.specs.Code.{Code, arc_count, place_of}
+use Rattle.kh_types.specs.Code.{Code, place_of}
 use Rattle.kh_types.specs.Components.{component_count}
 use Rattle.kh_types.specs.Faces.{face_count, planar_face_count}
 use Rattle.kh_types.specs.StateSum.{state_sum}
-use Rattle.kh_types.specs.declared.limits.TheConstants.{CROSSINGS}
 use Rattle.kinks_and_fingers.specs.Drops.{is_bigon, is_kink, without_finger, without_kink}
 use Rattle.kinks_and_fingers.specs.FingerAdd.{with_finger, differ}
 use Rattle.kinks_and_fingers.specs.KinkAdds.{with_kink}
@@ -22,10 +21,10 @@ use Rattle.slides.specs.Triangles.{has_triangle, slide_slot}
 use Rattle.diagram_moves.specs.declared.change.Move.{Move}
 use Rattle.diagram_moves.specs.declared.change.Move.TheVariants.{KinkAdd, KinkDrop, FingerAdd, FingerDrop, Slide}
 use Rattle.diagram_moves.specs.declared.fault.MoveFault.{MoveFault}
-use Rattle.diagram_moves.specs.declared.fault.MoveFault.TheVariants.{NoArc, NoCrossing, CrossingLimit, OnLoop, SameArc, NoKink, NoBigon, NoTriangle, Heights, Genus}
+use Rattle.diagram_moves.specs.declared.fault.MoveFault.TheVariants.{NoKink, NoBigon, NoTriangle, Heights, Genus}
 use Rattle.diagram_moves.proofs.KeptComponents.{HasComponents}
 use Rattle.diagram_moves.specs.Moved.{answered, is_left, moved, slid_at, HasWrongFaces, JoinsPieces, LeavesSphere}
-use Rattle.diagram_moves.specs.MoveFaults.{no_arc, no_crossing, crossing_limit_fault, on_loop, same_arc, no_kink, no_bigon, no_triangle, no_heights, wrong_genus, refused_where, kink_add_fault, kink_drop_fault, finger_place_fault, finger_add_fault, finger_drop_fault, slide_fault}
+use Rattle.diagram_moves.specs.MoveFaults.{no_arc, no_crossing, crossing_limit_fault, on_loop, no_kink, no_bigon, no_triangle, no_heights, wrong_genus, refused_where, kink_add_fault, kink_drop_fault, finger_place_fault, finger_add_fault, finger_drop_fault, slide_fault}
 use Rattle.diagram_moves.proofs.AddLemmas.{fingers_are_taken, kinks_are_taken, sum-fingered}
 use Rattle.diagram_moves.proofs.DropLemmas.{components-finger_dropped, components-kink_dropped, finger-dropped, kink-dropped}
 use Rattle.diagram_moves.proofs.SlideLemmas.{components-slid_at, sum-slid_at}
@@ -95,79 +94,33 @@ moves_keep_components code (Slide first second third) holds =
 
 -- the answer is a fault exactly where the fault comes
 answered-fault : (found : Option MoveFault) (code : Code) (fault : MoveFault) → (answered found code ≡ Err fault) ↔ (found ≡ Some fault)
-answered-fault None code fault = (λ same. absurd (cc), λ same. absurd (cc))
-answered-fault (Some one) code fault = (
-  λ same. ap (λ (f : MoveFault). let some : Option MoveFault = Some f in some) (same-err one fault same),
-  λ same. ap (λ (f : MoveFault). let err : Result Code MoveFault = Err f in err) (same-some one fault same),
-)
-  where
-    same-err : (x y : MoveFault) → (let a : Result Code MoveFault = Err x in let b : Result Code MoveFault = Err y in a ≡ b) → x ≡ y
-    same-err x y same = cc
-
-    same-some : (x y : MoveFault) → (let a : Option MoveFault = Some x in let b : Option MoveFault = Some y in a ≡ b) → x ≡ y
-    same-some x y same = cc
+answered-fault found code fault = grind (arith, nat_tests)
 
 -- a fault that is not that of the faces
 no-genus : (found : Option MoveFault) (code : Code) (faces wanted : ℕ) → ¬ (found ≡ Some (Genus faces wanted))
     → (answered found code ≡ Err (Genus faces wanted)) ↔ ⊥
-no-genus found code faces wanted other =
-    (λ same. other ((answered-fault found code (Genus faces wanted)).0 same), λ nothing. absurd nothing)
+no-genus found code faces wanted other = grind (arith, nat_tests)
 
 arc-other : (code : Code) (arc faces wanted : ℕ) → ¬ (no_arc code arc ≡ Some (Genus faces wanted))
-arc-other code arc faces wanted =
-    other-fault (nat_eq arc 0 || nat_lt (arc_count code.crossings + code.loops) arc) (NoArc arc) faces wanted (λ same. absurd (cc))
+arc-other code arc faces wanted = grind (arith, nat_tests)
 
 crossing-other : (code : Code) (crossing faces wanted : ℕ) → ¬ (no_crossing code crossing ≡ Some (Genus faces wanted))
-crossing-other code crossing faces wanted =
-    other-fault (nat_eq crossing 0 || nat_lt (length code.crossings) crossing) (NoCrossing crossing) faces wanted (λ same. absurd (cc))
+crossing-other code crossing faces wanted = grind (arith, nat_tests)
 
 limit-other : (code : Code) (more faces wanted : ℕ) → ¬ (crossing_limit_fault code more ≡ Some (Genus faces wanted))
-limit-other code more faces wanted =
-    other-fault (nat_lt CROSSINGS (length code.crossings + more)) (CrossingLimit (length code.crossings + more)) faces wanted
-    (λ same. absurd (cc))
+limit-other code more faces wanted = grind (arith, nat_tests)
 
 loop-other : (code : Code) (arc faces wanted : ℕ) → ¬ (on_loop code arc ≡ Some (Genus faces wanted))
-loop-other code arc faces wanted =
-    other-fault (nat_lt (arc_count code.crossings) arc) (OnLoop arc) faces wanted (λ same. absurd (cc))
+loop-other code arc faces wanted = grind (arith, nat_tests)
 
 place-other : (code : Code) (over under faces wanted : ℕ) → ¬ (finger_place_fault code over under ≡ Some (Genus faces wanted))
-place-other code over under faces wanted =
-    let genus : MoveFault = Genus faces wanted in
-    let same : ¬ (same_arc over under ≡ Some (Genus faces wanted)) =
-    other-fault (nat_eq over under) (SameArc over) faces wanted (λ same. absurd (cc)) in
-    let last = neither-fault (on_loop code under) (same_arc over under) genus (loop-other code under faces wanted) same in
-    let loops = neither-fault (on_loop code over) (option_or (on_loop code under) (same_arc over under)) genus
-    (loop-other code over faces wanted) last in
-    let limit = neither-fault (crossing_limit_fault code 2)
-    (option_or (on_loop code over) (option_or (on_loop code under) (same_arc over under))) genus (limit-other code 2 faces wanted) loops in
-    let second = neither-fault (no_arc code under)
-    (option_or (crossing_limit_fault code 2) (option_or (on_loop code over) (option_or (on_loop code under) (same_arc over under)))) genus
-    (arc-other code under faces wanted) limit in
-    neither-fault (no_arc code over)
-    (option_or (no_arc code under)
-    (option_or (crossing_limit_fault code 2) (option_or (on_loop code over) (option_or (on_loop code under) (same_arc over under))))) genus
-    (arc-other code over faces wanted) second
+place-other code over under faces wanted = grind (arith, nat_tests)
 
 -- the fault of the faces, with the two numbers of the code that results
 genus-exactly : (count most faces wanted : ℕ)
     → (refused_where (not (nat_eq count most)) (Genus count most) ≡ Some (Genus faces wanted))
     ↔ ((faces ≡ count) × (wanted ≡ most) × (faces ≢ wanted))
-genus-exactly count most faces wanted = by_test (nat_eq count most) refl
-  where
-    parts : (a b c d : ℕ) → (let one : Option MoveFault = Some (Genus a b) in let two : Option MoveFault = Some (Genus c d) in one ≡ two)
-        → (c ≡ a) × (d ≡ b)
-    parts a b c d same = (cc, cc)
-
-    by_test : (test : Bool) → nat_eq count most ≡ test
-        → (refused_where (not test) (Genus count most) ≡ Some (Genus faces wanted))
-        ↔ ((faces ≡ count) × (wanted ≡ most) × (faces ≢ wanted))
-    by_test true is = (λ same. absurd (cc), λ all. absurd (grind (arith, nat_tests, is, all)))
-    by_test false is = (
-      λ same.
-          let both = parts count most faces wanted same in
-          (both.0, both.1, λ equal. absurd (grind (arith, nat_tests, is, both, equal))),
-      λ all. cc,
-    )
+genus-exactly count most faces wanted = grind (arith, nat_tests)
 
 or-some : (x y : Option MoveFault) (fault : MoveFault) → ¬ (x ≡ Some fault) → option_or x y ≡ Some fault → (x ≡ None) × (y ≡ Some fault)
 or-some x y fault other same = grind (arith, nat_tests)

@@ -1,6 +1,7 @@
 -- What is dropped again after it was added leaves the code that was.
-use Rattle.std.proofs.Common.{◌≡◌, ℕ, ◌+◌, ◌-◌, ◌∙◌, List, length, refl, ap, ap₂, arith, Bool}
-use Rattle.std.specs.Prelude.{Option, Some, None, Result, Ok}
+use Rattle.std.proofs.lemmas.Bool.Decides.{nat_tests}
+use Rattle.std.proofs.Common.{◌≡◌, ℕ, ◌+◌, ◌-◌, ◌∙◌, List, length, ap, ap₂, arith, Bool}
+use Rattle.std.specs.Prelude.{Option, None, Ok}
 use Rattle.std.specs.List.{AllByRecursion}
 use Rattle.kh_types.specs.Code.{Code, arc_in}
 use Rattle.code_passes.specs.Parts.{slots_in, ArePaired}
@@ -20,11 +21,7 @@ use Rattle.diagram_moves.specs.Moved.{answered}
 
 -- where the answer is a code there was no fault, and it is the code
 pub answered-ok : (fault : Option MoveFault) (code new : Code) → answered fault code ≡ Ok new → (fault ≡ None) × (code ≡ new)
-answered-ok None code new is = (refl, same-ok code new is)
-  where
-    same-ok : (x y : Code) → (let a : Result Code MoveFault = Ok x in let b : Result Code MoveFault = Ok y in a ≡ b) → x ≡ y
-    same-ok x y same = cc
-answered-ok (Some fault) code new is = absurd (cc)
+answered-ok fault code new is = grind (arith, nat_tests)
 
 -- where added crossings are dropped the old code is left, on arcs whose names ascend
 pub added-back : (old new : Code) (rise end low : ℕ → ℕ) (sign gone : ℕ → Bool)

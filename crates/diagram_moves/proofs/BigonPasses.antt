@@ -1,7 +1,7 @@
 -- The passes of the two crossings of a bigon follow one another.
-use Rattle.std.proofs.Common.{subst, ◌≡◌, ℕ, zero, suc, ◌⊎◌, inl, inr, ◌+◌, ◌*◌, ◌%◌, ◌<◌, ◌∙◌, List, length, refl, sym, ap, arith, Bool, true, false, not, IsTrue, ◌-◌, ◌/◌, ap₂}
+use Rattle.std.proofs.lemmas.Bool.Decides.{nat_tests}
+use Rattle.std.proofs.Common.{subst, ◌≡◌, ℕ, ◌⊎◌, inl, inr, ◌+◌, ◌*◌, ◌%◌, ◌<◌, ◌∙◌, List, length, sym, ap, arith, Bool, true, false, not, IsTrue, ◌-◌, ◌/◌, ap₂}
 use Rattle.std.specs.Prelude.{if◌then◌else◌}
-use Rattle.std.proofs.lemmas.Bool.{both_ways}
 use Rattle.kh_types.specs.Acceptance.{accepted}
 use Rattle.kh_types.specs.Code.{Code, IsCrossing, arc_in, place_of}
 use Rattle.kh_types.specs.Darts.{partner_at}
@@ -22,36 +22,16 @@ record IsEnd (head tail slot : ℕ) (enters_there : Bool) : Type 0 where
   kinds : ((slot ≡ head) × (enters_there ≡ true)) ⊎ ((slot ≡ tail) × (enters_there ≡ false))
 
 under-end : (b : Bool) (p : ℕ) → p < 4 → p % 2 ≡ 0 → IsEnd 0 2 p (enters b p)
-under-end b zero below even = record { kinds = inl (refl, refl) }
-under-end b (suc zero) below even = absurd (omega (arith, even))
-under-end true (suc (suc zero)) below even = record { kinds = inr (refl, refl) }
-under-end false (suc (suc zero)) below even = record { kinds = inr (refl, refl) }
-under-end b (suc (suc (suc zero))) below even = absurd (omega (arith, even))
-under-end b (suc (suc (suc (suc p)))) below even = absurd (omega (arith, below))
+under-end b p below even = grind (arith, nat_tests)
 
 over-end : (b : Bool) (p : ℕ) → p < 4 → p % 2 ≡ 1 → IsEnd (if b then 3 else 1) (if b then 1 else 3) p (enters b p)
-over-end b zero below odd = absurd (omega (arith, odd))
-over-end true (suc zero) below odd = record { kinds = inr (refl, refl) }
-over-end false (suc zero) below odd = record { kinds = inl (refl, refl) }
-over-end b (suc (suc zero)) below odd = absurd (omega (arith, odd))
-over-end true (suc (suc (suc zero))) below odd = record { kinds = inl (refl, refl) }
-over-end false (suc (suc (suc zero))) below odd = record { kinds = inr (refl, refl) }
-over-end b (suc (suc (suc (suc p)))) below odd = absurd (omega (arith, below))
+over-end b p below odd = grind (arith, nat_tests)
 
 -- where one arc is at an end of each of two passes, and one of these is its head, the passes follow one another
 joined-ends : (slots others : List ℕ) (head tail other_head other_tail p r : ℕ) (here there : Bool) → IsEnd head tail p here
     → IsEnd other_head other_tail r there → there ≡ not here → arc_in others r ≡ arc_in slots p
     → (arc_in slots tail ≡ arc_in others other_head) ⊎ (arc_in others other_tail ≡ arc_in slots head)
-joined-ends slots others head tail other_head other_tail p r here there one two apart same = elim one.kinds [
-  | inl enters_first ↦ elim two.kinds [
-    | inl enters_second ↦ absurd (both_ways there (apart ∙ ap not enters_first.1) enters_second.1)
-    | inr leaves_second ↦ inr (ap (arc_in others) (sym leaves_second.0) ∙ same ∙ ap (arc_in slots) enters_first.0)
-  ]
-  | inr leaves_first ↦ elim two.kinds [
-    | inl enters_second ↦ inl (ap (arc_in slots) (sym leaves_first.0) ∙ sym same ∙ ap (arc_in others) enters_second.0)
-    | inr leaves_second ↦ absurd (both_ways there leaves_second.1 (apart ∙ ap not leaves_first.1))
-  ]
-]
+joined-ends slots others head tail other_head other_tail p r here there one two apart same = grind (arith, nat_tests)
 
 -- what is so of the two slots of a side
 record IsSide (code : Code) (c d p r : ℕ) : Type 0 where
@@ -85,10 +65,7 @@ side-is code c d p r holds below side =
 under-side : (code : Code) (c d p r : ℕ) → IsSide code c d p r → p % 2 ≡ 0 → r % 2 ≡ 0
     → (arc_in (slots_in code.crossings c) 2 ≡ arc_in (slots_in code.crossings d) 0)
     ⊎ (arc_in (slots_in code.crossings d) 2 ≡ arc_in (slots_in code.crossings c) 0)
-under-side code c d p r side p_even r_even =
-    joined-ends (slots_in code.crossings c) (slots_in code.crossings d) 0 2 0 2 (p % 4) (r % 4) _ _
-    (under-end (positive_at code.crossings c) (p % 4) (omega arith) (omega (arith, p_even)))
-    (under-end (positive_at code.crossings d) (r % 4) (omega arith) (omega (arith, r_even))) side.apart side.same
+under-side code c d p r side p_even r_even = grind (arith, nat_tests, joined-ends, under-end)
 
 -- the over passes of the crossings at two places follow one another, by their signs
 abbrev OverFollow : List (List ℕ) → ℕ → ℕ → Bool → Bool → Type 0
@@ -98,16 +75,10 @@ OverFollow crossings c d b e =
 
 over-side : (code : Code) (c d p r : ℕ) → IsSide code c d p r → p % 2 ≡ 1 → r % 2 ≡ 1
     → OverFollow code.crossings c d (positive_at code.crossings c) (positive_at code.crossings d)
-over-side code c d p r side p_odd r_odd =
-    joined-ends (slots_in code.crossings c) (slots_in code.crossings d) (if positive_at code.crossings c then 3 else 1)
-    (if positive_at code.crossings c then 1 else 3) (if positive_at code.crossings d then 3 else 1) (if positive_at code.crossings d then 1 else 3)
-    (p % 4) (r % 4) (enters (positive_at code.crossings c) (p % 4)) (enters (positive_at code.crossings d) (r % 4))
-    (over-end (positive_at code.crossings c) (p % 4) (omega arith) (omega (arith, p_odd)))
-    (over-end (positive_at code.crossings d) (r % 4) (omega arith) (omega (arith, r_odd))) side.apart side.same
+over-side code c d p r side p_odd r_odd = grind (arith, nat_tests, joined-ends, over-end)
 
 swapped : {A B : Type 0} → A ⊎ B → B ⊎ A
-swapped (inl one) = inr one
-swapped (inr other) = inl other
+swapped has0 = grind (arith, nat_tests)
 
 parity : (x : ℕ) → (x % 2 ≡ 0) ⊎ (x % 2 ≡ 1)
 parity x = grind arith

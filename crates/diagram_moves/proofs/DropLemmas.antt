@@ -1,7 +1,7 @@
 -- Crossings as they are dropped.
+use Rattle.std.proofs.lemmas.Bool.Decides.{nat_tests}
 use Rattle.std.proofs.Common.{◌≡◌, ℕ, ◌+◌, ◌∙◌, ℤ, List, [], ◌∷◌, ◌++◌, length, map, refl, ap, ap₂, subst, sym, arith, Bool, true, false, IsTrue}
-use Rattle.std.specs.Prelude.{None, nat_eq, ◌||◌, if◌then◌else◌}
-use Rattle.std.specs.Option.{option_or}
+use Rattle.std.specs.Prelude.{None, nat_eq, if◌then◌else◌}
 use Rattle.std.specs.List.{count_by, filter, flat_map, range_with_len}
 use Rattle.kh_types.specs.Directions.{positive_at}
 use Rattle.code_passes.specs.Parts.{Parts, slots_in}
@@ -13,16 +13,15 @@ use Rattle.kh_types.specs.StateSum.{state_sum}
 use Rattle.std.proofs.lemmas.Grind.{flat_map-append}
 use Rattle.kh_types.proofs.Ranges.{filter-range_more}
 use Rattle.gluing.proofs.CodeCircles.{append-nothing}
-use Rattle.kinks_and_fingers.specs.Drops.{dropped, is_bigon, is_kink, is_of_two, kept_crossings, kept_signs, renamed_slots, straight_names, without_finger, without_kink}
+use Rattle.kinks_and_fingers.specs.Drops.{dropped, is_of_two, kept_crossings, kept_signs, renamed_slots, straight_names, without_finger, without_kink}
 use Rattle.kinks_and_fingers.specs.Dropping.{HasBigonAt, HasKinkAt}
 use Rattle.orient_arcs.specs.Renumbered.{renumber}
-use Rattle.kinks_and_fingers.proofs.Sound.{HasBigonAt-found, HasKinkAt-found, IsSound-finger, IsSound-kink}
+use Rattle.kinks_and_fingers.proofs.Sound.{HasBigonAt-found, IsSound-finger, IsSound-kink}
 use Rattle.diagram_moves.specs.DropSteps.{is_ring_in, kept_to, passes_there, renamed_there, signs_to, stays}
 use Rattle.diagram_moves.proofs.MadeSoFar.{straight_to}
 use Rattle.diagram_moves.specs.Joinable.{AreReady}
 use Rattle.diagram_moves.proofs.KeptComponents.{HasComponents}
-use Rattle.diagram_moves.specs.MoveFaults.{finger_drop_fault, kink_drop_fault, no_bigon, no_crossing, no_kink}
-use Rattle.diagram_moves.specs.declared.fault.MoveFault.TheVariants.{NoBigon, NoCrossing, NoKink}
+use Rattle.diagram_moves.specs.MoveFaults.{finger_drop_fault, kink_drop_fault}
 use Rattle.diagram_moves.proofs.DroppedCodes.{IsKept-finger, IsKept-kink}
 use Rattle.diagram_moves.proofs.FaultLemmas.{both-none, none-not, none-within}
 
@@ -45,8 +44,7 @@ flat_map-filter_more f p k =
     ∙ parts (p k) (filter p (range_with_len 0 k))
   where
     one : (b : Bool) → flat_map f (if b then k ∷ [] else []) ≡ (if b then f k else [])
-    one true = append-nothing (f k)
-    one false = refl
+    one b = grind (arith, nat_tests, append-nothing)
 
     parts : (b : Bool) (xs : List ℕ) → flat_map f (xs ++ (if b then k ∷ [] else [])) ≡ flat_map f xs ++ (if b then f k else [])
     parts b xs = flat_map-append f xs (if b then k ∷ [] else []) ∙ ap (λ ys. flat_map f xs ++ ys) (one b)
@@ -68,11 +66,7 @@ pub signs_more : (crossings : List (List ℕ)) (first second k : ℕ)
 signs_more crossings first second k = map-filter_more (positive_at crossings) (stays first second) k
 
 one_of_one : (p x : ℕ) → is_of_two p p x ≡ nat_eq p x
-one_of_one p x = same (nat_eq p x)
-  where
-    same : (b : Bool) → (b || b) ≡ b
-    same true = refl
-    same false = refl
+one_of_one p x = grind (arith, nat_tests)
 
 -- two crossings that are one are dropped as one
 pub without_one : (code : Code) (p : ℕ) → without_finger code p p ≡ without_kink code p
@@ -81,22 +75,12 @@ without_one code p = ap (λ (gone : ℕ → Bool). dropped code gone) (fun_ext (
 -- the slot at which a crossing that is dropped has a kink
 pub kink-found : (code : Code) (crossing : ℕ) → kink_drop_fault code crossing ≡ None
     → (p : ℕ) × HasKinkAt code.crossings (place_of crossing) p
-kink-found code crossing none =
-    let both = both-none (no_crossing code crossing) (no_kink code crossing) none in
-    let within = none-within crossing (length code.crossings) (NoCrossing crossing) both.0 in
-    let kinked = none-not (is_kink (slots_in code.crossings (place_of crossing))) (NoKink crossing) both.1 in
-    HasKinkAt-found code.crossings (place_of crossing) (omega (arith, within)) kinked
+kink-found code crossing none = grind (arith, nat_tests)
 
 -- the slots at which two crossings that are dropped meet in a bigon
 pub bigon-found : (code : Code) (first second : ℕ) → finger_drop_fault code first second ≡ None
     → (p : ℕ) × (q : ℕ) × HasBigonAt code.crossings (place_of first) (place_of second) p q
-bigon-found code first second none =
-    let from_first = both-none (no_crossing code first) (option_or (no_crossing code second) (no_bigon code first second)) none in
-    let from_second = both-none (no_crossing code second) (no_bigon code first second) from_first.1 in
-    let first_within = none-within first (length code.crossings) (NoCrossing first) from_first.0 in
-    let second_within = none-within second (length code.crossings) (NoCrossing second) from_second.0 in
-    let met = none-not (is_bigon code.crossings (place_of first) (place_of second)) (NoBigon first second) from_second.1 in
-    HasBigonAt-found code.crossings (place_of first) (place_of second) (omega (arith, first_within)) (omega (arith, second_within)) met
+bigon-found code first second none = grind (arith, nat_tests, both-none, none-within, none-not, HasBigonAt-found)
 
 pub kinks_are_ready : (code : Code) (crossing : ℕ) → IsTrue (accepted code) → kink_drop_fault code crossing ≡ None
     → AreReady (without_finger code (place_of crossing) (place_of crossing))
@@ -119,15 +103,12 @@ fingers_are_ready code first second holds none =
 
 pub kink-dropped : (code : Code) (crossing : ℕ) → IsTrue (accepted code) → kink_drop_fault code crossing ≡ None → (exponent : ℤ)
     → state_sum (renumber (without_kink code (place_of crossing))) exponent ≡ state_sum code exponent
-kink-dropped code crossing holds none exponent =
-    let found = kink-found code crossing none in (IsKept-kink code (place_of crossing) found.0 holds found.1).sums exponent
+kink-dropped code crossing holds none exponent = grind (arith, nat_tests, kink-found, IsKept-kink)
 
 pub finger-dropped : (code : Code) (first second : ℕ) → IsTrue (accepted code) → finger_drop_fault code first second ≡ None
     → (exponent : ℤ)
     → state_sum (renumber (without_finger code (place_of first) (place_of second))) exponent ≡ state_sum code exponent
-finger-dropped code first second holds none exponent =
-    let found = bigon-found code first second none in
-    (IsKept-finger code (place_of first) (place_of second) found.0 found.1 holds found.2).sums exponent
+finger-dropped code first second holds none exponent = grind (arith, nat_tests, bigon-found, IsKept-finger)
 
 -- crossings over names, put together
 abbrev parts_made : List (List ℕ) → List Bool → ℕ → Parts
@@ -155,11 +136,8 @@ dropped_is code first second names seen seen_again crossings seen_crossings sign
 
 pub components-kink_dropped : (code : Code) (crossing : ℕ) → IsTrue (accepted code) → kink_drop_fault code crossing ≡ None
     → HasComponents code (renumber (without_kink code (place_of crossing)))
-components-kink_dropped code crossing holds none =
-    let found = kink-found code crossing none in (IsKept-kink code (place_of crossing) found.0 holds found.1).components
+components-kink_dropped code crossing holds none = grind (arith, nat_tests, kink-found, IsKept-kink)
 
 pub components-finger_dropped : (code : Code) (first second : ℕ) → IsTrue (accepted code) → finger_drop_fault code first second ≡ None
     → HasComponents code (renumber (without_finger code (place_of first) (place_of second)))
-components-finger_dropped code first second holds none =
-    let found = bigon-found code first second none in
-    (IsKept-finger code (place_of first) (place_of second) found.0 found.1 holds found.2).components
+components-finger_dropped code first second holds none = grind (arith, nat_tests, bigon-found, IsKept-finger)

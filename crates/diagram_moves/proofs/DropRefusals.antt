@@ -1,6 +1,6 @@
 -- Where drops are refused, and what they leave.
-use Rattle.std.proofs.Common.{◌≡◌, ◌↔◌, ℕ, ◌⊎◌, inl, inr, ◌+◌, ◌*◌, ◌%◌, ◌<◌, ◌≤◌, ◌∙◌, List, length, refl, sym, ap, arith, Bool, true, false, not, ◌&&◌, ◌||◌, IsTrue, eq-eqb, eqb-true}
-use Rattle.std.specs.Prelude.{nat_eq, nat_lt, Option, Some, None, Ok, Err, if◌then◌else◌}
+use Rattle.std.proofs.Common.{◌≡◌, ◌↔◌, ℕ, ◌⊎◌, inl, inr, ◌+◌, ◌*◌, ◌%◌, ◌<◌, ◌∙◌, List, refl, sym, ap, arith, Bool, true, false, not, ◌&&◌, IsTrue, eq-eqb, eqb-true}
+use Rattle.std.specs.Prelude.{nat_eq, Option, Some, None, Ok, Err, if◌then◌else◌}
 use Rattle.std.specs.List.{list_any, range_with_len}
 use Rattle.std.specs.Option.{option_or}
 use Rattle.std.proofs.lemmas.Bool.{both_ways, cases_Bool}
@@ -35,25 +35,11 @@ result fault code new is = grind (arith, nat_tests)
 
 -- a crossing that there is
 no_crossing-none : (code : Code) (c : ℕ) → IsCrossing code.crossings c → no_crossing code c ≡ None
-no_crossing-none code c is = off (nat_eq c 0 || nat_lt (length code.crossings) c) (NoCrossing c) (within c (length code.crossings) is.positive is.within)
-  where
-    within : (x most : ℕ) → 1 ≤ x → x ≤ most → (nat_eq x 0 || nat_lt most x) ≡ false
-    within x most low high = grind (arith, nat_tests)
-
-    off : (b : Bool) (fault : MoveFault) → b ≡ false → refused_where b fault ≡ None
-    off b fault is_off = ap (λ t. if t then Some fault else None) is_off
+no_crossing-none code c is = grind (arith, nat_tests)
 
 -- and one that there is not
 no_crossing-some : (code : Code) (c : ℕ) → ¬ IsCrossing code.crossings c → no_crossing code c ≡ Some (NoCrossing c)
-no_crossing-some code c none = elim (cases_Bool (nat_eq c 0 || nat_lt (length code.crossings) c)) [
-  | inl out ↦ ap (λ t. if t then Some (NoCrossing c) else None) out
-  | inr inside ↦
-      let both = within c (length code.crossings) inside in
-      absurd (none (record { positive = both.0; within = both.1 }))
-]
-  where
-    within : (x most : ℕ) → (nat_eq x 0 || nat_lt most x) ≡ false → (1 ≤ x) × (x ≤ most)
-    within x most inside = grind (arith, nat_tests)
+no_crossing-some code c none = grind (arith, nat_tests)
 
 -- the two arcs at slots where arcs enter, or at slots where they leave, differ
 ends-apart : (code : Code) (c s t : ℕ) → IsTrue (accepted code) → IsCrossing code.crossings c → s < 4 → t < 4
@@ -90,10 +76,7 @@ is_kink-at slots p below same = list_any-at (is_kink_at slots) 0 4 p (omega arit
 
 passes-kink : (slots : List ℕ) (b : Bool)
     → (arc_in slots 2 ≡ arc_in slots (if b then 3 else 1)) ⊎ (arc_in slots (if b then 1 else 3) ≡ arc_in slots 0) → is_kink slots ≡ true
-passes-kink slots true (inl same) = is_kink-at slots 2 (omega arith) same
-passes-kink slots true (inr same) = is_kink-at slots 0 (omega arith) (sym same)
-passes-kink slots false (inl same) = is_kink-at slots 1 (omega arith) (sym same)
-passes-kink slots false (inr same) = is_kink-at slots 3 (omega arith) same
+passes-kink slots b has2 = grind (arith, nat_tests)
 
 pub kink-made : (code : Code) (crossing : ℕ) → IsTrue (accepted code) → IsCrossing code.crossings crossing
     → (is_kink (slots_of code.crossings crossing) ≡ true) ↔ HasKink code.crossings crossing

@@ -1,15 +1,12 @@
 -- Searches among the four slots of a crossing.
 use Rattle.std.proofs.lemmas.Bool.Decides.{nat_tests}
-use Rattle.std.proofs.Common.{◌≡◌, ℕ, ◌∙◌, List, arith, refl, ap, ap₂, Bool, false, not}
+use Rattle.std.proofs.Common.{◌≡◌, ℕ, ◌∙◌, List, arith, refl, ap, ap₂, Bool, not}
 use Rattle.std.specs.Prelude.{nat_eq, ◌&&◌, ◌||◌, if◌then◌else◌, Some, None}
 use Rattle.std.specs.List.{find, list_any, range_with_len}
 use Rattle.slides.specs.Triangles.{dart_at_slot, is_at_crossing, is_triangle, step}
 
 pub list_any_four : (p : ℕ → Bool) → list_any p (range_with_len 0 4) ≡ (p 0 || (p 1 || (p 2 || p 3)))
-list_any_four p = last (p 0) (p 1) (p 2) (p 3)
-  where
-    last : (a b c d : Bool) → (a || (b || (c || (d || false)))) ≡ (a || (b || (c || d)))
-    last a b c d = grind (arith, nat_tests)
+list_any_four p = grind (arith, nat_tests)
 
 pub find_four : (p : ℕ → Bool)
     → find p (range_with_len 0 4)

@@ -1,14 +1,12 @@
 -- A kink that is added and dropped leaves the code that was.
-use Rattle.std.proofs.Common.{◌≡◌, ℕ, ◌+◌, ◌≤◌, ◌∙◌, List, length, refl, ap, ap₂, subst, arith, Bool, true, not, ◌||◌, IsTrue}
+use Rattle.std.proofs.Common.{◌≡◌, ℕ, ◌+◌, ◌≤◌, ◌∙◌, List, length, refl, ap, subst, arith, Bool, true, not, ◌||◌, IsTrue}
 use Rattle.std.specs.Prelude.{nat_eq, nat_lt, Option, None, Result, Ok}
-use Rattle.std.specs.Option.{option_or}
 use Rattle.std.specs.List.{AllByRecursion}
 use Rattle.std.proofs.lemmas.Bool.Decides.{nat_tests}
 use Rattle.kh_types.specs.Acceptance.{accepted}
-use Rattle.kh_types.specs.Code.{Code, place_of, slots_of, IsArc}
-use Rattle.code_passes.specs.Parts.{slots_in}
+use Rattle.kh_types.specs.Code.{Code, place_of, IsArc}
 use Rattle.orient_arcs.specs.Renumbered.{renumber}
-use Rattle.kinks_and_fingers.specs.Drops.{is_kink, without_kink}
+use Rattle.kinks_and_fingers.specs.Drops.{without_kink}
 use Rattle.kinks_and_fingers.specs.Dropping.{HasKinkAt}
 use Rattle.kinks_and_fingers.specs.KinkAdds.{raised, with_kink}
 use Rattle.kinks_and_fingers.proofs.AddedSums.{AreAddedGone-kink, HasKinkAt-kinked}
@@ -19,7 +17,6 @@ use Rattle.kinks_and_fingers.proofs.KinkSlots.{inner_slot, last, length-kinked}
 use Rattle.kinks_and_fingers.proofs.Sound.{IsSound-kink}
 use Rattle.diagram_moves.specs.declared.change.Move.TheVariants.{KinkAdd, KinkDrop}
 use Rattle.diagram_moves.specs.declared.fault.MoveFault.{MoveFault}
-use Rattle.diagram_moves.specs.declared.fault.MoveFault.TheVariants.{NoCrossing, NoKink}
 use Rattle.diagram_moves.specs.Moved.{answered, moved}
 use Rattle.diagram_moves.specs.MoveFaults.{kink_add_fault, kink_drop_fault, refused_where}
 use Rattle.diagram_moves.proofs.AddLemmas.{kinks_are_taken}
@@ -49,13 +46,7 @@ module _ (code : Code) (a : ℕ) (over positive : Bool) (holds : IsTrue (accepte
   at = HasKinkAt-kinked code.crossings a over positive
 
   none : kink_drop_fault (with_kink over positive a code) (length code.crossings + 1) ≡ None
-  none =
-      ap₂ (λ (x y : Option MoveFault). option_or x y)
-      (within-none (length code.crossings + 1) (length (with_kink over positive a code).crossings) (NoCrossing (length code.crossings + 1))
-      (omega arith) (omega (arith, size)))
-      (held-none (is_kink (slots_of (with_kink over positive a code).crossings (length code.crossings + 1))) (NoKink (length code.crossings + 1))
-      (ap (λ k. is_kink (slots_in (with_kink over positive a code).crossings k)) place-last
-      ∙ is_kink-at (slots_in new.crossings n) (inner_slot over positive) at.slot at.same))
+  none = grind (arith, nat_tests, within-none, size, held-none, place-last, is_kink-at, inner_slot, at)
 
   holds-new : IsTrue (accepted (with_kink over positive a code))
   holds-new = accepted-kinked code a over positive holds arc

@@ -1,5 +1,6 @@
 -- Crossings over names, with two ends each and on the sphere, become an accepted code, with their components, signs and state sum.
-use Rattle.std.proofs.Common.{◌≡◌, ◌≢◌, ℕ, suc, ◌+◌, ◌-◌, ◌*◌, ◌/◌, ◌%◌, ◌^◌, ◌<◌, ◌≤◌, ◌∙◌, ℤ, List, [], ◌∷◌, length, map, refl, sym, ap, ap₂, subst, arith, Bool, false, cond, IsTrue}
+use Rattle.std.proofs.lemmas.Bool.Decides.{nat_tests}
+use Rattle.std.proofs.Common.{◌≡◌, ◌≢◌, ℕ, suc, ◌+◌, ◌-◌, ◌*◌, ◌/◌, ◌%◌, ◌^◌, ◌<◌, ◌≤◌, ◌∙◌, ℤ, List, [], ◌∷◌, length, map, refl, sym, ap, ap₂, arith, Bool, false, cond, IsTrue}
 use Rattle.std.specs.Prelude.{slice_index_or}
 use Rattle.std.specs.List.{count_by, flat_map, range_with_len}
 use Rattle.std.proofs.lemmas.List.Sums.{sum_by-cons}
@@ -13,7 +14,7 @@ use Rattle.kh_types.specs.Code.{Code, arc_in, slots_of}
 use Rattle.kh_types.specs.Components.{component_count, passes_of}
 use Rattle.kh_types.specs.Darts.{HasArcsTwice, arc_of, dart_at, partner_at}
 use Rattle.kh_types.specs.Directions.{HasNoSingleArcs, is_positive, plus_count, minus_count}
-use Rattle.kh_types.specs.Faces.{face_count, planar_face_count, face_pair, piece_pair, open_faces, open_pieces}
+use Rattle.kh_types.specs.Faces.{face_count, planar_face_count}
 use Rattle.kh_types.specs.StateSum.{int_sum, state_sum, state_term, term_of}
 use Rattle.kh_types.specs.declared.limits.TheConstants.{COMPONENTS}
 use Rattle.kh_types.proofs.AcceptedLemmas.{HasArcsTwice-directed, IsAccepted-is}
@@ -22,7 +23,7 @@ use Rattle.kh_types.proofs.ClassCounts.{class_count-components}
 use Rattle.kh_types.proofs.DartPairs.{partner_at-only}
 use Rattle.kh_types.proofs.Heads.{HasNoSingleArcs-checkerboard}
 use Rattle.kh_types.proofs.RangeCounts.{count_by-alike}
-use Rattle.face_walk.specs.AddedArcs.{IsPlanar, is_open}
+use Rattle.face_walk.specs.AddedArcs.{IsPlanar}
 use Rattle.face_walk.proofs.FewFaces.{IsPlanar-twice}
 use Rattle.kh_types.proofs.RangeImages.{map_range-agree}
 use Rattle.face_walk.proofs.Board.{IsCheckerboard-planar}
@@ -48,19 +49,7 @@ use Rattle.diagram_moves.proofs.Standing.{standing-count}
 -- planarity depends on the partners below 4n alone
 
 IsPlanar-alike : (n : ℕ) (partner other : ℕ → ℕ) → ((x : ℕ) → x < 4 * n → other x ≡ partner x) → IsPlanar n partner → IsPlanar n other
-IsPlanar-alike n partner other same planar =
-    let faces : open_faces n other ≡ open_faces n partner =
-    ap (classes_of (4 * n))
-    (map_range-agree (face_pair other) (face_pair partner) 0 (4 * n)
-    (λ x below. ap (λ (p : ℕ). face_pair (λ z. p) x) (same x (omega (arith, below))))) in
-    let pieces : open_pieces n other ≡ open_pieces n partner =
-    ap (classes_of n)
-    (map_range-agree (piece_pair other) (piece_pair partner) 0 (4 * n)
-    (λ x below. ap (λ (p : ℕ). piece_pair (λ z. p) x) (same x (omega (arith, below))))) in
-    let open_darts : count_by (is_open other) (range_with_len 0 (4 * n)) ≡ count_by (is_open partner) (range_with_len 0 (4 * n)) =
-    count_by-alike (is_open other) (is_open partner) 0 (4 * n)
-    (λ x from below. ap (λ (p : ℕ). is_open (λ z. p) x) (same x (omega (arith, below)))) in
-    omega (arith, planar, ap class_count faces, ap class_count pieces, open_darts)
+IsPlanar-alike n partner other same planar = grind (arith, nat_tests, map_range-agree, count_by-alike)
 
 -- a count over a list, by places
 count-list : (xs : List Bool) (g : ℕ → Bool) (a : ℕ) → ((k : ℕ) → k < length xs → g (a + k) ≡ slice_index_or xs k false)
@@ -100,25 +89,10 @@ module _ (bound : ℕ) (strands : Parts) (is : IsJoinable bound strands) where
   twice = HasArcsTwice-directed new.crossings IsDirected-renumber
 
   pub partner-renumber : (x : ℕ) → x < 4 * length strands.crossings → partner_at (renumber strands).crossings x ≡ is.partner x
-  partner-renumber x below =
-      let alike = AreAlike-renumber in
-      let size = alike.size in
-      let other_below = is.planar.pairing.below x below in
-      sym
-      (partner_at-only new.crossings x (is.partner x) twice (omega (arith, below, size))
-      (record {
-        below = omega (arith, other_below, size);
-        differs = is.planar.other x below;
-        same_arc = alike.onward (is.partner x) x other_below below
-            (arc_of_dart-arc_of crossings (is.partner x) ∙ is.planar.name x below ∙ sym (arc_of_dart-arc_of crossings x));
-      }))
+  partner-renumber x below = grind (arith, nat_tests, AreAlike-renumber, partner_at-only, twice, arc_of_dart-arc_of)
 
   pub faces-renumber : face_count (renumber strands).crossings ≡ planar_face_count (renumber strands).crossings
-  faces-renumber =
-      let size : length (renumber strands).crossings ≡ length strands.crossings = AreAlike-renumber.size in
-      (IsPlanar-twice new.crossings twice).0
-      (subst (λ (n : ℕ). IsPlanar n (partner_at (renumber strands).crossings)) (sym size)
-      (IsPlanar-alike (length strands.crossings) is.partner (partner_at (renumber strands).crossings) partner-renumber is.planar.planar))
+  faces-renumber = grind (arith, nat_tests, AreAlike-renumber, IsPlanar-twice, twice, IsPlanar-alike, partner-renumber)
 
   pub IsCheckerboard-renumber : IsCheckerboard (renumber strands).crossings
   IsCheckerboard-renumber = IsCheckerboard-planar new.crossings twice faces-renumber
@@ -151,12 +125,7 @@ module _ (bound : ℕ) (strands : Parts) (is : IsJoinable bound strands) where
 
   pub IsAccepted-renumber : parts_component_count bound strands ≤ COMPONENTS → IsTrue (accepted (renumber strands))
   IsAccepted-renumber few =
-      (IsAccepted-is new).1 (record {
-        directed = IsDirected-renumber;
-        checkerboard = IsCheckerboard-renumber;
-        faces = faces-renumber;
-        components = omega (arith, components-renumber, few);
-      })
+      grind (arith, nat_tests, IsAccepted-is, IsDirected-renumber, IsCheckerboard-renumber, faces-renumber, components-renumber)
 
   -- signs
 
@@ -203,9 +172,7 @@ module _ (bound : ℕ) (strands : Parts) (is : IsJoinable bound strands) where
       ap (λ x. is_positive (renumber strands).crossings (x + 1)) z ∙ sign-renumber k (omega (arith, below, is.size)))
 
   pub minus-renumber : minus_count (renumber strands).crossings ≡ parts_minus strands
-  minus-renumber =
-      let size : length (renumber strands).crossings ≡ length strands.crossings = AreAlike-renumber.size in
-      ap₂ (λ n p. n - p) size plus-renumber
+  minus-renumber = grind (arith, nat_tests, AreAlike-renumber, plus-renumber)
 
   -- circles and the state sum
 

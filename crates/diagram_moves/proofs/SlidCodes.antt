@@ -107,12 +107,8 @@ HasTwoEnds-arcs crossings positive signs twice ends are =
 
 IsPlanarBy-arcs : (crossings : List (List ℕ)) → HasArcsTwice crossings → face_count crossings ≡ planar_face_count crossings
     → IsPlanarBy crossings (partner_at crossings)
-IsPlanarBy-arcs crossings twice planar = record {
-  pairing = IsPairing-partner_at crossings twice;
-  other = λ x below. (IsOtherPlace-partner_at crossings x twice below).differs;
-  name = λ x below. arc_of_dart-partner crossings twice x below;
-  planar = (IsPlanar-twice crossings twice).1 planar;
-}
+IsPlanarBy-arcs crossings twice planar =
+    grind (arith, nat_tests, IsPairing-partner_at, IsOtherPlace-partner_at, arc_of_dart-partner, IsPlanar-twice)
 
 -- crossings over their own arcs
 module _ (strands : Parts) (twice : HasArcsTwice strands.crossings)
@@ -162,12 +158,7 @@ signs-slid crossings place below =
 
 plus-slid : (crossings : List (List ℕ))
     → count_by (λ (b : Bool). b) (map (positive_at crossings) (range_with_len 0 (length crossings))) ≡ plus_count crossings
-plus-slid crossings =
-    let e : 0 + 1 ≡ 1 = omega arith in
-    count_by-map (λ (b : Bool). b) (positive_at crossings) (range_with_len 0 (length crossings))
-    ∙ sym
-    (ap (λ a. count_by (is_positive crossings) (range_with_len a (length crossings))) (sym e)
-    ∙ count-later (is_positive crossings) 0 (length crossings))
+plus-slid crossings = grind (arith, nat_tests, count_by-map, count-later)
 
 pub ArePaired-slid : (code : Code) (x y z : ℕ) → IsTrue (accepted code) → IsTriangle code.crossings x y z
     → ArePaired (slid_parts code x y z)

@@ -113,9 +113,7 @@ module _ (code : Code) (x y z : ℕ) (holds : IsTrue (accepted code)) (triangle 
       subst (λ (a : ℕ). IsArc code.crossings a) (arc_of-at code.crossings dart) (twice.slots (dart_at dart) (IsDart-at code.crossings dart below))
 
   new-arc : (dart : ℕ) → dart < 4 * length code.crossings → IsArc code.crossings (arc_of_dart (slid code.crossings x y z) dart)
-  new-arc dart below =
-      subst (λ (a : ℕ). IsArc code.crossings a) (sym (arc_of_dart-slid code.crossings x y z dart below))
-      (old-arc (source x y z dart) (source-low dart below))
+  new-arc dart below = grind (arith, nat_tests, arc_of_dart-slid, old-arc, source-low)
 
   -- the arc at a dart is one of the component that was there
   same-component : (dart : ℕ) → dart < 4 * length code.crossings
@@ -158,9 +156,7 @@ module _ (code : Code) (x y z : ℕ) (holds : IsTrue (accepted code)) (triangle 
 
   new-next : (dart : ℕ) → dart < 4 * length code.crossings → is_head_with (is_positive code.crossings) (dart_at dart) ≡ true
       → arc_of_dart (slid code.crossings x y z) (on dart 2) ≡ next code.crossings (arc_of_dart (slid code.crossings x y z) dart)
-  new-next dart below head =
-      let kept = KeepsPass-slid code x y z holds sides dart below in
-      kept.second ∙ old-next (source x y z dart) kept.below (sym kept.direction ∙ head) ∙ sym (ap (next code.crossings) kept.first)
+  new-next dart below head = grind (arith, nat_tests, KeepsPass-slid, sides, old-next)
 
   -- a pass that goes from an arc to the next
   IsOnward : Pass → Type 0
@@ -168,10 +164,7 @@ module _ (code : Code) (x y z : ℕ) (holds : IsTrue (accepted code)) (triangle 
 
   slot-there : (place slot : ℕ) → slot < 4
       → arc_of_dart (slid code.crossings x y z) (4 * place + slot) ≡ arc_in (slots_in (slid code.crossings x y z) place) slot
-  slot-there place slot below =
-      let p : (4 * place + slot) / 4 ≡ place = omega (arith, below) in
-      let s : (4 * place + slot) % 4 ≡ slot = omega (arith, below) in
-      ap₂ (λ k l. arc_in (slice_index_or (slid code.crossings x y z) k []) l) p s
+  slot-there place slot below = grind (arith, nat_tests)
 
   slot-next : (place slot : ℕ) → place < length code.crossings → slot < 4
       → (nat_eq slot 0 || nat_eq slot (if is_positive code.crossings (place + 1) then 3 else 1)) ≡ true
@@ -189,8 +182,7 @@ module _ (code : Code) (x y z : ℕ) (holds : IsTrue (accepted code)) (triangle 
   slot-arc : (place slot : ℕ) → place < length code.crossings → slot < 4
       → IsArc code.crossings (arc_in (slots_in (slid code.crossings x y z) place) slot)
   slot-arc place slot below slot_below =
-      subst (λ (a : ℕ). IsArc code.crossings a) (slot-there place slot slot_below)
-      (new-arc (4 * place + slot) (omega (arith, below, slot_below)))
+      grind (arith, nat_tests, slot-there place slot slot_below, new-arc (4 * place + slot) (omega (arith, below, slot_below)))
 
   all-onward : AllByRecursion IsOnward (passes_through (slid_parts code x y z))
   unfolding IsOnward
@@ -340,6 +332,4 @@ module _ (code : Code) (x y z : ℕ) (holds : IsTrue (accepted code)) (triangle 
   }
     where
       second-arc : (first : ℕ) → IsFirst code.crossings first → size code.crossings first ≡ 2 → IsArc code.crossings (first + 1)
-      second-arc first is two =
-          let end = end-within code.crossings directed first is in
-          record { positive = omega arith; within = omega (arith, end, two) }
+      second-arc first is two = grind (arith, nat_tests, end-within, directed)

@@ -1,4 +1,6 @@
 -- Slides as they are made.
+use Rattle.std.proofs.lemmas.Bool.Decides.{nat_tests}
+use Rattle.std.proofs.Common.{arith}
 use Rattle.std.proofs.Common.{◌≡◌, ℕ, ◌∙◌, ℤ, refl, sym, ap, subst, false, IsTrue}
 use Rattle.std.specs.Prelude.{List, [], ◌∷◌, None, Some, Option, is_none, unwrap_or}
 use Rattle.std.specs.Option.{option_or}
@@ -27,8 +29,7 @@ pub record IsPlaced (code : Code) (first second third : ℕ) : Type 0 where
   pub found : slide_slot code.crossings first second third ≡ Some slot
 
 some_of : (slot : Option ℕ) → is_none slot ≡ false → (k : ℕ) × (slot ≡ Some k)
-some_of (Some k) some = (k, refl)
-some_of None some = absurd (cc)
+some_of slot some = grind (arith, nat_tests)
 
 pub IsPlaced-none : (code : Code) (first second third : ℕ) → slide_fault code first second third ≡ None
     → IsPlaced code first second third

@@ -1,6 +1,7 @@
 -- A slide, and one at the triangle that it leaves, give the code that was.
-use Rattle.std.proofs.Common.{◌≡◌, ℕ, zero, suc, inl, inr, ◌+◌, ◌-◌, ◌*◌, ◌/◌, ◌%◌, ◌<◌, ◌≤◌, ◌∙◌, List, [], length, sym, ap, ap₂, subst, arith, Bool, true, false, not, cond, IsTrue}
-use Rattle.std.specs.Prelude.{slice_index_or, nat_eq, is_none, Option, Some, None, Result, Ok, unwrap_or, ◌&&◌}
+use Rattle.std.proofs.lemmas.Bool.Decides.{nat_tests}
+use Rattle.std.proofs.Common.{◌≡◌, ℕ, zero, suc, inl, inr, ◌+◌, ◌-◌, ◌*◌, ◌/◌, ◌%◌, ◌<◌, ◌≤◌, ◌∙◌, List, [], length, sym, ap, ap₂, subst, arith, Bool, true, false, cond, IsTrue}
+use Rattle.std.specs.Prelude.{slice_index_or, is_none, Option, Some, None, Result, Ok, unwrap_or}
 use Rattle.std.specs.Option.{option_or}
 use Rattle.std.specs.List.{find, range_with_len, AllByRecursion}
 use Rattle.std.proofs.lemmas.Bool.{and_from, and_parts, both_ways, cases_Bool, cases_lt}
@@ -76,8 +77,7 @@ module _ (code : Code) (x y z : ℕ) (holds : IsTrue (accepted code)) (triangle 
   step-across : (u v : ℕ) → u < 4 * length code.crossings
       → source x y z (partner_at code.crossings (source x y z u)) ≡ on v 1
       → step (renumber (slid_parts code x y z)).crossings u ≡ v
-  step-across u v below goes =
-      ap turned (partner-new u below ∙ partner_at-slid code.crossings x y z u twice sides below ∙ goes) ∙ turned-on v
+  step-across u v below goes = grind (arith, nat_tests, partner-new, partner_at-slid, twice, sides, turned-on)
 
   across : HasSides (length code.crossings) (λ place. source x y z (partner_at code.crossings (source x y z place))) (on x 2) (on y 2) (on z 2)
   across = HasSides-slid (length code.crossings) (partner_at code.crossings) x y z sides
@@ -92,15 +92,7 @@ module _ (code : Code) (x y z : ℕ) (holds : IsTrue (accepted code)) (triangle 
   steps-third = step-across (on z 2) (on x 2) across.z_below across.from_z
 
   pub triangle-across : IsTriangle (renumber (slid_parts code x y z)).crossings (on x 2) (on y 2) (on z 2)
-  triangle-across = record {
-    below = omega (arith, across.x_below, size-new);
-    first = steps-first;
-    second = steps-second;
-    third = steps-third;
-    x_y = across.apart.x_y;
-    x_z = across.apart.x_z;
-    y_z = across.apart.y_z;
-  }
+  triangle-across = grind (arith, nat_tests, size-new, steps-first, steps-second, steps-third)
 
   -- the slide back
 
@@ -166,9 +158,7 @@ pub record IsAcross (code new : Code) (c slot : ℕ) : Type 0 where
       (step new.crossings (step new.crossings (dart_at_slot c ((slot + 2) % 4))))
 
 at-across : (crossings : List (List ℕ)) (x y z u v w : ℕ) → x ≡ u → y ≡ v → z ≡ w → IsTriangle crossings u v w → IsTriangle crossings x y z
-at-across crossings x y z u v w first second third is =
-    subst (λ (k : ℕ). IsTriangle crossings k y z) (sym first)
-    (subst (λ (k : ℕ). IsTriangle crossings u k z) (sym second) (subst (λ (k : ℕ). IsTriangle crossings u v k) (sym third) is))
+at-across crossings x y z u v w first second third is = grind (arith, nat_tests)
 
 module _ (code : Code) (c d e slot : ℕ) (holds : IsTrue (accepted code)) (is_c : IsCrossing code.crossings c)
     (is_d : IsCrossing code.crossings d) (is_e : IsCrossing code.crossings e) (found : slide_slot code.crossings c d e ≡ Some slot) where
@@ -247,9 +237,7 @@ module _ (code : Code) (c d e slot : ℕ) (holds : IsTrue (accepted code)) (is_c
       parity-on x = omega arith
 
       heights-on : (x y z : ℕ) → has_heights (on x 2) (on y 2) (on z 2) ≡ has_heights x y z
-      heights-on x y z =
-          ap₂ (λ a b. not (nat_eq a b && nat_eq b (on z 2 % 4 % 2))) (parity-on x) (parity-on y)
-          ∙ ap (λ k. not (nat_eq (x % 4 % 2) (y % 4 % 2) && nat_eq (y % 4 % 2) k)) (parity-on z)
+      heights-on x y z = grind (arith, nat_tests, parity-on)
 
   -- and where there is no other triangle it is made there
   pub slot-across : ((k : ℕ) → k < 4 → IsTriangleAt (slid_from code c slot).crossings c d e k → k ≡ (slot + 2) % 4)
@@ -281,11 +269,7 @@ module _ (code : Code) (c d e slot : ℕ) (holds : IsTrue (accepted code)) (is_c
           some k = Some k
 
           later : (p : ℕ → Bool) (a found : ℕ) → a ≤ found → p found ≡ true → p a ≡ false → a < found
-          later p a found from passes fails = elim (cases_lt a found) [
-            | inl less ↦ less
-            | inr not_less ↦
-                let same : a ≡ found = omega (arith, from, not_less) in absurd (both_ways (p a) fails (ap p same ∙ passes))
-          ]
+          later p a found from passes fails = grind (arith, nat_tests, cases_lt, both_ways)
 
 slid_fault-none : (code : Code) (c d e slot : ℕ) → IsCrossing code.crossings c → IsCrossing code.crossings d → IsCrossing code.crossings e
     → slide_slot code.crossings c d e ≡ Some slot → slide_fault code c d e ≡ None

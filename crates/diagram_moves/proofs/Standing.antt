@@ -1,5 +1,6 @@
 -- As many names stand at crossings as these have passes.
-use Rattle.std.proofs.Common.{◌≡◌, ℕ, zero, suc, inl, inr, ◌+◌, ◌*◌, ◌/◌, ◌%◌, ◌<◌, ◌∙◌, List, length, refl, sym, ap, arith, Bool, true, false, cond}
+use Rattle.std.proofs.lemmas.Bool.Decides.{nat_tests}
+use Rattle.std.proofs.Common.{◌≡◌, ℕ, zero, suc, inl, inr, ◌+◌, ◌*◌, ◌/◌, ◌%◌, ◌<◌, ◌∙◌, List, length, refl, sym, ap, arith, Bool, true, cond}
 use Rattle.std.specs.Prelude.{unwrap_or}
 use Rattle.std.specs.List.{count_by, find, range_with_len}
 use Rattle.std.proofs.lemmas.Bool.{cases_Bool}
@@ -36,15 +37,11 @@ heads-all signs a (suc n) =
     )
   where
     two : (b : Bool) → cond (enters b 0) 1 0 + cond (enters b 1) 1 0 + cond (enters b 2) 1 0 + cond (enters b 3) 1 0 ≡ 2
-    two true = refl
-    two false = refl
+    two b = grind (arith, nat_tests)
 
 pub stands-at : (crossings : List (List ℕ)) (place slot : ℕ) → place < length crossings → slot < 4
     → stands_in crossings (arc_by_place crossings place slot) ≡ true
-stands-at crossings place slot below slot_below = elim (cases_Bool (stands_in crossings (arc_by_place crossings place slot))) [
-  | inl holds ↦ holds
-  | inr fails ↦ absurd (stands-none crossings (arc_by_place crossings place slot) place slot fails below slot_below refl)
-]
+stands-at crossings place slot below slot_below = grind (arith, nat_tests, cases_Bool, stands-none)
 
 -- a dart that is a head of a name
 abbrev head_dart : Parts → ℕ → ℕ
@@ -71,10 +68,7 @@ module _ (bound : ℕ) (strands : Parts) (paired : ArePaired strands) (names : H
 
   found-head : (name : ℕ) → stands_in strands.crossings name ≡ true
       → (head_dart strands name < 4 * length strands.crossings) × (is_head_of strands name (head_dart strands name) ≡ true)
-  found-head name holds =
-      let found = found-counted (is_head_of strands name) 0 (4 * length strands.crossings) (has-head name holds) in
-      let is : head_dart strands name ≡ found.0 = ap (λ o. unwrap_or o 0) found.1.first in
-      (omega (arith, is, found.1.below), ap (is_head_of strands name) is ∙ found.1.passes)
+  found-head name holds = grind (arith, nat_tests, found-counted, is_head_of, has-head)
 
   pub standing-count : count_by (stands_in strands.crossings) (range_with_len 0 bound) ≡ 2 * length strands.crossings
   standing-count =

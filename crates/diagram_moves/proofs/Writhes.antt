@@ -1,6 +1,6 @@
 -- What moves do to the writhe.
 use Rattle.std.proofs.lemmas.Bool.Decides.{nat_tests}
-use Rattle.std.proofs.Common.{◌≡◌, ℕ, ◌+◌, ◌-◌, ◌≤◌, ◌∙◌, ◌%◌, ℤ, pos, neg_ℤ, ◌+ℤ◌, ◌-ℤ◌, List, length, map, sym, ap, subst, arith, Bool, true, false, not, cond, ◌||◌, IsTrue}
+use Rattle.std.proofs.Common.{◌≡◌, ℕ, ◌+◌, ◌-◌, ◌≤◌, ◌∙◌, ◌%◌, ℤ, pos, neg_ℤ, ◌+ℤ◌, ◌-ℤ◌, List, length, map, sym, ap, subst, arith, Bool, not, cond, ◌||◌, IsTrue}
 use Rattle.std.specs.Prelude.{if◌then◌else◌, nat_eq, Option, None, Result, Ok, IfOk, unwrap_or}
 use Rattle.std.proofs.lemmas.Int.{ints}
 use Rattle.std.specs.List.{count_by, filter, range_with_len}
@@ -73,10 +73,7 @@ writhe-kink b plus minus new_plus new_minus plus_is minus_is = grind (arith, nat
 
 writhe-drop : (b : Bool) (plus new_plus n m : ℕ) → plus ≡ cond b 1 0 + new_plus → n ≡ m + 1 → new_plus ≤ m
     → pos new_plus -ℤ pos (m - new_plus) ≡ (pos plus -ℤ pos (n - plus)) +ℤ neg_ℤ (if b then pos 1 else neg_ℤ (pos 1))
-writhe-drop true plus new_plus n m plus_is size few =
-    let minus : n - plus ≡ m - new_plus = omega (arith, plus_is, size, few) in omega (arith, ints, plus_is, minus)
-writhe-drop false plus new_plus n m plus_is size few =
-    let minus : n - plus ≡ m - new_plus + 1 = omega (arith, plus_is, size, few) in omega (arith, ints, plus_is, minus)
+writhe-drop b plus new_plus n m plus_is size few = grind (arith, nat_tests)
 
 writhe-alike : (plus minus new_plus new_minus k : ℕ) → new_plus + k ≡ plus → new_minus + k ≡ minus
     → pos new_plus -ℤ pos new_minus ≡ (pos plus -ℤ pos minus) +ℤ pos 0

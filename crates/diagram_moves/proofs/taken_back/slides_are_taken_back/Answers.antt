@@ -1,3 +1,5 @@
+use Rattle.std.proofs.lemmas.Bool.Decides.{nat_tests}
+use Rattle.std.proofs.Common.{arith}
 use Rattle.std.proofs.Common.{◌≡◌, ℕ, List, length}
 use Rattle.std.proofs.lemmas.List.Elements.{recursion_from_All}
 use Rattle.diagram_moves.proofs.SlidesBack.{lone_slides_are_undone, slid_from-back, slides_are_undone}
@@ -9,9 +11,7 @@ returns-clause-across c = λ code first second third slot holds four is_first is
     (recursion_from_All (λ (slots : List ℕ). length slots ≡ 4) code.crossings four)
 
 pub returns-clause-moved : goal.returns-clause-moved
-returns-clause-moved c = λ code new first second third slot holds four.
-    slides_are_undone code new first second third slot holds
-    (recursion_from_All (λ (slots : List ℕ). length slots ≡ 4) code.crossings four)
+returns-clause-moved = grind (arith, nat_tests, slides_are_undone, recursion_from_All)
 
 pub returns-clause-lone : goal.returns-clause-lone
 returns-clause-lone c = λ code new first second third slot holds four.
