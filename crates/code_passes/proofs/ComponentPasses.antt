@@ -4,8 +4,8 @@
 -- All facts go by recursion over the components: the passes of the first have the arcs from a first one on, those of the others the arcs
 -- behind. So a function of arcs is defined by the same recursion (the first arc of its component, the arc that follows, the label entered),
 -- and each pass of the whole list is shown to agree with it, first in one component then behind it.
-use Rattle.std.proofs.Common.{◌≡◌, ◌≢◌, ℕ, zero, suc, inl, inr, ◌⊎◌, ◌+◌, ◌-◌, ◌<◌, ◌≤◌, ◌∙◌, List, [], ◌∷◌, length, map, refl, sym, ap, arith, Bool, true, false, ℤ, pos, min}
-use Rattle.std.specs.Prelude.{nat_eq, nat_lt, int_lt, ◌&&◌, if◌then◌else◌}
+use Rattle.std.proofs.Common.{◌≡◌, ◌≢◌, ℕ, zero, suc, inl, inr, ◌⊎◌, ◌+◌, ◌-◌, ◌<◌, ◌≤◌, ◌∙◌, List, [], ◌∷◌, length, map, refl, sym, ap, arith, Bool, ℤ, pos, min}
+use Rattle.std.specs.Prelude.{nat_eq, nat_lt, if◌then◌else◌}
 use Rattle.std.specs.List.{sum_by, range_with_len, AllByRecursion}
 use Rattle.std.proofs.lemmas.Bool.{cases_eq, cases_lt}
 use Rattle.std.proofs.lemmas.Bool.Decides.{nat_tests}
@@ -13,7 +13,7 @@ use Rattle.std.proofs.lemmas.List.{length-append}
 use Rattle.std.proofs.lemmas.List.Elements.{All-from_recursion, All-get_or}
 use Rattle.kh_types.proofs.Lists.{AllByRecursion-append, AllByRecursion-first, AllByRecursion-second, AllByRecursion-weaker}
 use Rattle.code_passes.specs.Labels.{listed_number}
-use Rattle.code_passes.specs.Passes.{Pass, is_over, turned_labels, pass_at, passes_from, all_passes, all_labels}
+use Rattle.code_passes.specs.Passes.{Pass, turned_labels, pass_at, passes_from, all_passes, all_labels}
 
 -- a turned component has the same labels
 
@@ -210,31 +210,13 @@ pass-here first labels more at positive below =
 -- the passes of the components behind the first
 pass-later : (first : ℕ) (labels : List ℤ) (more : List (List ℤ)) (pass : Pass) → IsPassOf (first + length labels) more pass
     → IsPassOf first (labels ∷ more) pass
-pass-later first labels more pass is =
-    let behind = first + length labels in
-    let total = length-labels_more labels more in
-    let enters = start-later first labels more pass.enters is.from in
-    let leaves = start-later first labels more pass.leaves is.leaves_from in
-    let next = start-later first labels more (pass.enters + 1) (omega (arith, is.from)) in
-    record {
-      from = omega (arith, is.from);
-      below = omega (arith, is.below, total);
-      leaves_from = omega (arith, is.leaves_from);
-      leaves_below = omega (arith, is.leaves_below, total);
-      label = is.label
-          ∙ sym (else_if pass.enters behind (listed_number (turned_labels labels) (pass.enters - first)) (label_from behind more pass.enters) is.from);
-      start = leaves ∙ is.start ∙ sym enters;
-      next = is.next ∙ ap (λ start. after_arc pass.enters start (start_from behind more (pass.enters + 1))) (sym enters)
-          ∙ ap (λ start. after_arc pass.enters (start_from first (labels ∷ more) pass.enters) start) (sym next);
-    }
+pass-later first labels more pass is = grind (arith, nat_tests, length-labels_more, start-later, else_if)
 
 All-map_range : {X : Type 0} (P : X → Type 0) (f : ℕ → X) (a n : ℕ) → ((k : ℕ) → a ≤ k → k < a + n → P (f k))
     → AllByRecursion P (map f (range_with_len a n))
 All-map_range P f a zero each = tt
-All-map_range P f a (suc n) each = (
-  each a (omega arith) (omega arith),
-  All-map_range P f (a + 1) n (λ k from below. each k (omega (arith, from)) (omega (arith, below))),
-)
+All-map_range P f a (suc n) each =
+    grind (arith, nat_tests, All-map_range P f (a + 1) n (λ k from below. each k (omega (arith, from)) (omega (arith, below))))
 
 pub IsPassOf-all : (first : ℕ) (groups : List (List ℤ)) → 1 ≤ first → AllByRecursion (IsPassOf first groups) (all_passes first groups)
 IsPassOf-all first [] positive = tt

@@ -5,7 +5,7 @@
 -- (ComponentPasses). No two under passes enter on one arc, as the arc tells the label and the label the crossing.
 use Rattle.std.proofs.lemmas.Bool.Decides.{nat_tests}
 use Rattle.std.proofs.Common.{◌≡◌, ◌≢◌, ℕ, suc, inl, inr, ◌⊎◌, ◌+◌, ◌-◌, ◌<◌, ◌∙◌, List, [], length, sym, ap, arith, ℤ, nat_abs}
-use Rattle.std.specs.Prelude.{None, nat_eq, slice_index_or}
+use Rattle.std.specs.Prelude.{None, slice_index_or}
 use Rattle.std.specs.List.{sum_by, range_with_len, AllByRecursion}
 use Rattle.kh_types.specs.declared.dart.Dart.{Dart}
 use Rattle.kh_types.specs.Code.{arc_in, slots_of, IsArc, IsCrossing}
@@ -14,7 +14,6 @@ use Rattle.kh_types.specs.Darts.{arc_of, times, IsDart}
 use Rattle.kh_types.specs.Accepted.{IsDirected, IsInterval}
 use Rattle.code_passes.specs.Labels.{bad_label}
 use Rattle.code_passes.specs.Passes.{Pass, all_passes, all_labels, crossings_in, crossings_of}
-use Rattle.code_passes.proofs.Sums.{value_if}
 use Rattle.kh_types.proofs.ListSums.{sum_by-range_alike, sum_by-plus}
 use Rattle.kh_types.proofs.Ranges.{below_four}
 use Rattle.code_passes.proofs.LabelCounts.{under_at, under_at-is}
@@ -48,16 +47,10 @@ module _ (groups : List (List ℤ)) (signs : List ℤ) (none : bad_label (all_la
 
   -- the ends of a pass are arcs
   pub IsArc-enters : (pass : Pass) → IsPassOf 1 groups pass → (arc : ℕ) → arc ≡ pass.enters → IsArc crossings arc
-  IsArc-enters pass is arc same = record {
-    positive = omega (arith, same, is.from);
-    within = omega (arith, same, is.below, arc_count-crossings groups signs none);
-  }
+  IsArc-enters pass is arc same = grind (arith, nat_tests, arc_count-crossings groups signs none)
 
   pub IsArc-leaves : (pass : Pass) → IsPassOf 1 groups pass → (arc : ℕ) → arc ≡ pass.leaves → IsArc crossings arc
-  IsArc-leaves pass is arc same = record {
-    positive = omega (arith, same, is.leaves_from);
-    within = omega (arith, same, is.leaves_below, arc_count-crossings groups signs none);
-  }
+  IsArc-leaves pass is arc same = grind (arith, nat_tests, arc_count-crossings groups signs none)
 
   IsArc-slot : (dart : Dart) → IsDart crossings dart → IsArc crossings (arc_of crossings dart)
   IsArc-slot dart is =

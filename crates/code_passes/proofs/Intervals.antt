@@ -1,6 +1,6 @@
 -- Components are intervals: each has the arcs from its first one to its end.
 use Rattle.std.proofs.lemmas.Bool.Decides.{nat_tests}
-use Rattle.std.proofs.Common.{◌≡◌, ℕ, suc, inl, inr, ◌⊎◌, ◌+◌, ◌-◌, ◌<◌, ◌≤◌, ◌∙◌, List, [], ◌∷◌, length, get_or, refl, sym, ap, arith, Bool, true, ℤ, min}
+use Rattle.std.proofs.Common.{◌≡◌, ℕ, suc, inl, inr, ◌⊎◌, ◌+◌, ◌-◌, ◌<◌, ◌≤◌, ◌∙◌, List, [], ◌∷◌, length, get_or, refl, sym, ap, arith, Bool, true, ℤ}
 use Rattle.std.specs.Prelude.{None, nat_eq}
 use Rattle.std.specs.List.{count_by}
 use Rattle.std.proofs.lemmas.Bool.{cases_Bool, cases_lt, eqb-true}
@@ -9,7 +9,7 @@ use Rattle.kh_types.specs.Components.{components_of, component_of, arcs_in}
 use Rattle.kh_types.specs.Accepted.{IsInterval}
 use Rattle.code_passes.specs.Labels.{bad_label}
 use Rattle.code_passes.proofs.Sums.{value_if}
-use Rattle.code_passes.proofs.ComponentPasses.{length-labels_more, start_from, start-here, start-later, start-from_first, start-le, IsStart-arc, then_if}
+use Rattle.code_passes.proofs.ComponentPasses.{length-labels_more, start_from, start-here, start-later, start-from_first, start-le, IsStart-arc}
 use Rattle.code_passes.proofs.TextComponents.{start_of, component-is}
 use Rattle.code_passes.specs.Passes.{all_labels, crossings_of}
 

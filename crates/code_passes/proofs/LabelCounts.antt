@@ -3,7 +3,7 @@
 -- A label that is not bad names a crossing and is new. So among the labels of a body no label stands twice, each names one of n crossings
 -- with one of its two passes, and there are 2n of them: summed over the crossings, each of the 2n names of passes counts at most 1, and
 -- together they count 2n, so each stands exactly once.
-use Rattle.std.proofs.Common.{◌≡◌, ℕ, zero, suc, inl, inr, ◌+◌, ◌*◌, ◌/◌, ◌<◌, ◌≤◌, ◌∙◌, List, [], ◌∷◌, length, take, sym, ap, arith, Bool, true, false, true≢false, cond, ℤ, pos, negsuc, neg_ℤ, nat_abs}
+use Rattle.std.proofs.Common.{◌≡◌, ℕ, zero, suc, inl, inr, ◌+◌, ◌*◌, ◌/◌, ◌<◌, ◌≤◌, ◌∙◌, List, [], ◌∷◌, length, take, sym, ap, arith, Bool, true, false, cond, ℤ, pos, negsuc, neg_ℤ, nat_abs}
 use Rattle.std.specs.Prelude.{nat_eq, nat_lt, ◌||◌, Option, Some, None}
 use Rattle.std.specs.List.{find, list_any, sum_by, count_by, range_with_len, AllByRecursion}
 use Rattle.std.specs.Ordering.{int_eq}
@@ -16,7 +16,6 @@ use Rattle.std.proofs.lemmas.List.Sums.{sum_by_more}
 use Rattle.code_passes.specs.Labels.{listed_number, is_bad_label, bad_label}
 use Rattle.code_passes.proofs.Sums.{value_if, only_at, sum-only, sum_by-ones, sum-at_most_two, each-two, count_by-none}
 use Rattle.kh_types.proofs.ListSums.{sum_by-range_alike, sum_by-plus, sum_by-turned, sum_by-on}
-use Rattle.kh_types.proofs.Integers.{int_eq-other, int_eq-same}
 
 -- a label names one of some crossings
 abbrev pub Names : ℕ → ℤ → Type 0
@@ -139,11 +138,7 @@ stands-first label labels none (suc k) within =
 
 stands-le : (label : ℤ) (labels : List ℤ) → bad_label labels ≡ None → stands label labels ≤ 1
 stands-le label labels none =
-    omega (
-      arith,
-      stands-first label labels none (length labels) (omega arith),
-      ap (λ xs. stands label xs) (take_all (length labels) labels (omega arith)),
-    )
+    grind (arith, nat_tests, stands-first label labels none (length labels) (omega arith), take_all (length labels) labels (omega arith))
 
 -- each label names a crossing
 pub labels-name : (labels : List ℤ) → bad_label labels ≡ None → AllByRecursion (Names (length labels / 2)) labels
@@ -165,8 +160,7 @@ sum-both_stand labels none =
     ∙ sum_by-ones labels
 
 both_stand-le : (labels : List ℤ) → bad_label labels ≡ None → (place : ℕ) → both_stand labels place ≤ 2
-both_stand-le labels none place =
-    omega (arith, stands-le (under_at place) labels none, stands-le (over_at place) labels none)
+both_stand-le labels none place = grind (arith, nat_tests, stands-le (over_at place) labels none, stands-le (under_at place) labels none)
 
 -- there are two labels for each crossing
 pub length-labels : (labels : List ℤ) → bad_label labels ≡ None → length labels ≡ 2 * (length labels / 2)

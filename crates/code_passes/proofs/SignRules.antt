@@ -1,5 +1,5 @@
 -- The rules by which a crossing is positive, over plain numbers, and the first number that a search finds.
-use Rattle.std.proofs.Common.{◌≡◌, ◌≢◌, ℕ, zero, suc, inl, inr, ◌⊎◌, ◌+◌, ◌<◌, ◌≤◌, ◌∙◌, List, [], ◌∷◌, refl, sym, ap, arith, Bool, true, false, cond, ℤ, pos, negsuc, nat_abs, unwrap_or}
+use Rattle.std.proofs.Common.{◌≡◌, ◌≢◌, ℕ, zero, suc, inl, inr, ◌⊎◌, ◌+◌, ◌<◌, ◌≤◌, ◌∙◌, sym, ap, arith, Bool, true, false, cond, ℤ, pos, unwrap_or}
 use Rattle.std.specs.Prelude.{Option, Some, None, nat_eq, nat_lt, if◌then◌else◌}
 use Rattle.std.specs.List.{find, range_with_len}
 use Rattle.std.specs.Ordering.{int_eq}
@@ -7,7 +7,7 @@ use Rattle.std.proofs.lemmas.Bool.{both_ways, cases_Bool, cases_eq}
 use Rattle.std.proofs.lemmas.Bool.Decides.{nat_tests}
 use Rattle.kh_types.specs.Code.{arc_in}
 use Rattle.code_passes.specs.Passes.{Pass, slots_between}
-use Rattle.code_passes.proofs.LabelCounts.{under_at, over_at, under_at-is, over_at-is}
+use Rattle.code_passes.proofs.LabelCounts.{under_at, over_at}
 
 -- an over pass goes from one arc to another: from slot 3 to slot 1 where it is listed as positive, else from slot 1 to slot 3
 abbrev pub Goes : Bool → ℕ → ℕ → ℕ → ℕ → Type 0
