@@ -87,10 +87,7 @@ enters-here first arc labels from below =
 
 enters-outside : (first arc : ℕ) (labels : List ℤ) → (arc < first) ⊎ (first + length labels ≤ arc)
     → sum_by (enters_on arc) (passes_from first labels) ≡ 0
-enters-outside first arc labels outside =
-    sum_by-map (enters_on arc) (pass_at first labels) (range_with_len 0 (length labels))
-    ∙ sum-zero (λ at. enters_on arc (pass_at first labels at)) (length labels)
-    (λ at at_below. enters-none first arc at (length labels) at_below outside)
+enters-outside first arc labels outside = grind (arith, nat_tests, sum_by-map, sum-zero, enters-none)
 
 leaves-here : (first arc : ℕ) (labels : List ℤ) → first ≤ arc → arc < first + length labels
     → sum_by (leaves_on arc) (passes_from first labels) ≡ 1
@@ -109,10 +106,7 @@ leaves-here first arc labels from below =
 
 leaves-outside : (first arc : ℕ) (labels : List ℤ) → (arc < first) ⊎ (first + length labels ≤ arc)
     → sum_by (leaves_on arc) (passes_from first labels) ≡ 0
-leaves-outside first arc labels outside =
-    sum_by-map (leaves_on arc) (pass_at first labels) (range_with_len 0 (length labels))
-    ∙ sum-zero (λ at. leaves_on arc (pass_at first labels at)) (length labels)
-    (λ at at_below. leaves-none first arc at (length labels) at_below outside)
+leaves-outside first arc labels outside = grind (arith, nat_tests, sum_by-map, sum-zero, leaves-none)
 
 -- what is 1 on the arcs of each component, and 0 on others, is 1 on the arcs of all, and 0 before them
 module _ (f : ℕ → Pass → ℕ)
@@ -122,12 +116,7 @@ module _ (f : ℕ → Pass → ℕ)
   sum-before : (first arc : ℕ) (groups : List (List ℤ)) → arc < first → sum_by (f arc) (all_passes first groups) ≡ 0
   sum-before first arc [] before = refl
   sum-before first arc (labels ∷ more) before =
-      omega (
-        arith,
-        outside first arc (turned_labels labels) (inl before),
-        sum-before (first + length labels) arc more (omega (arith, before)),
-        sum_by-append (f arc) (passes_from first (turned_labels labels)) (all_passes (first + length labels) more),
-      )
+      grind (arith, nat_tests, sum_by-append, sum-before (first + length labels) arc more (omega (arith, before)))
 
   sum-of_all : (first arc : ℕ) (groups : List (List ℤ)) → first ≤ arc → arc < first + length (all_labels groups)
       → sum_by (f arc) (all_passes first groups) ≡ 1

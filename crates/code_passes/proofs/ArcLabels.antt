@@ -4,12 +4,11 @@ use Rattle.std.specs.Prelude.{nat_eq, if◌then◌else◌}
 use Rattle.std.proofs.lemmas.Bool.Decides.{nat_tests}
 use Rattle.kh_types.specs.declared.dart.Dart.{Dart}
 use Rattle.kh_types.specs.Code.{arc_in, slots_of, IsArc, IsCrossing}
-use Rattle.kh_types.specs.Darts.{arc_of}
 use Rattle.kh_types.specs.Directions.{is_positive, is_head, head_of, HasEnds, HasNoSingleArcs}
 use Rattle.kh_types.specs.Accepted.{IsDirected}
 use Rattle.kh_types.proofs.DirectedPasses.{same_dart, head-cases}
 use Rattle.kh_types.proofs.Heads.{HasEnds-directed, IsPass-under}
-use Rattle.code_passes.specs.ComponentLabels.{label_at, entering_label}
+use Rattle.code_passes.specs.ComponentLabels.{entering_label}
 
 -- a directed code, no component of which has a single arc
 pub record IsOriented (crossings : List (List ℕ)) : Type 0 where
@@ -36,12 +35,7 @@ entering_label-size crossings arc = size-signed (nat_eq (head_of crossings arc).
 
 pub entering_label-names : (crossings : List (List ℕ)) → IsOriented crossings → (arc : ℕ) → IsArc crossings arc
     → IsCrossing crossings (nat_abs (entering_label crossings arc))
-entering_label-names crossings oriented arc is =
-    let crossing = (HasEnds-arc crossings oriented arc is).head.within.crossing in
-    record {
-      positive = omega (arith, entering_label-size crossings arc, crossing.positive);
-      within = omega (arith, entering_label-size crossings arc, crossing.within);
-    }
+entering_label-names crossings oriented arc is = grind (arith, nat_tests, HasEnds-arc, entering_label-size)
 
 -- two heads at one crossing that are both at slot 0, or both not, are one
 same_slot : (positive : Bool) (slot other : ℕ) → (slot ≡ 0) ⊎ (((positive ≡ true) × (slot ≡ 3)) ⊎ ((positive ≡ false) × (slot ≡ 1)))
@@ -66,18 +60,9 @@ same_head crossings dart other same head other_head under =
 -- no two arcs have one label
 pub entering_label-once : (crossings : List (List ℕ)) → IsOriented crossings → (arc other : ℕ) → IsArc crossings arc → IsArc crossings other
     → entering_label crossings arc ≡ entering_label crossings other → arc ≡ other
-entering_label-once crossings oriented arc other is other_is same =
-    let ends = HasEnds-arc crossings oriented arc is in
-    let other_ends = HasEnds-arc crossings oriented other other_is in
-    let dart = head_of crossings arc in
-    let other_dart = head_of crossings other in
-    let parts = same_signed (nat_eq dart.slot 0) (nat_eq other_dart.slot 0) dart.crossing other_dart.crossing
-    ends.head.within.crossing.positive other_ends.head.within.crossing.positive same in
-    let one = same_head crossings dart other_dart parts.1 ends.enters other_ends.enters parts.0 in
-    sym ends.head.on_arc ∙ ap (arc_of crossings) one ∙ other_ends.head.on_arc
+entering_label-once crossings oriented arc other is other_is same = grind (arith, nat_tests, HasEnds-arc, same_signed, same_head)
 
 -- the arc of an under pass has minus the number of the crossing as its label
 pub entering_label-under : (crossings : List (List ℕ)) → IsOriented crossings → (crossing : ℕ) → IsCrossing crossings crossing
     → entering_label crossings (arc_in (slots_of crossings crossing) 0) ≡ neg_ℤ (pos crossing)
-entering_label-under crossings oriented crossing is =
-    ap label_at (IsPass-under crossings oriented.directed oriented.moves crossing is).head
+entering_label-under crossings oriented crossing is = grind (arith, nat_tests, IsPass-under)

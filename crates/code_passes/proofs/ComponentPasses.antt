@@ -207,31 +207,13 @@ pass-here first labels more at positive below =
 -- the passes of the components behind the first
 pass-later : (first : ℕ) (labels : List ℤ) (more : List (List ℤ)) (pass : Pass) → IsPassOf (first + length labels) more pass
     → IsPassOf first (labels ∷ more) pass
-pass-later first labels more pass is =
-    let behind = first + length labels in
-    let total = length-labels_more labels more in
-    let enters = start-later first labels more pass.enters is.from in
-    let leaves = start-later first labels more pass.leaves is.leaves_from in
-    let next = start-later first labels more (pass.enters + 1) (omega (arith, is.from)) in
-    record {
-      from = omega (arith, is.from);
-      below = omega (arith, is.below, total);
-      leaves_from = omega (arith, is.leaves_from);
-      leaves_below = omega (arith, is.leaves_below, total);
-      label = is.label
-          ∙ sym (else_if pass.enters behind (listed_number (turned_labels labels) (pass.enters - first)) (label_from behind more pass.enters) is.from);
-      start = leaves ∙ is.start ∙ sym enters;
-      next = is.next ∙ ap (λ start. after_arc pass.enters start (start_from behind more (pass.enters + 1))) (sym enters)
-          ∙ ap (λ start. after_arc pass.enters (start_from first (labels ∷ more) pass.enters) start) (sym next);
-    }
+pass-later first labels more pass is = grind (arith, nat_tests, length-labels_more, start-later, else_if)
 
 All-map_range : {X : Type 0} (P : X → Type 0) (f : ℕ → X) (a n : ℕ) → ((k : ℕ) → a ≤ k → k < a + n → P (f k))
     → AllByRecursion P (map f (range_with_len a n))
 All-map_range P f a zero each = tt
-All-map_range P f a (suc n) each = (
-  each a (omega arith) (omega arith),
-  All-map_range P f (a + 1) n (λ k from below. each k (omega (arith, from)) (omega (arith, below))),
-)
+All-map_range P f a (suc n) each =
+    grind (arith, nat_tests, All-map_range P f (a + 1) n (λ k from below. each k (omega (arith, from)) (omega (arith, below))))
 
 pub IsPassOf-all : (first : ℕ) (groups : List (List ℤ)) → 1 ≤ first → AllByRecursion (IsPassOf first groups) (all_passes first groups)
 IsPassOf-all first [] positive = tt

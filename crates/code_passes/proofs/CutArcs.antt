@@ -30,9 +30,7 @@ pub record IsFirst (crossings : List (List ℕ)) (arc : ℕ) : Type 0 where
 -- its component has the numbers from it on, and there are some
 pub size-positive : (crossings : List (List ℕ)) → IsDirected crossings → (first : ℕ) → IsFirst crossings first → 1 ≤ size crossings first
 size-positive crossings directed first is =
-    let below = (HasPlace-directed crossings directed first is.is_arc).below in
-    let alike : size crossings (component crossings first) ≡ size crossings first = ap (size crossings) is.own in
-    omega (arith, below, is.own, alike)
+    grind (arith, nat_tests, HasPlace-directed crossings directed first is.is_arc, component crossings first)
 
 pub component-in : (crossings : List (List ℕ)) → IsDirected crossings → (first arc : ℕ) → IsFirst crossings first
     → first ≤ arc → arc < first + size crossings first → component crossings arc ≡ first

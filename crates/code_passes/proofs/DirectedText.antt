@@ -47,16 +47,10 @@ module _ (groups : List (List ℤ)) (signs : List ℤ) (none : bad_label (all_la
 
   -- the ends of a pass are arcs
   pub IsArc-enters : (pass : Pass) → IsPassOf 1 groups pass → (arc : ℕ) → arc ≡ pass.enters → IsArc crossings arc
-  IsArc-enters pass is arc same = record {
-    positive = omega (arith, same, is.from);
-    within = omega (arith, same, is.below, arc_count-crossings groups signs none);
-  }
+  IsArc-enters pass is arc same = grind (arith, nat_tests, arc_count-crossings groups signs none)
 
   pub IsArc-leaves : (pass : Pass) → IsPassOf 1 groups pass → (arc : ℕ) → arc ≡ pass.leaves → IsArc crossings arc
-  IsArc-leaves pass is arc same = record {
-    positive = omega (arith, same, is.leaves_from);
-    within = omega (arith, same, is.leaves_below, arc_count-crossings groups signs none);
-  }
+  IsArc-leaves pass is arc same = grind (arith, nat_tests, arc_count-crossings groups signs none)
 
   IsArc-slot : (dart : Dart) → IsDart crossings dart → IsArc crossings (arc_of crossings dart)
   IsArc-slot dart is =

@@ -4,6 +4,7 @@
 -- This is the theorem of kh_types on heads (Heads) for one arc, where other components may have single arcs: two heads of one arc make its
 -- component the arc and its next, and what the rules then leave is that the arc is its own next. So the search for the head and that for
 -- the tail of an arc that is not its own next find one dart each.
+use Rattle.std.proofs.lemmas.Bool.Decides.{nat_tests}
 use Rattle.std.proofs.Common.{◌≡◌, ◌≢◌, ℕ, inl, inr, ◌*◌, ◌∙◌, List, sym, ap, subst, length, arith, Bool, true, false, not, ◌&&◌}
 use Rattle.std.specs.Prelude.{nat_eq, unwrap_or}
 use Rattle.std.specs.List.{find, range_with_len}
@@ -26,9 +27,7 @@ use Rattle.kh_types.proofs.OneHead.{two_heads-none}
 module _ (crossings : List (List ℕ)) (directed : IsDirected crossings) where
   one_head : (dart other : Dart) → next crossings (arc_of crossings dart) ≢ arc_of crossings dart → IsDart crossings dart
       → IsOtherDart crossings dart other → is_head crossings dart ≡ true → is_head crossings other ≡ true → ⊥
-  one_head dart other moves is beside head other_head =
-      two_heads-none crossings dart other directed
-      (record { within = is; beside = beside; head = head; other_head = other_head }) moves
+  one_head dart other moves is beside head other_head = grind (arith, nat_tests, two_heads-none)
 
   one_tail : (dart other : Dart) → next crossings (arc_of crossings dart) ≢ arc_of crossings dart → IsDart crossings dart
       → IsOtherDart crossings dart other → is_head crossings dart ≡ false → is_head crossings other ≡ false → ⊥
@@ -58,19 +57,7 @@ module _ (crossings : List (List ℕ)) (directed : IsDirected crossings) where
   -- of the two darts of the arc one is a head
   turned : (dart : Dart) → next crossings (arc_of crossings dart) ≢ arc_of crossings dart → IsDart crossings dart
       → is_head crossings (partner crossings dart) ≡ not (is_head crossings dart)
-  turned dart moves is =
-      let other = partner crossings dart in
-      let beside = IsOtherDart-partner crossings dart (HasArcsTwice-directed crossings directed) is in
-      elim (cases_Bool (is_head crossings dart)) [
-        | inl head ↦ elim (cases_Bool (is_head crossings other)) [
-          | inl other_head ↦ absurd (one_head dart other moves is beside head other_head)
-          | inr other_tail ↦ other_tail ∙ sym (ap not head)
-        ]
-        | inr tail ↦ elim (cases_Bool (is_head crossings other)) [
-          | inl other_head ↦ other_head ∙ sym (ap not tail)
-          | inr other_tail ↦ absurd (one_tail dart other moves is beside tail other_tail)
-        ]
-      ]
+  turned dart moves is = grind (arith, nat_tests, IsOtherDart-partner, HasArcsTwice-directed, cases_Bool, one_head, one_tail)
 
   -- a search among the darts of a code finds one that passes, where there is one
   found_dart : (p : Dart → Bool) (dart : Dart) → IsDart crossings dart → p dart ≡ true
@@ -117,9 +104,7 @@ module _ (crossings : List (List ℕ)) (directed : IsDirected crossings) where
     turned_on dart is = turned dart (subst (λ (x : ℕ). next crossings x ≢ x) (sym is.on_arc) moves) is.within
 
     IsDartOf-partner : (dart : Dart) → IsDartOf crossings arc dart → IsDartOf crossings arc (partner crossings dart)
-    IsDartOf-partner dart is =
-        let beside = IsOtherDart-partner crossings dart (HasArcsTwice-directed crossings directed) is.within in
-        record { within = beside.within; on_arc = beside.same_arc ∙ is.on_arc }
+    IsDartOf-partner dart is = grind (arith, nat_tests, IsOtherDart-partner, HasArcsTwice-directed)
 
     found_first : HasFound arc
     found_first =
@@ -145,8 +130,7 @@ module _ (crossings : List (List ℕ)) (directed : IsDirected crossings) where
         ]
       where
         not_turned : (b : Bool) → b ≡ not b → ⊥
-        not_turned true turned = absurd (cc)
-        not_turned false turned = absurd (cc)
+        not_turned b turned = grind (arith, nat_tests, turned)
 
     pub HasEnds-moving : HasEnds crossings arc
     HasEnds-moving =

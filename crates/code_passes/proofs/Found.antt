@@ -80,9 +80,7 @@ module _ {X : Type 0} (p : X → Bool) (default : X) where
 
   -- where only one passes, it is found
   some-counted : (xs : List X) (at : ℕ) (d : X) → at < length xs → p (get_or xs at d) ≡ true → 0 < count_by p xs
-  some-counted xs at d below passes =
-      let one : value_if 1 (p (get_or xs at d)) ≡ 1 = ap (value_if 1) passes in
-      omega (arith, one, get_or-le-sum_by (λ y. value_if 1 (p y)) xs at d below)
+  some-counted xs at d below passes = grind (arith, nat_tests, value_if, get_or-le-sum_by)
 
   pub found-only : (xs : List X) (at : ℕ) (d : X) → count_by p xs ≡ 1 → at < length xs → p (get_or xs at d) ≡ true
       → found p xs default ≡ get_or xs at d

@@ -138,11 +138,7 @@ stands-first label labels none (suc k) within =
 
 stands-le : (label : ℤ) (labels : List ℤ) → bad_label labels ≡ None → stands label labels ≤ 1
 stands-le label labels none =
-    omega (
-      arith,
-      stands-first label labels none (length labels) (omega arith),
-      ap (λ xs. stands label xs) (take_all (length labels) labels (omega arith)),
-    )
+    grind (arith, nat_tests, stands-first label labels none (length labels) (omega arith), take_all (length labels) labels (omega arith))
 
 -- each label names a crossing
 pub labels-name : (labels : List ℤ) → bad_label labels ≡ None → AllByRecursion (Names (length labels / 2)) labels
@@ -164,8 +160,7 @@ sum-both_stand labels none =
     ∙ sum_by-ones labels
 
 both_stand-le : (labels : List ℤ) → bad_label labels ≡ None → (place : ℕ) → both_stand labels place ≤ 2
-both_stand-le labels none place =
-    omega (arith, stands-le (under_at place) labels none, stands-le (over_at place) labels none)
+both_stand-le labels none place = grind (arith, nat_tests, stands-le (over_at place) labels none, stands-le (under_at place) labels none)
 
 -- there are two labels for each crossing
 pub length-labels : (labels : List ℤ) → bad_label labels ≡ None → length labels ≡ 2 * (length labels / 2)

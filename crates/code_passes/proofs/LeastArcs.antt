@@ -1,7 +1,8 @@
 -- The list of components, and its least arcs.
-use Rattle.std.proofs.Common.{◌≡◌, ℕ, ◌+◌, ◌∙◌, List, [], ◌∷◌, length, refl, sym, arith}
+use Rattle.std.proofs.lemmas.Bool.Decides.{nat_tests}
+use Rattle.std.proofs.Common.{◌≡◌, ℕ, ◌+◌, List, [], ◌∷◌, length, refl, sym, arith}
 use Rattle.std.specs.Prelude.{min}
-use Rattle.std.specs.List.{fold, flat_map, range_with_len}
+use Rattle.std.specs.List.{fold, flat_map}
 use Rattle.std.proofs.lemmas.List.FromFn.{length-range_with_len}
 use Rattle.kh_types.specs.Code.{arc_count, IsArc}
 use Rattle.kh_types.specs.Classes.{joined}
@@ -13,14 +14,11 @@ use Rattle.kh_types.proofs.NextArcs.{IsNamed-components_of}
 
 length-fold_joined : (classes : List ℕ) (pairs : List (ℕ × ℕ)) → length (fold joined classes pairs) ≡ length classes
 length-fold_joined classes [] = refl
-length-fold_joined classes (pair ∷ pairs) =
-    length-fold_joined (joined classes pair) pairs ∙ length-joined classes pair
+length-fold_joined classes (pair ∷ pairs) = grind (arith, nat_tests, length-joined, length-fold_joined (joined classes pair) pairs)
 
 -- the list has an entry for each arc, and one for the number 0
 pub components_size : (crossings : List (List ℕ)) → length (components_of crossings) ≡ arc_count crossings + 1
-components_size crossings =
-    length-fold_joined (range_with_len 0 (arc_count crossings + 1)) (flat_map passes_of crossings)
-    ∙ length-range_with_len 0 (arc_count crossings + 1)
+components_size crossings = grind (arith, nat_tests, length-fold_joined, length-range_with_len)
 
 -- the least arc of the component of an arc
 pub record IsFirstOf (crossings : List (List ℕ)) (arc : ℕ) : Type 0 where

@@ -37,9 +37,4 @@ list_any-map p f [] = refl
 list_any-map p f (x ∷ xs) = ap (λ b. p (f x) || b) (list_any-map p f xs)
 
 pub list_any-none : (p : ℕ → Bool) (a n : ℕ) → ((x : ℕ) → a ≤ x → x < a + n → p x ≡ false) → list_any p (range_with_len a n) ≡ false
-list_any-none p a n fails = elim (cases_Bool (list_any p (range_with_len a n))) [
-  | inr none ↦ none
-  | inl some ↦
-      let one = list_any-one p a n some in
-      absurd (both_ways (p one.0) (fails one.0 one.1 one.2) one.3)
-]
+list_any-none p a n fails = grind (arith, nat_tests, cases_Bool, list_any-one, both_ways)

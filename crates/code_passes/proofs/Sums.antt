@@ -1,4 +1,5 @@
 -- Sums over lists, and of a function that is 0 but at one number of a range.
+use Rattle.std.proofs.lemmas.Bool.Decides.{nat_tests}
 use Rattle.std.proofs.Common.{◌≡◌, ◌≢◌, ℕ, zero, suc, inl, inr, ◌+◌, ◌*◌, ◌<◌, ◌≤◌, ◌∙◌, List, [], ◌∷◌, length, refl, sym, ap, arith, Bool, false, cond}
 use Rattle.std.specs.Prelude.{nat_eq}
 use Rattle.std.specs.List.{sum_by, count_by, list_any, range_with_len}
@@ -23,14 +24,7 @@ only_at k value x = value_if value (nat_eq x k)
 
 sum-only_past : (k value a n : ℕ) → k < a → sum_by (only_at k value) (range_with_len a n) ≡ 0
 sum-only_past k value a zero past = refl
-sum-only_past k value a (suc n) past =
-    let none : only_at k value a ≡ 0 = ap (value_if value) (ne_eqb a k (λ same. absurd (omega (arith, same, past)))) in
-    omega (
-      arith,
-      none,
-      sum-only_past k value (a + 1) n (omega (arith, past)),
-      sum_by-cons (only_at k value) a (range_with_len (a + 1) n),
-    )
+sum-only_past k value a (suc n) past = grind (arith, nat_tests, ne_eqb, sum_by-cons, sum-only_past k value (a + 1) n (omega (arith, past)))
 
 pub sum-only : (k value a n : ℕ) → a ≤ k → k < a + n → sum_by (only_at k value) (range_with_len a n) ≡ value
 sum-only k value a zero from below = absurd (omega (arith, from, below))
@@ -62,8 +56,7 @@ pub sum-at_most_two : (f : ℕ → ℕ) (a n : ℕ) → ((k : ℕ) → a ≤ k �
     → sum_by f (range_with_len a n) ≤ 2 * n
 sum-at_most_two f a zero most = omega arith
 sum-at_most_two f a (suc n) most =
-    let rest = sum-at_most_two f (a + 1) n (λ k from below. most k (omega (arith, from)) (omega (arith, below))) in
-    omega (arith, rest, most a (omega arith) (omega arith), sum_by-cons f a (range_with_len (a + 1) n))
+    grind (arith, nat_tests, sum_by-cons, sum-at_most_two f (a + 1) n (λ k from below. most k (omega (arith, from)) (omega (arith, below))))
 
 pub each-two : (f : ℕ → ℕ) (a n : ℕ) → ((k : ℕ) → a ≤ k → k < a + n → f k ≤ 2) → 2 * n ≤ sum_by f (range_with_len a n)
     → (k : ℕ) → a ≤ k → k < a + n → f k ≡ 2

@@ -1,4 +1,5 @@
 -- The components of the code of a text are the components that the text lists, each named by its first arc.
+use Rattle.std.proofs.lemmas.Bool.Decides.{nat_tests}
 use Rattle.std.proofs.Common.{◌≡◌, ℕ, zero, suc, inl, inr, ◌+◌, ◌-◌, ◌<◌, ◌≤◌, ◌∙◌, List, length, sym, ap, arith, ℤ}
 use Rattle.std.specs.Prelude.{None}
 use Rattle.std.specs.List.{flat_map, AllByRecursion}
@@ -94,12 +95,7 @@ module _ (groups : List (List ℤ)) (signs : List ℤ) (none : bad_label (all_la
   -- the first arc of a component is the least of its class
   component-first : (first : ℕ) → 1 ≤ first → first ≤ arcs → start_of groups first ≡ first → component first ≡ first
   component-first first from within own =
-      let size = arc_count-crossings groups signs none in
-      let below : first < arc_count (crossings_of groups signs) + 1 = omega (arith, within, size) in
-      let least : component first ≤ first = named.least first below in
-      let same = classes-finest (start_of groups) (arc_count (crossings_of groups signs) + 1) pairs start-respects pairs-below
-      (component first) first (omega (arith, least, below)) below (named.own first below) in
-      omega (arith, least, same, own, start-le 1 groups (component first))
+      grind (arith, nat_tests, arc_count-crossings, named, classes-finest, start-respects, pairs-below, start-le)
 
   -- so the component of an arc is the one that the text lists
   pub component-is : (arc : ℕ) → component_of (components_of (crossings_of groups signs)) arc ≡ start_of groups arc
@@ -122,12 +118,8 @@ module _ (groups : List (List ℤ)) (signs : List ℤ) (none : bad_label (all_la
 
   -- the arc that follows an arc
   pub next-is : (arc : ℕ) → next (crossings_of groups signs) arc ≡ after_arc arc (start_of groups arc) (start_of groups (arc + 1))
-  next-is arc =
-      ap (λ here. after_arc arc here (component (arc + 1))) (component-is arc)
-      ∙ ap (λ behind. after_arc arc (start_of groups arc) behind) (component-is (arc + 1))
+  next-is arc = grind (arith, nat_tests, after_arc, component-is)
 
   -- a pass leaves on the arc that follows the one on which it enters
   pub next-passes : AllByRecursion (λ (pass : Pass). pass.leaves ≡ next (crossings_of groups signs) pass.enters) (all_passes 1 groups)
-  next-passes =
-      AllByRecursion-weaker (IsPassOf 1 groups) (λ (pass : Pass). pass.leaves ≡ next (crossings_of groups signs) pass.enters) (all_passes 1 groups)
-      (λ pass is. is.next ∙ sym (next-is pass.enters)) (IsPassOf-all 1 groups (omega arith))
+  next-passes = grind (arith, nat_tests, AllByRecursion-weaker, IsPassOf, next-is, IsPassOf-all)

@@ -1,13 +1,13 @@
 -- The crossings of the code of some components and signs: their slots, and the pairs of arcs that their passes join.
 use Rattle.std.proofs.lemmas.Bool.Decides.{nat_tests}
-use Rattle.std.proofs.Common.{◌≡◌, ℕ, zero, suc, ◌⊎◌, ◌-◌, ◌<◌, List, [], ◌∷◌, length, sym, subst, arith, ℤ}
+use Rattle.std.proofs.Common.{◌≡◌, ℕ, zero, suc, ◌⊎◌, ◌-◌, ◌<◌, List, [], ◌∷◌, length, arith, ℤ}
 use Rattle.std.specs.Prelude.{None, slice_index_or}
 use Rattle.std.specs.List.{flat_map, AllByRecursion}
 use Rattle.std.proofs.lemmas.List.FromFn.{length-map-range_with_len, get_or-map-range_with_len}
 use Rattle.kh_types.specs.Code.{arc_in, arc_count, slots_of, IsCrossing}
 use Rattle.kh_types.specs.Components.{passes_of}
 use Rattle.kh_types.proofs.PassPairs.{passes-all}
-use Rattle.code_passes.specs.Labels.{listed_number, bad_label}
+use Rattle.code_passes.specs.Labels.{bad_label}
 use Rattle.code_passes.specs.Passes.{Pass, all_passes, slots_between, slots_by_passes, all_labels, crossings_in, crossings_of}
 use Rattle.code_passes.proofs.LabelCounts.{length-labels}
 use Rattle.code_passes.proofs.CrossingPasses.{under_pass, over_pass, under-holds, over-holds, all-passes_hold}
@@ -32,14 +32,11 @@ HasSlots-between under over sign = grind (arith, nat_tests)
 
 pub slots-at : (groups : List (List ℤ)) (signs : List ℤ) (place : ℕ) → place < crossings_in groups
     → slice_index_or (crossings_of groups signs) place [] ≡ slots_by_passes (all_passes 1 groups) signs place
-slots-at groups signs place below =
-    get_or-map-range_with_len (slots_by_passes (all_passes 1 groups) signs) 0 (crossings_in groups) place place [] below (omega arith)
+slots-at groups signs place below = grind (arith, nat_tests, get_or-map-range_with_len)
 
 pub HasSlots-at : (groups : List (List ℤ)) (signs : List ℤ) (place : ℕ) → place < crossings_in groups
     → HasSlots (under_pass groups place) (over_pass groups place) (slice_index_or (crossings_of groups signs) place [])
-HasSlots-at groups signs place below =
-    subst (HasSlots (under_pass groups place) (over_pass groups place)) (sym (slots-at groups signs place below))
-    (HasSlots-between (under_pass groups place) (over_pass groups place) (listed_number signs place))
+HasSlots-at groups signs place below = grind (arith, nat_tests, under_pass, over_pass, slots-at, HasSlots-between)
 
 pub HasSlots-of : (groups : List (List ℤ)) (signs : List ℤ) (crossing : ℕ) → IsCrossing (crossings_of groups signs) crossing
     → HasSlots (under_pass groups (crossing - 1)) (over_pass groups (crossing - 1)) (slots_of (crossings_of groups signs) crossing)

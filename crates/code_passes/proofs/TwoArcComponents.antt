@@ -4,7 +4,7 @@
 -- In a component of two arcs that passes under nowhere the direction is a rule: its first over pass in the order of crossings goes from the
 -- lesser arc to the greater. If the least arc entered the second listed of its crossings, the second arc would enter the first, and the
 -- pass there would go down, against the rule (`turned_labels-component`).
-use Rattle.std.proofs.Common.{◌≡◌, ◌⊎◌, inl, inr, ℕ, zero, suc, ◌+◌, ◌<◌, ◌≤◌, ◌∙◌, ℤ, pos, neg_ℤ, List, [], ◌∷◌, map, refl, sym, ap, arith, Bool, true, false, ◌&&◌}
+use Rattle.std.proofs.Common.{◌≡◌, ◌⊎◌, inl, inr, ℕ, zero, suc, ◌+◌, ◌<◌, ◌≤◌, ◌∙◌, ℤ, pos, neg_ℤ, List, map, refl, sym, ap, arith, Bool, true, false, ◌&&◌}
 use Rattle.std.specs.Prelude.{None, Some, int_lt, nat_eq, nat_lt, if◌then◌else◌}
 use Rattle.std.specs.List.{range_with_len}
 use Rattle.std.proofs.lemmas.Bool.{and_parts, cases_Bool, eq-eqb, ne_eqb}
@@ -99,13 +99,7 @@ over_crossing crossings first crossing both is same =
 -- its second arc, and the arc that follows that, which is the first
 next_is : (crossings : List (List ℕ)) (first : ℕ) → IsOverBoth crossings first
     → IsArc crossings (first + 1) × (component crossings (first + 1) ≡ first) × (next crossings (first + 1) ≡ first)
-next_is crossings first both =
-    let directed = both.oriented.directed in
-    let ends = end-within crossings directed first both.first_is in
-    let is : IsArc crossings (first + 1) = record { positive = omega arith; within = omega (arith, ends, both.two) } in
-    let same = component-in crossings directed first (first + 1) both.first_is (omega arith) (omega (arith, both.two)) in
-    let alike : size crossings (component crossings (first + 1)) ≡ 2 = ap (size crossings) same ∙ both.two in
-    (is, same, (HasPlace-directed crossings directed (first + 1) is).last (omega (arith, same, alike)) ∙ same)
+next_is crossings first both = grind (arith, nat_tests, end-within, component-in, size, component, HasPlace-directed)
 
 -- so its first over pass, by the order of the crossings, is where the second arc enters
 first_over_is : (crossings : List (List ℕ)) (first : ℕ) → IsOverBoth crossings first
@@ -216,11 +210,9 @@ turned_labels-range : (label : ℕ → ℤ) (a n : ℕ)
     → turned_labels (map label (range_with_len a n)) ≡ map label (range_with_len a n)
 turned_labels-range label a zero ascends = refl
 turned_labels-range label a (suc zero) ascends = refl
-turned_labels-range label a (suc (suc zero)) ascends =
-    ap (λ b. if b then label (a + 1) ∷ label a ∷ [] else label a ∷ label (a + 1) ∷ []) (ascends (omega arith))
+turned_labels-range label a (suc (suc zero)) ascends = grind (arith, nat_tests)
 turned_labels-range label a (suc (suc (suc n))) ascends = refl
 
 pub turned_labels-component : (crossings : List (List ℕ)) (first : ℕ) → IsOriented crossings → IsFirst crossings first
     → turned_labels (component_labels crossings first) ≡ component_labels crossings first
-turned_labels-component crossings first oriented is =
-    turned_labels-range (entering_label crossings) first (size crossings first) (λ two. ascending crossings first oriented is two)
+turned_labels-component crossings first oriented is = grind (arith, nat_tests, turned_labels-range, size, ascending)
