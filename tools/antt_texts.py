@@ -32,7 +32,7 @@ def indent_of(line):
 def goes_on(lines, at, indent):
     """Whether a line belongs to what began with this indentation: it is deeper, or closes a bracket, or blank with deeper ones behind it."""
     if lines[at].strip():
-        return indent_of(lines[at]) > indent or (indent_of(lines[at]) == indent and lines[at].strip() in (")", "]", "}"))
+        return indent_of(lines[at]) > indent or (indent_of(lines[at]) == indent and lines[at].lstrip()[0] in ")]}")
     behind = next((it for it in lines[at:] if it.strip()), "")
     return indent_of(behind) > indent and bool(behind)
 
