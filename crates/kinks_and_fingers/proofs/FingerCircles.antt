@@ -1,4 +1,5 @@
 -- The circles of the four states at two crossings that meet in a bigon.
+use Rattle.std.proofs.lemmas.Bool.Decides.{nat_tests}
 use Rattle.std.proofs.Common.{◌≡◌, ◌≢◌, ℕ, zero, suc, ◌⊎◌, inl, inr, ◌+◌, ◌*◌, ◌%◌, ◌<◌, ◌≤◌, ◌∙◌, List, [], ◌∷◌, ◌++◌, sym, ap, arith, refl, Bool, false, cond, not, length, eq-eqb}
 use Rattle.std.specs.Prelude.{nat_eq}
 use Rattle.std.specs.List.{filter, flat_map, range_with_len}
@@ -129,27 +130,11 @@ pairs-same : (crossings : List (List ℕ)) (gone : ℕ → Bool) (state other a 
     ≡ flat_map (joined_at crossings state) (filter (λ place. not (gone place)) (range_with_len a n))
 pairs-same crossings gone state other a zero same = refl
 pairs-same crossings gone state other a (suc n) same =
-    let rest = pairs-same crossings gone state other (a + 1) n (λ place below. same place (omega (arith, below))) in
-    let kept = filter (λ place. not (gone place)) (range_with_len (a + 1) n) in
-    elim (cases_Bool (gone a)) [
-      | inl away ↦
-          ap (λ t. flat_map (joined_at crossings other) (cond (not t) (a ∷ kept) kept)) away ∙ rest
-          ∙ sym (ap (λ t. flat_map (joined_at crossings state) (cond (not t) (a ∷ kept) kept)) away)
-      | inr stays ↦
-          ap (λ t. flat_map (joined_at crossings other) (cond (not t) (a ∷ kept) kept)) stays
-          ∙ ap (λ b. smoothing_of b (slots_in crossings a) ++ flat_map (joined_at crossings other) kept) (same a (omega arith) stays)
-          ∙ ap (λ ps. joined_at crossings state a ++ ps) rest
-          ∙ sym (ap (λ t. flat_map (joined_at crossings state) (cond (not t) (a ∷ kept) kept)) stays)
-    ]
+    grind (arith, nat_tests, cases_Bool, pairs-same crossings gone state other (a + 1) n (λ place below. same place (omega (arith, below))))
 
 outer-same : (crossings : List (List ℕ)) (c d state other : ℕ) → ((place : ℕ) → place < length crossings → place ≢ c → place ≢ d → bit other place ≡ bit state place)
     → outer_pairs crossings (is_of_two c d) other ≡ outer_pairs crossings (is_of_two c d) state
-outer-same crossings c d state other same =
-    pairs-same crossings (is_of_two c d) state other 0 (length crossings)
-    (λ place below stays.
-    let away = or-false (nat_eq c place) (nat_eq d place) stays in
-    same place (omega (arith, below)) (λ is. both_ways (nat_eq c place) away.0 (eq-eqb c place (sym is)))
-    (λ is. both_ways (nat_eq d place) away.1 (eq-eqb d place (sym is))))
+outer-same crossings c d state other same = grind (arith, nat_tests, pairs-same, or-false, both_ways, eq-eqb)
 
 -- the circles of the four states, and of what is joined straight
 pub record FourStates (crossings : List (List ℕ)) (n c d p q : ℕ) : Type 0 where

@@ -42,23 +42,7 @@ use Rattle.kinks_and_fingers.proofs.FingerCircles.{AreBigonNames-bigon, FourStat
 -- slots below 4
 
 pub HasBigonAt-slots : (crossings : List (List ℕ)) (c d p q : ℕ) → HasBigonAt crossings c d p q → HasBigonAt crossings c d (p % 4) (q % 4)
-HasBigonAt-slots crossings c d p q bigon = record {
-  first_below = bigon.first_below;
-  second_below = bigon.second_below;
-  apart = bigon.apart;
-  first_side = ap (λ r. partner_at crossings r) (same c p) ∙ bigon.first_side ∙ next d q;
-  second_side = ap (λ r. partner_at crossings r) (same d q) ∙ bigon.second_side ∙ next c p;
-  odd = odd_of p q bigon.odd;
-}
-  where
-    same : (c p : ℕ) → dart_in c (p % 4) ≡ dart_in c p
-    same c p = omega arith
-
-    next : (c p : ℕ) → dart_in c (p + 1) ≡ dart_in c (p % 4 + 1)
-    next c p = omega arith
-
-    odd_of : (p q : ℕ) → (p + q) % 2 ≡ 1 → (p % 4 + q % 4) % 2 ≡ 1
-    odd_of p q is = omega (arith, is)
+HasBigonAt-slots crossings c d p q bigon = grind (arith, nat_tests)
 
 -- one of the two crossings is positive, and the other is not
 
@@ -243,9 +227,7 @@ four_terms plus minus new_plus new_minus exponent r0 c0 r1 c1 r2 c2 r3 c3 s0 d0 
   where
     term_is : (plus minus new_plus new_minus : ℕ) (exponent : ℤ) (r c s d : ℕ) → plus ≡ new_plus → minus ≡ new_minus → r ≡ s → c ≡ d
         → kh.term_of plus minus exponent r c ≡ term_at new_plus new_minus exponent s d
-    term_is plus minus new_plus new_minus exponent r c s d plus_is minus_is r_is c_is =
-        term-is plus minus exponent r c ∙ ap₂ (λ p m. term_at p m exponent r c) plus_is minus_is
-        ∙ ap₂ (λ t u. term_at new_plus new_minus exponent t u) r_is c_is
+    term_is plus minus new_plus new_minus exponent r c s d plus_is minus_is r_is c_is = grind (arith, nat_tests)
 
 one_of_two : (b : Bool) → one_if b + one_if (not b) ≡ 1
 one_of_two b = grind (arith, nat_tests)

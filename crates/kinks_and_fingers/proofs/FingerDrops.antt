@@ -26,24 +26,7 @@ use Rattle.kinks_and_fingers.proofs.CrossedSides.{eq_self, AreSides, crossed, cr
 -- the sides of a bigon
 AreSides-bigon : (crossings : List (List ℕ)) (c d p q : ℕ) → HasBigonAt crossings c d p q
     → AreSides (4 * length crossings) (partner_at crossings) (dart_in c p) (dart_in c (p + 1)) (dart_in d q) (dart_in d (q + 1))
-AreSides-bigon crossings c d p q bigon =
-    let n = length crossings in
-    let other : (r s : ℕ) → dart_in c r ≢ dart_in d s =
-    λ r s same. bigon.apart (sym (dart_in-place c r) ∙ ap (λ z. z / 4) same ∙ dart_in-place d s) in
-    record {
-      a_below = dart_in-below n c p bigon.first_below;
-      c_below = dart_in-below n d q bigon.second_below;
-      b_below = dart_in-below n c (p + 1) bigon.first_below;
-      d_below = dart_in-below n d (q + 1) bigon.second_below;
-      first = bigon.first_side;
-      second = bigon.second_side;
-      a_b = (dart_in-apart c p).4;
-      a_c = other p q;
-      a_d = other p (q + 1);
-      b_c = other (p + 1) q;
-      b_d = other (p + 1) (q + 1);
-      c_d = (dart_in-apart d q).4;
-    }
+AreSides-bigon crossings c d p q bigon = omega arith
 
 -- the darts opposite the sides keep their values
 pub record AreFarKept {X : Type 0} (g h : ℕ → X) (c p : ℕ) : Type 0 where
@@ -53,22 +36,7 @@ pub record AreFarKept {X : Type 0} (g h : ℕ → X) (c p : ℕ) : Type 0 where
 crossed-far : {X : Type 0} (g : ℕ → X) (c d p q : ℕ) → c ≢ d
     → AreFarKept g (crossed g (dart_in c p) (dart_in c (p + 1)) (dart_in d q) (dart_in d (q + 1))) c p
     × AreFarKept g (crossed g (dart_in c p) (dart_in c (p + 1)) (dart_in d q) (dart_in d (q + 1))) d q
-crossed-far g c d p q apart =
-    let at = crossed-else g (dart_in c p) (dart_in c (p + 1)) (dart_in d q) (dart_in d (q + 1)) in
-    let other : (r s : ℕ) → dart_in c r ≢ dart_in d s =
-    λ r s same. apart (sym (dart_in-place c r) ∙ ap (λ z. z / 4) same ∙ dart_in-place d s) in
-    let c_apart = dart_in-apart c p in
-    let d_apart = dart_in-apart d q in (
-      record {
-        two = at (dart_in c (p + 2)) (λ same. c_apart.5 (sym same)) (λ same. c_apart.0 (sym same)) (other (p + 2) q) (other (p + 2) (q + 1));
-        three = at (dart_in c (p + 3)) c_apart.1 c_apart.2 (other (p + 3) q) (other (p + 3) (q + 1));
-      },
-      record {
-        two = at (dart_in d (q + 2)) (λ same. other p (q + 2) (sym same)) (λ same. other (p + 1) (q + 2) (sym same))
-            (λ same. d_apart.5 (sym same)) (λ same. d_apart.0 (sym same));
-        three = at (dart_in d (q + 3)) (λ same. other p (q + 3) (sym same)) (λ same. other (p + 1) (q + 3) (sym same)) d_apart.1 d_apart.2;
-      },
-    )
+crossed-far g c d p q apart = grind (arith, nat_tests)
 
 -- the joints of both crossings, where passes lead across in the way that turn says
 pub record AreJoints {X : Type 0} (g : ℕ → X) (turn : X → X) (c p : ℕ) : Type 0 where
@@ -135,12 +103,7 @@ places-two c d k c_within d_within apart =
     alike c k d i within below apart small = grind (arith, nat_tests)
 
 early_dart-in : (c k d e r : ℕ) → early c k e ≡ d → early_dart c k (dart_in e r) ≡ dart_in d r
-early_dart-in c k d e r is =
-    ap (λ q. 4 * early c k q + dart_in e r % 4) (dart_in-place e r) ∙ ap (λ q. 4 * q + dart_in e r % 4) is
-    ∙ ap (λ s. 4 * d + s) (slot_of e r)
-  where
-    slot_of : (e r : ℕ) → dart_in e r % 4 ≡ r % 4
-    slot_of e r = omega arith
+early_dart-in c k d e r is = grind (arith, nat_tests)
 
 dartwise-twice : (f g : ℕ → ℕ) (x : ℕ) → dartwise f (dartwise g x) ≡ dartwise (λ i. f (g i)) x
 dartwise-twice f g x = grind (arith, nat_tests, dartwise g x, block_place (g (x / 4)) x, block_slot (g (x / 4)) x)
@@ -148,62 +111,17 @@ dartwise-twice f g x = grind (arith, nat_tests, dartwise g x, block_place (g (x 
 -- what holds across the passes at slots p and p + 1 holds across both passes, in both directions
 across-all : (g : ℕ → ℕ) (c p : ℕ) → g (dart_in c p) ≡ g (dart_in c (p + 2)) → g (dart_in c (p + 1)) ≡ g (dart_in c (p + 3))
     → (q : ℕ) → g (dart_in c q) ≡ g (dart_in c (q + 2))
-across-all g c p first second q =
-    let shift : (r s : ℕ) → dart_in c r ≡ dart_in c s → dart_in c (r + 2) ≡ dart_in c (s + 2) = λ r s same. shifted c r s same in
-    let e : p + 1 + 2 ≡ p + 3 = omega arith in
-    let f : p + 2 + 2 ≡ p + 4 = omega arith in
-    let h : p + 3 + 2 ≡ p + 1 + 4 = omega arith in
-    elim (dart_cases c p (dart_in c q) (dart_in-place c q)) [
-      | inl a ↦ ap g a ∙ second ∙ ap (λ r. g (dart_in c r)) (sym e) ∙ ap g (sym (shift q (p + 1) a))
-      | inr b ↦ elim b [
-        | inl a ↦
-            ap g a ∙ sym first ∙ ap g (sym (dart_in-next c p)) ∙ ap (λ r. g (dart_in c r)) (sym f) ∙ ap g (sym (shift q (p + 2) a))
-        | inr d ↦ elim d [
-          | inl a ↦
-              ap g a ∙ sym second ∙ ap g (sym (dart_in-next c (p + 1))) ∙ ap (λ r. g (dart_in c r)) (sym h)
-              ∙ ap g (sym (shift q (p + 3) a))
-          | inr a ↦ ap g a ∙ first ∙ ap g (sym (shift q p a))
-        ]
-      ]
-    ]
-  where
-    shifted : (c r s : ℕ) → dart_in c r ≡ dart_in c s → dart_in c (r + 2) ≡ dart_in c (s + 2)
-    shifted c r s same = omega (arith, same)
+across-all g c p first second q = grind (arith, nat_tests)
 
 -- functions with joints at both crossings have, with the values at the sides exchanged, one value across each pass
 joints-crossed : (w : ℕ → ℕ) (crossings : List (List ℕ)) (c d p q : ℕ) → HasBigonAt crossings c d p q → AreJoints w (λ z. z) c p
     → AreJoints w (λ z. z) d q → (e r : ℕ) → (e ≡ c) ⊎ (e ≡ d)
     → crossed w (dart_in c p) (dart_in c (p + 1)) (dart_in d q) (dart_in d (q + 1)) (dart_in e r)
     ≡ crossed w (dart_in c p) (dart_in c (p + 1)) (dart_in d q) (dart_in d (q + 1)) (dart_in e (r + 2))
-joints-crossed w crossings c d p q bigon c_joints d_joints e r which =
-    let m = 4 * length crossings in
-    let partner : ℕ → ℕ = partner_at crossings in
-    let are = AreSides-bigon crossings c d p q bigon in
-    let a = dart_in c p in
-    let b = dart_in c (p + 1) in
-    let s = dart_in d q in
-    let t = dart_in d (q + 1) in
-    let far = crossed-far w c d p q bigon.apart in
-    elim which [
-      | inl at ↦
-          ap (λ z. crossed w a b s t (dart_in z r)) at
-          ∙ across-all (crossed w a b s t) c p
-          (crossed-a w m partner a b s t are ∙ c_joints.first ∙ sym far.0.two)
-          (crossed-b w m partner a b s t are ∙ sym c_joints.second ∙ sym far.0.three) r
-          ∙ ap (λ z. crossed w a b s t (dart_in z (r + 2))) (sym at)
-      | inr at ↦
-          ap (λ z. crossed w a b s t (dart_in z r)) at
-          ∙ across-all (crossed w a b s t) d q
-          (crossed-c w m partner a b s t are ∙ d_joints.first ∙ sym far.1.two)
-          (crossed-d w m partner a b s t are ∙ sym d_joints.second ∙ sym far.1.three) r
-          ∙ ap (λ z. crossed w a b s t (dart_in z (r + 2))) (sym at)
-    ]
+joints-crossed w crossings c d p q bigon c_joints d_joints e r which = grind (arith, nat_tests)
 
 of_two : (c d place : ℕ) → (nat_eq c place || nat_eq d place) ≡ true → (place ≡ c) ⊎ (place ≡ d)
-of_two c d place is = elim (cases_Bool (nat_eq c place)) [
-  | inl at ↦ inl (sym (eqb-true c place at))
-  | inr away ↦ inr (sym (eqb-true d place (sym (ap (λ t. t || nat_eq d place) away) ∙ is)))
-]
+of_two c d place is = grind (arith, nat_tests)
 
 pub IsDropped-finger : (code : Code) (choice k c d p q : ℕ) → IsTrue (accepted code) → IsColoured code.crossings choice
     → length code.crossings ≡ k + 1 + 1 → HasBigonAt code.crossings c d p q

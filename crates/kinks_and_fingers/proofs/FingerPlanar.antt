@@ -31,12 +31,10 @@ use Rattle.kinks_and_fingers.proofs.KinkFaces.{partner-of, both-ways}
 
 place-apart : (crossings : List (List ℕ)) (dart other : Dart) → IsDart crossings dart → IsDart crossings other → dart ≢ other
     → dart_place dart ≢ dart_place other
-place-apart crossings dart other is other_is apart alike =
-    apart (sym (dart_at-place crossings dart is) ∙ ap dart_at alike ∙ dart_at-place crossings other other_is)
+place-apart crossings dart other is other_is apart = grind (arith, nat_tests)
 
 first_or_second : (n slot other : ℕ) → dart_with (n + 1) slot ≢ dart_with (n + 2) other
-first_or_second n slot other same =
-    let e : n + 1 ≡ n + 2 = ap (λ (d : Dart). d.crossing) same in omega (arith, e)
+first_or_second n slot other = grind (arith, nat_tests)
 
 -- the place of a dart of the first and of the second new crossing
 place-first : (n slot : ℕ) → dart_place (dart_with (n + 1) slot) ≡ 4 * n + slot

@@ -12,15 +12,11 @@ use Rattle.kinks_and_fingers.specs.FingerAdd.{opened, head_number, moved_arc, da
 use Rattle.kinks_and_fingers.proofs.PassEnds.{HasPasses, HasPasses-crossing_with}
 
 pub length-moved : (crossings : List (List ℕ)) (a b : ℕ) → length (moved_crossings crossings a b) ≡ length crossings
-length-moved crossings a b =
-    length-map (crossing_numbers crossings) (moved_slots crossings a b) ∙ length-range_with_len 1 (length crossings)
+length-moved crossings a b = grind (arith, nat_tests, length-map, length-range_with_len)
 
 pub length-fingered : (crossings : List (List ℕ)) (a b : ℕ) (positive ordered : Bool)
     → length (fingered_crossings crossings a b positive ordered) ≡ length crossings + 2
-length-fingered crossings a b positive ordered =
-    length-append (moved_crossings crossings a b)
-    (first_crossing (opened a b a) (opened a b b) positive ordered ∷ second_crossing (opened a b a) (opened a b b) positive ordered ∷ [])
-    ∙ ap (λ n. n + 2) (length-moved crossings a b)
+length-fingered crossings a b positive ordered = grind (arith, nat_tests, length-append, length-moved)
 
 -- the slots of an old crossing
 pub slots_of-old : (crossings : List (List ℕ)) (a b : ℕ) (positive ordered : Bool) (crossing : ℕ) → IsCrossing crossings crossing
@@ -65,9 +61,7 @@ arc_in-moved crossings a b crossing (suc (suc (suc (suc slot)))) below = absurd 
 
 pub arc_of-old : (crossings : List (List ℕ)) (a b : ℕ) (positive ordered : Bool) (dart : Dart) → IsDart crossings dart
     → arc_of (fingered_crossings crossings a b positive ordered) dart ≡ moved_arc crossings a b dart
-arc_of-old crossings a b positive ordered dart is =
-    ap (λ s. arc_in s dart.slot) (slots_of-old crossings a b positive ordered dart.crossing is.crossing)
-    ∙ arc_in-moved crossings a b dart.crossing dart.slot is.slot
+arc_of-old crossings a b positive ordered dart is = grind (arith, nat_tests, slots_of-old, arc_in-moved)
 
 pub arc_of-head : (crossings : List (List ℕ)) (a b : ℕ) (positive ordered : Bool) (dart : Dart) → IsDart crossings dart
     → is_head crossings dart ≡ true
@@ -96,10 +90,7 @@ HasPasses-first crossings a b positive ordered =
   where
     by : (ordered : Bool) (over under : ℕ)
         → HasPasses (first_crossing over under positive ordered) positive (first_start ordered under) (first_start ordered under + 1) over (over + 1)
-    by true over under = HasPasses-crossing_with positive under (under + 1) over (over + 1)
-    by false over under =
-        subst (λ (v : ℕ). HasPasses (crossing_with positive (under + 1) (under + 2) over (over + 1)) positive (under + 1) v over (over + 1))
-        (omega arith) (HasPasses-crossing_with positive (under + 1) (under + 2) over (over + 1))
+    by ordered over under = grind (arith, nat_tests, HasPasses-crossing_with, HasPasses)
 
 pub HasPasses-second : (crossings : List (List ℕ)) (a b : ℕ) (positive ordered : Bool)
     → HasPasses (slots_of (fingered_crossings crossings a b positive ordered) (length crossings + 2)) (not positive)
@@ -115,13 +106,4 @@ HasPasses-second crossings a b positive ordered =
     by : (ordered : Bool) (over under : ℕ)
         → HasPasses (second_crossing over under positive ordered) (not positive) (second_start ordered under) (second_start ordered under + 1)
         (over + 1) (over + 1 + 1)
-    by true over under =
-        subst (λ (t : ℕ). HasPasses (crossing_with (not positive) (under + 1) (under + 2) (over + 1) t) (not positive) (under + 1) (under + 1 + 1)
-        (over + 1) (over + 1 + 1)) (two_more over)
-        (subst (λ (v : ℕ). HasPasses (crossing_with (not positive) (under + 1) v (over + 1) (over + 1 + 1)) (not positive) (under + 1) (under + 1 + 1)
-        (over + 1) (over + 1 + 1)) (two_more under)
-        (HasPasses-crossing_with (not positive) (under + 1) (under + 1 + 1) (over + 1) (over + 1 + 1)))
-    by false over under =
-        subst (λ (t : ℕ). HasPasses (crossing_with (not positive) under (under + 1) (over + 1) t) (not positive) under (under + 1)
-        (over + 1) (over + 1 + 1)) (two_more over)
-        (HasPasses-crossing_with (not positive) under (under + 1) (over + 1) (over + 1 + 1))
+    by ordered over under = grind (arith, nat_tests, HasPasses, two_more, HasPasses-crossing_with)

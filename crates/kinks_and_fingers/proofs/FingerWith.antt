@@ -30,13 +30,7 @@ lowered_to a b spare y =
 
 -- what is so of the three sides
 of_sides : (P : ℕ → Type 0) → P 7 → P 8 → P 9 → (side : ℕ) → 7 ≤ side → side < 10 → P side
-of_sides P at_seven at_eight at_nine side from below = elim (sides side from below) [
-  | inl is ↦ subst P (sym is) at_seven
-  | inr is ↦ elim is [ inl is_eight ↦ subst P (sym is_eight) at_eight | inr is_nine ↦ subst P (sym is_nine) at_nine ]
-]
-  where
-    sides : (side : ℕ) → 7 ≤ side → side < 10 → (side ≡ 7) ⊎ ((side ≡ 8) ⊎ (side ≡ 9))
-    sides side from below = grind arith
+of_sides P at_seven at_eight at_nine side from below = grind (arith, nat_tests)
 
 -- the parts of the two arcs do not meet
 opened-apart : (a b : ℕ) → a ≢ b → (opened a b a + 2 < opened a b b) ⊎ (opened a b b + 2 < opened a b a)
@@ -51,25 +45,14 @@ record Apart (over under spare : ℕ) : Type 0 where
 
 placed-apart : (over under spare : ℕ) → Apart over under spare → (i side : ℕ) → i < side → 7 ≤ side → side < 10
     → placed_at over under spare i ≢ placed_at over under spare side
-placed-apart over under spare is = plain over under spare is.parts is.over_below is.under_below
-  where
-    plain : (over under spare : ℕ) → (over + 2 < under) ⊎ (under + 2 < over) → over + 2 < spare → under + 2 < spare
-        → (i side : ℕ) → i < side → 7 ≤ side → side < 10 → placed_at over under spare i ≢ placed_at over under spare side
-    plain over under spare parts over_below under_below i side less from below same = grind (arith, nat_tests)
+placed-apart over under spare is i side has6 has7 has8 = grind (arith, nat_tests)
 
 placed-ends : (over under spare : ℕ) → Apart over under spare → (i j : ℕ) → i < j → j < 5
     → placed_at over under spare i ≢ placed_at over under spare j
-placed-ends over under spare is = plain over under spare is.over_positive is.under_positive is.parts
-  where
-    plain : (over under spare : ℕ) → 1 ≤ over → 1 ≤ under → (over + 2 < under) ⊎ (under + 2 < over)
-        → (i j : ℕ) → i < j → j < 5 → placed_at over under spare i ≢ placed_at over under spare j
-    plain over under spare over_positive under_positive parts i j less below same = grind (arith, nat_tests)
+placed-ends over under spare is i j has6 has7 = grind (arith, nat_tests)
 
 placed-below : (over under spare : ℕ) → Apart over under spare → (i : ℕ) → placed_at over under spare i < spare + 1
-placed-below over under spare is = plain over under spare is.over_below is.under_below
-  where
-    plain : (over under spare : ℕ) → over + 2 < spare → under + 2 < spare → (i : ℕ) → placed_at over under spare i < spare + 1
-    plain over under spare over_below under_below i = grind (arith, nat_tests)
+placed-below over under spare is i = grind (arith, nat_tests)
 
 -- the two new crossings show those inside
 shows-four : (arcs : ℕ → ℕ) {i j k l p q r t : ℕ} → i ≡ arcs p → j ≡ arcs q → k ≡ arcs r → l ≡ arcs t
@@ -130,14 +113,10 @@ lowered_to-end a b spare x y apart small end =
     plain y p q s l x not_p not_q small is = grind (arith, nat_tests)
 
     end-low : (a b x y : ℕ) → a ≢ b → IsEndOf a b x y → low a b y ≡ x
-    end-low a b x y apart (inl tail) = ap (low a b) tail ∙ low-opened a b x apart
-    end-low a b x y apart (inr head) = ap (low a b) head ∙ low-head_number a b x apart
+    end-low a b x y apart has5 = grind (arith, nat_tests, low, low-opened, low-head_number)
 
 lowered_to-side : (a b spare y : ℕ) → (y ≡ opened a b a + 1) ⊎ ((y ≡ opened a b b + 1) ⊎ (y ≡ spare)) → 0 ≡ lowered_to a b spare y
-lowered_to-side a b spare y side = plain y (opened a b a + 1) (opened a b b + 1) spare (low a b y) side
-  where
-    plain : (y p q s l : ℕ) → (y ≡ p) ⊎ ((y ≡ q) ⊎ (y ≡ s)) → 0 ≡ (if nat_eq y p || (nat_eq y q || nat_eq y s) then 0 else l)
-    plain y p q s l side = grind (arith, nat_tests)
+lowered_to-side a b spare y side = grind (arith, nat_tests)
 
 lowered_to-zero : (a b spare : ℕ) → opened a b a + 2 < spare → lowered_to a b spare 0 ≡ 0
 lowered_to-zero a b spare small = grind (arith, nat_tests)

@@ -46,22 +46,11 @@ AreRisen-finger a b apart over under = record {
 -- the first two of the three parts of each of the two arcs
 pub IsInner-finger : (crossings : List (List ℕ)) (a b x k : ℕ) → a ≢ b → IsOneOf a b x → IsArc crossings x → k < 2
     → IsInner crossings (low a b) (opened a b x + k)
-IsInner-finger crossings a b x k apart one is below = record {
-  is_arc = subst (λ (z : ℕ). IsArc crossings z) (sym (here a b x k apart one below)) is;
-  same = same a b x k apart one below;
-}
-  where
-    here : (a b x k : ℕ) → a ≢ b → IsOneOf a b x → k < 2 → low a b (opened a b x + k) ≡ x
-    here a b x k apart one below = grind (arith, nat_tests)
-
-    same : (a b x k : ℕ) → a ≢ b → IsOneOf a b x → k < 2 → low a b (opened a b x + k + 1) ≡ low a b (opened a b x + k)
-    same a b x k apart one below = grind (arith, nat_tests)
+IsInner-finger crossings a b x k apart one is below = grind (arith, nat_tests)
 
 pub IsInner-start : (crossings : List (List ℕ)) (a b x : ℕ) → a ≢ b → IsOneOf a b x → IsArc crossings x
     → IsInner crossings (low a b) (opened a b x)
-IsInner-start crossings a b x apart one is =
-    let e : opened a b x + 0 ≡ opened a b x = omega arith in
-    subst (λ (y : ℕ). IsInner crossings (low a b) y) e (IsInner-finger crossings a b x 0 apart one is (omega arith))
+IsInner-start crossings a b x apart one is = grind (arith, nat_tests)
 
 -- the last part of each of the two arcs, and of the others
 pub head_number-own : (a b x : ℕ) → IsOneOf a b x → head_number a b x ≡ opened a b x + 1 + 1
@@ -75,16 +64,10 @@ abbrev pub finger_sign : List (List ℕ) → Bool → ℕ → Bool
 finger_sign crossings positive k = if nat_eq k (length crossings + 1) then positive else not positive
 
 sign-first_is : (crossings : List (List ℕ)) (positive : Bool) → finger_sign crossings positive (length crossings + 1) ≡ positive
-sign-first_is crossings positive = plain (length crossings) positive (not positive)
-  where
-    plain : (n : ℕ) (x y : Bool) → (if nat_eq (n + 1) (n + 1) then x else y) ≡ x
-    plain n x y = grind (arith, nat_tests)
+sign-first_is crossings positive = grind (arith, nat_tests)
 
 sign-second_is : (crossings : List (List ℕ)) (positive : Bool) → finger_sign crossings positive (length crossings + 2) ≡ not positive
-sign-second_is crossings positive = plain (length crossings) positive (not positive)
-  where
-    plain : (n : ℕ) (x y : Bool) → (if nat_eq (n + 2) (n + 1) then x else y) ≡ y
-    plain n x y = grind (arith, nat_tests)
+sign-second_is crossings positive = grind (arith, nat_tests)
 
 pub IsNew-finger : (crossings : List (List ℕ)) (a b k : ℕ) (positive ordered : Bool) → 1 ≤ k → k ≤ 2
     → IsNew crossings (fingered_crossings crossings a b positive ordered) (length crossings + k)
@@ -229,10 +212,4 @@ plus_count-fingered crossings a b positive ordered can =
 
 pub minus_count-fingered : (crossings : List (List ℕ)) (a b : ℕ) (positive ordered : Bool) → AreFingerable crossings a b
     → minus_count (fingered_crossings crossings a b positive ordered) ≡ minus_count crossings + 1
-minus_count-fingered crossings a b positive ordered can =
-    omega (
-      arith,
-      plus_count-fingered crossings a b positive ordered can,
-      length-fingered crossings a b positive ordered,
-      plus_count-le crossings,
-    )
+minus_count-fingered crossings a b positive ordered can = grind (arith, nat_tests, plus_count-fingered, length-fingered, plus_count-le)

@@ -29,15 +29,7 @@ with_bit-low : (k c b state : ℕ) → c ≤ k → state < 2 ^ k → with_bit (s
 with_bit-low k c b state within below = grind (arith, nat_tests)
 
 with_bit-high : (k c b state : ℕ) → c ≤ k → with_bit (suc k) c b (2 ^ k + state) ≡ 2 ^ (suc k) + with_bit k c b state
-with_bit-high k c b state within =
-    let e : 2 ^ k + state - 2 ^ k ≡ state = omega arith in
-    plain k c b (2 ^ k) state within ∙ ap (λ s. 2 ^ (suc k) + with_bit k c b s) e
-  where
-    plain : (k c b power state : ℕ) → c ≤ k
-        → cond (nat_eq c (suc k)) (b * 2 ^ (suc k) + (power + state))
-        (cond (nat_lt (power + state) power) (with_bit k c b (power + state)) (2 ^ (suc k) + with_bit k c b (power + state - power)))
-        ≡ 2 ^ (suc k) + with_bit k c b (power + state - power)
-    plain k c b power state within = grind (arith, nat_tests)
+with_bit-high k c b state within = grind (arith, nat_tests)
 
 last_or_within : (c k : ℕ) → c ≤ suc k → (c ≡ suc k) ⊎ (c ≤ k)
 last_or_within c k within = grind arith
@@ -109,10 +101,7 @@ early-same : (c k i : ℕ) → c ≤ k → i < k → early c (suc k) i ≡ early
 early-same c k i within below = grind (arith, nat_tests)
 
 early-last : (c k : ℕ) → c ≤ k → early c (suc k) k ≡ suc k
-early-last c k within = early-next c k within ∙ omega arith
-  where
-    early-next : (c k : ℕ) → c ≤ k → early c (suc k) k ≡ k + 1
-    early-next c k within = grind (arith, nat_tests)
+early-last c k within = grind (arith, nat_tests)
 
 early-top : (c k i : ℕ) → c ≡ k → i < k → early c k i ≡ i
 early-top c k i is below = grind (arith, nat_tests)
@@ -137,14 +126,10 @@ HasBit-with_bit zero c b state within b_below below =
     }
   where
     lowest : (b : ℕ) → b < 2 → bit b 0 ≡ b
-    lowest zero below = refl
-    lowest (suc zero) below = refl
-    lowest (suc (suc b)) below = absurd (omega (arith, below))
+    lowest b below = omega arith
 
     one_bit : (b : ℕ) → b < 2 → ones 1 b ≡ 0 + b
-    one_bit zero below = refl
-    one_bit (suc zero) below = refl
-    one_bit (suc (suc b)) below = absurd (omega (arith, below))
+    one_bit b below = omega arith
 HasBit-with_bit (suc k) c b state within b_below below = elim (last_or_within c k within) [
   | inl top ↦ elim (zero_or_one b b_below) [
     | inl zero_is ↦

@@ -85,10 +85,7 @@ arc_of_dart-dartwise crossings f x = grind (arith, nat_tests, dartwise f x, bloc
 
 pub length-kept : (crossings : List (List ℕ)) (gone : ℕ → Bool) (kept : ℕ → ℕ) (k : ℕ)
     → kept_places crossings gone ≡ map kept (range_with_len 0 k) → length (kept_crossings crossings gone) ≡ k
-length-kept crossings gone kept k are =
-    length-map (kept_places crossings gone)
-    (λ place. renamed_slots (straight_names crossings gone) (slots_in crossings place))
-    ∙ ap length are ∙ length-map-range_with_len kept 0 k
+length-kept crossings gone kept k are = grind (arith, nat_tests, length-map, length-map-range_with_len)
 
 pub kept-slots : (crossings : List (List ℕ)) (gone : ℕ → Bool) (kept : ℕ → ℕ) (k i : ℕ)
     → kept_places crossings gone ≡ map kept (range_with_len 0 k) → i < k
@@ -102,10 +99,7 @@ kept-slots crossings gone kept k i are below =
 pub kept-name : (crossings : List (List ℕ)) (gone : ℕ → Bool) (kept : ℕ → ℕ) (k x : ℕ)
     → kept_places crossings gone ≡ map kept (range_with_len 0 k) → x < 4 * k
     → arc_of_dart (kept_crossings crossings gone) x ≡ class_name crossings gone (dartwise kept x)
-kept-name crossings gone kept k x are below =
-    ap (λ slots. arc_in slots (x % 4)) (kept-slots crossings gone kept k (x / 4) are (omega (arith, below)))
-    ∙ renamed_slots-at (straight_names crossings gone) (slots_in crossings (kept (x / 4))) (x % 4) (omega arith)
-    ∙ ap (slice_index (straight_names crossings gone)) (sym (arc_of_dart-dartwise crossings kept x))
+kept-name crossings gone kept k x are below = grind (arith, nat_tests, kept-slots, renamed_slots-at, arc_of_dart-dartwise)
 
 pub kept-sign : (crossings : List (List ℕ)) (gone : ℕ → Bool) (kept : ℕ → ℕ) (k i : ℕ)
     → kept_places crossings gone ≡ map kept (range_with_len 0 k) → i < k

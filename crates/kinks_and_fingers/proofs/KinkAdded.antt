@@ -32,39 +32,14 @@ cut-high : (n : ℕ) (partner : ℕ → ℕ) (x z : ℕ) → 4 * n ≤ z → wit
 cut-high n partner x z high = grind (arith, nat_tests)
 
 IsPairing-bare : (n : ℕ) (partner : ℕ → ℕ) → IsPairing (4 * n) partner → IsPairing (4 * (n + 1)) (with_bare n partner)
-IsPairing-bare n partner pairing = record {
-  below = λ z below. within n partner z below (pairing.below z);
-  back = λ z below. back n partner z (pairing.below z) (pairing.back z);
-}
-  where
-    within : (n : ℕ) (partner : ℕ → ℕ) (z : ℕ) → z < 4 * (n + 1) → (z < 4 * n → partner z < 4 * n) → with_bare n partner z < 4 * (n + 1)
-    within n partner z below low = grind (arith, nat_tests)
-
-    back : (n : ℕ) (partner : ℕ → ℕ) (z : ℕ) → (z < 4 * n → partner z < 4 * n) → (z < 4 * n → partner (partner z) ≡ z)
-        → with_bare n partner (with_bare n partner z) ≡ z
-    back n partner z low there = grind (arith, nat_tests)
+IsPairing-bare n partner pairing = grind (arith, nat_tests)
 
 IsPart-bare_cut : (n : ℕ) (partner : ℕ → ℕ) (x m : ℕ) → IsPart m (with_bare_cut n partner x) (with_bare n partner)
-IsPart-bare_cut n partner x m z below = plain n partner x z
-  where
-    plain : (n : ℕ) (partner : ℕ → ℕ) (x z : ℕ)
-        → (with_bare_cut n partner x z ≡ with_bare n partner z) ⊎ (with_bare_cut n partner x z ≡ z)
-    plain n partner x z = grind (arith, nat_tests)
+IsPart-bare_cut n partner x m = grind (arith, nat_tests)
 
 IsPairing-bare_cut : (n : ℕ) (partner : ℕ → ℕ) (x : ℕ) → IsPairing (4 * n) partner → x < 4 * n
     → IsPairing (4 * (n + 1)) (with_bare_cut n partner x)
-IsPairing-bare_cut n partner x pairing x_below = record {
-  below = λ z below. within n partner x z below (pairing.below z);
-  back = λ z below. back n partner x z (pairing.below z) (pairing.back z) (pairing.back x x_below);
-}
-  where
-    within : (n : ℕ) (partner : ℕ → ℕ) (x z : ℕ) → z < 4 * (n + 1) → (z < 4 * n → partner z < 4 * n)
-        → with_bare_cut n partner x z < 4 * (n + 1)
-    within n partner x z below low = grind (arith, nat_tests)
-
-    back : (n : ℕ) (partner : ℕ → ℕ) (x z : ℕ) → (z < 4 * n → partner z < 4 * n) → (z < 4 * n → partner (partner z) ≡ z)
-        → partner (partner x) ≡ x → with_bare_cut n partner x (with_bare_cut n partner x z) ≡ z
-    back n partner x z low there back_x = grind (arith, nat_tests)
+IsPairing-bare_cut n partner x pairing x_below = grind (arith, nat_tests)
 
 -- a bare crossing is in no piece with others, and all its darts are on one face
 
@@ -78,10 +53,7 @@ old_one : (n : ℕ) → is_old n n ≡ 1
 old_one n = grind (arith, nat_tests)
 
 cut-stays : (n : ℕ) (partner : ℕ → ℕ) (x z : ℕ) → IsPairing (4 * n) partner → z < 4 * n → with_bare_cut n partner x z < 4 * n
-cut-stays n partner x z pairing low = plain n partner x z low (pairing.below z low)
-  where
-    plain : (n : ℕ) (partner : ℕ → ℕ) (x z : ℕ) → z < 4 * n → partner z < 4 * n → with_bare_cut n partner x z < 4 * n
-    plain n partner x z low there = grind (arith, nat_tests)
+cut-stays n partner x z pairing low = grind (arith, nat_tests)
 
 bare-alone : (n : ℕ) (partner : ℕ → ℕ) (x z : ℕ) → IsPairing (4 * n) partner → x < 4 * n → z < 4 * n
     → slice_index (open_pieces (n + 1) (with_bare_cut n partner x)) (z / 4) ≡ slice_index (open_pieces (n + 1) (with_bare_cut n partner x)) n
@@ -137,13 +109,7 @@ merged-second a b c same = grind (arith, nat_tests)
 
 pub AreKinked-kinked : (n : ℕ) (partner : ℕ → ℕ) (x u w v s : ℕ) → IsClosedPlanar n partner → x < 4 * n → AreNew n u w v s
     → AreKinked n partner x u w v s (kinked n partner x u w v s)
-AreKinked-kinked n partner x u w v s closed x_below new =
-    plain n partner x u w v s x_below (closed.pairing.below x x_below) (closed.other x x_below) new.u_from new.w_from new.v_from new.s_from
-    new.u_w new.u_v new.u_s new.w_v new.w_s new.v_s
-  where
-    plain : (n : ℕ) (partner : ℕ → ℕ) (x u w v s : ℕ) → x < 4 * n → partner x < 4 * n → partner x ≢ x → 4 * n ≤ u → 4 * n ≤ w → 4 * n ≤ v
-        → 4 * n ≤ s → u ≢ w → u ≢ v → u ≢ s → w ≢ v → w ≢ s → v ≢ s → AreKinked n partner x u w v s (kinked n partner x u w v s)
-    plain n partner x u w v s x_low y_low y_x u_high w_high v_high s_high u_w u_v u_s w_v w_s v_s = grind (arith, nat_tests)
+AreKinked-kinked n partner x u w v s closed x_below new = grind (arith, nat_tests)
 
 pub IsClosedPlanar-kinked : (n : ℕ) (partner : ℕ → ℕ) (x u w v s : ℕ) → IsClosedPlanar n partner → x < 4 * n → AreNew n u w v s
     → IsClosedPlanar (n + 1) (kinked n partner x u w v s)

@@ -115,8 +115,7 @@ plus-kept code c below =
 -- terms
 
 pub term-is : (plus minus : ℕ) (exponent : ℤ) (r circles : ℕ) → kh.term_of plus minus exponent r circles ≡ term_at plus minus exponent r circles
-term-is plus minus exponent r circles =
-    signed_by-difference r minus (circle_coefficient circles ((exponent -ℤ pos (r + plus)) +ℤ pos (2 * minus)))
+term-is plus minus exponent r circles = grind (arith, nat_tests)
 
 pub sums-alike : (f g : ℕ → ℤ) (a n : ℕ) → ((state : ℕ) → a ≤ state → state < a + n → f state ≡ g state)
     → int_sum (map f (range_with_len a n)) ≡ int_sum (map g (range_with_len a n))
@@ -211,8 +210,4 @@ state_sum-without_kink code c p is kink exponent =
         → kh.term_of plus minus exponent r0 c0 +ℤ kh.term_of plus minus exponent r1 c1
         ≡ term_at new_plus new_minus exponent s0 d0 +ℤ term_at new_plus new_minus exponent s1 d1
     four_terms plus minus new_plus new_minus exponent r0 c0 r1 c1 s0 s1 d0 d1 plus_is minus_is r0_is r1_is c0_is c1_is =
-        ap₂ (λ x y. x +ℤ y)
-        (term-is plus minus exponent r0 c0 ∙ ap₂ (λ p m. term_at p m exponent r0 c0) plus_is minus_is
-        ∙ ap₂ (λ r c. term_at new_plus new_minus exponent r c) r0_is c0_is)
-        (term-is plus minus exponent r1 c1 ∙ ap₂ (λ p m. term_at p m exponent r1 c1) plus_is minus_is
-        ∙ ap₂ (λ r c. term_at new_plus new_minus exponent r c) r1_is c1_is)
+        grind (arith, nat_tests, term-is, term_at)

@@ -54,18 +54,11 @@ pair_of partner x = min x (partner x)
 
 pub pair_of-partner : (m : ℕ) (partner : ℕ → ℕ) → IsPairing m partner → (x : ℕ) → x < m
     → pair_of partner (partner x) ≡ pair_of partner x
-pair_of-partner m partner pairing x below = plain partner x (pairing.back x below)
-  where
-    plain : (partner : ℕ → ℕ) (x : ℕ) → partner (partner x) ≡ x → pair_of partner (partner x) ≡ pair_of partner x
-    plain partner x back = grind (arith, nat_tests)
+pair_of-partner m partner pairing x below = omega arith
 
 pub pair_of-same : (m : ℕ) (partner : ℕ → ℕ) → IsPairing m partner → (x y : ℕ) → x < m → y < m
     → pair_of partner x ≡ pair_of partner y → (y ≡ x) ⊎ (y ≡ partner x)
-pair_of-same m partner pairing x y x_below y_below same = plain partner x y (pairing.back x x_below) (pairing.back y y_below) same
-  where
-    plain : (partner : ℕ → ℕ) (x y : ℕ) → partner (partner x) ≡ x → partner (partner y) ≡ y → pair_of partner x ≡ pair_of partner y
-        → (y ≡ x) ⊎ (y ≡ partner x)
-    plain partner x y back_x back_y same = grind (arith, nat_tests)
+pair_of-same m partner pairing x y x_below y_below same = grind (arith, nat_tests)
 
 -- a test with the other value at two darts
 abbrev pub turned_at : (ℕ → Bool) → ℕ → ℕ → ℕ → Bool
@@ -81,12 +74,7 @@ turned_at-else test v s x not_v not_s = grind (arith, nat_tests)
 pub turned_at-flips : (m : ℕ) (partner : ℕ → ℕ) (test : ℕ → Bool) (v s : ℕ) → IsPairing m partner → v < m → partner v ≡ s
     → ((x : ℕ) → x < m → test (partner x) ≡ not (test x))
     → (x : ℕ) → x < m → turned_at test v s (partner x) ≡ not (turned_at test v s x)
-turned_at-flips m partner test v s pairing v_below mates flips x below =
-    plain partner test v s x mates (pairing.back v v_below) (pairing.back x below) (flips x below)
-  where
-    plain : (partner : ℕ → ℕ) (test : ℕ → Bool) (v s x : ℕ) → partner v ≡ s → partner (partner v) ≡ v → partner (partner x) ≡ x
-        → test (partner x) ≡ not (test x) → turned_at test v s (partner x) ≡ not (turned_at test v s x)
-    plain partner test v s x mates back_v back_x flips = grind (arith, nat_tests)
+turned_at-flips m partner test v s pairing v_below mates flips x below = grind (arith, nat_tests)
 
 pub twice_not : (b : Bool) → not (not b) ≡ b
 twice_not b = grind (arith, nat_tests)
@@ -100,11 +88,7 @@ kink-partner crossings c p twice kink =
     (arc_of_dart-in crossings c (p + 1) ∙ sym kink.same ∙ sym (ap (arc_by_place crossings c) e) ∙ sym (arc_of_dart-in crossings c p))
 
 pub early-away : (c k q x : ℕ) → c ≤ k → x < 4 * k → early_dart c k x ≢ dart_in c q
-early-away c k q x within below same =
-    not_last c k (x / 4) within (omega (arith, below)) (sym (block_place (early c k (x / 4)) x) ∙ ap (λ z. z / 4) same ∙ dart_in-place c q)
-  where
-    not_last : (c k x : ℕ) → c ≤ k → x < k → early c k x ≡ c → ⊥
-    not_last c k x within below is = grind (arith, nat_tests)
+early-away c k q x within below = grind (arith, nat_tests)
 
 pub IsDropped-kink : (code : Code) (choice k c p : ℕ) → IsTrue (accepted code) → IsColoured code.crossings choice
     → length code.crossings ≡ k + 1 → HasKinkAt code.crossings c p

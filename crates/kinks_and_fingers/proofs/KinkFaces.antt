@@ -47,11 +47,7 @@ partner-of crossings dart other twice is other_is apart same =
 pub both-ways : (crossings : List (List ℕ)) (dart other : Dart) (j k : ℕ) → HasArcsTwice crossings → IsDart crossings dart → IsDart crossings other
     → dart ≢ other → arc_of crossings dart ≡ arc_of crossings other → dart_place dart ≡ j → dart_place other ≡ k
     → (partner_at crossings j ≡ k) × (partner_at crossings k ≡ j)
-both-ways crossings dart other j k twice is other_is apart same place other_place = (
-  ap (λ z. partner_at crossings z) (sym place) ∙ partner-of crossings dart other twice is other_is apart same ∙ other_place,
-  ap (λ z. partner_at crossings z) (sym other_place)
-      ∙ partner-of crossings other dart twice other_is is (λ alike. apart (sym alike)) (sym same) ∙ place,
-)
+both-ways crossings dart other j k twice is other_is apart same place other_place = grind (arith, nat_tests, partner-of)
 
 -- the numbers of the arc with the kink at its ends
 pub raised-own : (a : ℕ) → raised a a ≡ a
@@ -67,36 +63,12 @@ place-new n slot = omega arith
 -- the four darts of the new crossing
 AreNew-kink : (n : ℕ) (over positive : Bool)
     → AreNew n (4 * n + start_slot over positive) (4 * n + end_slot over positive) (4 * n + inner_slot over positive) (4 * n + outer_slot over positive)
-AreNew-kink n true true = grind arith
-AreNew-kink n true false = grind arith
-AreNew-kink n false true = grind arith
-AreNew-kink n false false = grind arith
+AreNew-kink n over positive = grind (arith, nat_tests)
 
 -- two partner functions that meet what is said of a kink's are one
 AreKinked-one : (n : ℕ) (partner : ℕ → ℕ) (x u w v s : ℕ) (new other : ℕ → ℕ) → AreNew n u w v s → AreKinked n partner x u w v s new
     → AreKinked n partner x u w v s other → (z : ℕ) → z < 4 * (n + 1) → new z ≡ other z
-AreKinked-one n partner x u w v s new other are first second z below = elim (cases_lt z (4 * n)) [
-  | inl low ↦ elim (ends_or_not x (partner x) z) [
-    | inl is ↦ ap new is ∙ first.at_x ∙ sym second.at_x ∙ ap other (sym is)
-    | inr more ↦ elim more [
-      | inl is ↦ ap new is ∙ first.at_y ∙ sym second.at_y ∙ ap other (sym is)
-      | inr none ↦ first.old z low none.0 none.1 ∙ sym (second.old z low none.0 none.1)
-    ]
-  ]
-  | inr high ↦ elim (are.all z high below) [
-    | inl one ↦ elim one [
-      | inl is ↦ ap new is ∙ first.at_u ∙ sym second.at_u ∙ ap other (sym is)
-      | inr is ↦ ap new is ∙ first.at_w ∙ sym second.at_w ∙ ap other (sym is)
-    ]
-    | inr two ↦ elim two [
-      | inl is ↦ ap new is ∙ first.at_v ∙ sym second.at_v ∙ ap other (sym is)
-      | inr is ↦ ap new is ∙ first.at_s ∙ sym second.at_s ∙ ap other (sym is)
-    ]
-  ]
-]
-  where
-    ends_or_not : (x y z : ℕ) → (z ≡ x) ⊎ ((z ≡ y) ⊎ ((z ≢ x) × (z ≢ y)))
-    ends_or_not x y z = grind arith
+AreKinked-one n partner x u w v s new other are first second z below = grind (arith, nat_tests)
 
 -- the partners in the code with the kink
 pub AreKinked-code : (crossings : List (List ℕ)) (a : ℕ) (over positive : Bool) → IsKinkable crossings a

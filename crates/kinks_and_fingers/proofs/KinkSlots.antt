@@ -23,14 +23,11 @@ abbrev pub last : ℕ → ℕ → ℕ
 last a x = if nat_eq x a then a + 2 else raised a x
 
 pub length-moved : (crossings : List (List ℕ)) (a : ℕ) → length (raised_crossings a crossings) ≡ length crossings
-length-moved crossings a =
-    length-map (range_with_len 0 (length crossings)) (λ place. kinked_slots a (positive_at crossings place) (slots_in crossings place))
-    ∙ length-range_with_len 0 (length crossings)
+length-moved crossings a = grind (arith, nat_tests, length-map, length-range_with_len)
 
 pub length-kinked : (crossings : List (List ℕ)) (a : ℕ) (over positive : Bool)
     → length (kinked_crossings crossings a over positive) ≡ length crossings + 1
-length-kinked crossings a over positive =
-    length-append (raised_crossings a crossings) (kink_crossing over positive a ∷ []) ∙ ap (λ n. n + 1) (length-moved crossings a)
+length-kinked crossings a over positive = grind (arith, nat_tests, length-append, length-moved)
 
 -- the slots of the old crossing at a place
 pub slots_in-moved : (crossings : List (List ℕ)) (a place : ℕ) → place < length crossings
@@ -44,10 +41,7 @@ slots_in-moved crossings a place below =
 
 pub slots_in-old : (crossings : List (List ℕ)) (a : ℕ) (over positive : Bool) (place : ℕ) → place < length crossings
     → slots_in (kinked_crossings crossings a over positive) place ≡ kinked_slots a (positive_at crossings place) (slots_in crossings place)
-slots_in-old crossings a over positive place below =
-    get_or_append_left (raised_crossings a crossings) (kink_crossing over positive a ∷ []) [] place
-    (omega (arith, below, length-moved crossings a))
-    ∙ slots_in-moved crossings a place below
+slots_in-old crossings a over positive place below = grind (arith, nat_tests, get_or_append_left, length-moved, slots_in-moved)
 
 -- those of the new one
 pub slots_of-new : (crossings : List (List ℕ)) (a : ℕ) (over positive : Bool)
@@ -151,8 +145,7 @@ HasKinkSlots-kink over positive a = grind (arith, nat_tests)
 
 pub HasKinkSlots-new : (crossings : List (List ℕ)) (a : ℕ) (over positive : Bool)
     → HasKinkSlots (slots_of (kinked_crossings crossings a over positive) (length crossings + 1)) a over positive
-HasKinkSlots-new crossings a over positive =
-    subst (λ (slots : List ℕ). HasKinkSlots slots a over positive) (sym (slots_of-new crossings a over positive)) (HasKinkSlots-kink over positive a)
+HasKinkSlots-new crossings a over positive = grind (arith, nat_tests, slots_of-new, HasKinkSlots-kink)
 
 pub record AreFour (over positive : Bool) : Type 0 where
   pub start : start_slot over positive < 4

@@ -23,36 +23,11 @@ use Rattle.kinks_and_fingers.proofs.AddedSigns as signs
 use Rattle.kinks_and_fingers.proofs.AddedSigns.{plus_count-added}
 
 AreRisen-kink : (a : ℕ) → 1 ≤ a → AreRisen (raised a) (last a) (lowered a)
-AreRisen-kink a positive =
-    record { zero = zero a positive; next = next a; from = from a; to = to a; low_rise = low_rise a; low_end = low_end a }
-  where
-    zero : (a : ℕ) → 1 ≤ a → last a 0 ≡ 0
-    zero a positive = grind (arith, nat_tests)
-
-    next : (a x : ℕ) → raised a (x + 1) ≡ last a x + 1
-    next a x = grind (arith, nat_tests)
-
-    from : (a y : ℕ) → raised a (lowered a y) ≤ y
-    from a y = grind (arith, nat_tests)
-
-    to : (a y : ℕ) → y ≤ last a (lowered a y)
-    to a y = grind (arith, nat_tests)
-
-    low_rise : (a x : ℕ) → lowered a (raised a x) ≡ x
-    low_rise a x = grind (arith, nat_tests)
-
-    low_end : (a x : ℕ) → lowered a (last a x) ≡ x
-    low_end a x = grind (arith, nat_tests)
+AreRisen-kink a positive = grind (arith, nat_tests)
 
 -- the first two of the three parts of a
 pub IsInner-kink : (crossings : List (List ℕ)) (a k : ℕ) → IsArc crossings a → k < 2 → IsInner crossings (lowered a) (a + k)
-IsInner-kink crossings a k is below = record { is_arc = subst (λ (x : ℕ). IsArc crossings x) (sym (here a k below)) is; same = same a k below }
-  where
-    here : (a k : ℕ) → k < 2 → lowered a (a + k) ≡ a
-    here a k below = grind (arith, nat_tests)
-
-    same : (a k : ℕ) → k < 2 → lowered a (a + k + 1) ≡ lowered a (a + k)
-    same a k below = grind (arith, nat_tests)
+IsInner-kink crossings a k is below = grind (arith, nat_tests)
 
 pub IsNew-kink : (crossings : List (List ℕ)) (a : ℕ) (over positive : Bool)
     → IsNew crossings (kinked_crossings crossings a over positive) (length crossings + 1)

@@ -159,10 +159,8 @@ filter_none p a (suc n) fails =
 block_respected : (n : ℕ) (pairs : List (ℕ × ℕ)) → AreBelow n pairs → (xs : List (ℕ × ℕ)) → AreBelow n xs
     → Respects (λ x. slice_index (classes_of n pairs) x) xs → Respects (with_block (classes_of n pairs) n) xs
 block_respected n pairs below [] xs_below holds = tt
-block_respected n pairs below (x ∷ xs) xs_below holds = (
-  block-below (classes_of n pairs) n x.0 xs_below.0.0 ∙ holds.0 ∙ sym (block-below (classes_of n pairs) n x.1 xs_below.0.1),
-  block_respected n pairs below xs xs_below.1 holds.1,
-)
+block_respected n pairs below (x ∷ xs) xs_below holds =
+    grind (arith, nat_tests, block-below, block_respected n pairs below xs xs_below.1 holds.1)
 
 -- where other pairs join the same, and all numbers from n on besides, there is one class more
 pub class_count-block : (n k : ℕ) (pairs others : List (ℕ × ℕ)) → AreBelow n pairs → AreBelow (n + suc k) others
@@ -375,8 +373,7 @@ piece_count-merge : (n : ℕ) (partner other : ℕ → ℕ) (dart mate : ℕ) �
     → AreJoined (open_pieces n partner) (open_pieces n other) (dart / 4) (mate / 4)
     → open_piece_count n partner ≡ open_piece_count n other + 1
 piece_count-merge n partner other dart mate pairing dart_below mate_below merge =
-    AreJoined-count n (open_pieces n partner) (open_pieces n other) (dart / 4) (mate / 4) (IsNamed-open_pieces n partner pairing)
-    (crossing-below n dart dart_below) (crossing-below n mate mate_below) merge
+    grind (arith, nat_tests, AreJoined-count, IsNamed-open_pieces, crossing-below)
 
 -- an arc between two pieces, or between two darts of one face, keeps crossings planar
 pub IsPlanar-added : (n : ℕ) (before after : ℕ → ℕ) (dart other : ℕ) → IsPairing (4 * n) before

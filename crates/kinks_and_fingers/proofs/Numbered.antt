@@ -40,8 +40,7 @@ pub record IsNumbering (crossings : List (List ℕ)) (first : ℕ → ℕ) : Typ
 -- a number is joined with the first of its run
 down : (crossings : List (List ℕ)) (first : ℕ → ℕ) → IsNumbering crossings first → (x : ℕ) → x ≤ arc_count crossings
     → component_of (components_of crossings) x ≡ component_of (components_of crossings) (first x)
-down crossings first is zero within =
-    let e : first 0 ≡ 0 = omega (arith, is.least 0 (omega arith)) in ap (λ z. component_of (components_of crossings) z) (sym e)
+down crossings first is zero within = grind (arith, nat_tests)
 down crossings first is (suc x) within =
     grind (arith, nat_tests, cases_lt (first (suc x)) (suc x), down crossings first is x (omega (arith, within)))
 

@@ -19,23 +19,15 @@ use Rattle.kinks_and_fingers.specs.Pulls.{IsClosedPlanar, dart_in}
 use Rattle.kinks_and_fingers.proofs.DroppedDarts.{is_code_head, is_colour}
 
 pub arc_of_dart-arc_of : (crossings : List (List ℕ)) (x : ℕ) → arc_of crossings (dart_at x) ≡ arc_of_dart crossings x
-arc_of_dart-arc_of crossings x =
-    let e : x / 4 + 1 - 1 ≡ x / 4 = omega arith in ap (λ q. arc_by_place crossings q (x % 4)) e
+arc_of_dart-arc_of crossings x = grind (arith, nat_tests)
 
 pub IsClosedPlanar-accepted : (code : Code) → IsTrue (accepted code) → IsClosedPlanar (length code.crossings) (partner_at code.crossings)
 IsClosedPlanar-accepted code is =
-    let twice = HasArcsTwice-accepted code is in
-    record {
-      pairing = IsPairing-partner_at code.crossings twice;
-      other = λ x below. (IsOtherPlace-partner_at code.crossings x twice below).differs;
-      planar = IsPlanar-accepted code is;
-    }
+    grind (arith, nat_tests, HasArcsTwice-accepted, IsPairing-partner_at, IsOtherPlace-partner_at, IsPlanar-accepted)
 
 pub arc_of_dart-partner : (crossings : List (List ℕ)) → HasArcsTwice crossings → (x : ℕ) → x < 4 * length crossings
     → arc_of_dart crossings (partner_at crossings x) ≡ arc_of_dart crossings x
-arc_of_dart-partner crossings twice x below =
-    sym (arc_of_dart-arc_of crossings (partner_at crossings x)) ∙ (IsOtherPlace-partner_at crossings x twice below).same_arc
-    ∙ arc_of_dart-arc_of crossings x
+arc_of_dart-partner crossings twice x below = grind (arith, nat_tests, arc_of_dart-arc_of, IsOtherPlace-partner_at)
 
 -- two darts of one name, which are not one, are partners
 pub partner-named : (crossings : List (List ℕ)) → HasArcsTwice crossings → (x y : ℕ) → x < 4 * length crossings
@@ -126,15 +118,7 @@ heads-across crossings c q =
     head-in crossings c q = grind (arith, nat_tests, place_in c q, dart_in-slot c q)
 
 pub colours-next : (choice c q : ℕ) → is_colour choice (dart_in c q) ≡ not (is_colour choice (dart_in c (q + 1)))
-colours-next choice c q =
-    colour-in choice c q ∙ flip (bit choice c + q % 4) (bit choice c + (q + 1) % 4) (differ (bit choice c) q)
-    ∙ ap not (sym (colour-in choice c (q + 1)))
-  where
-    colour-in : (choice c q : ℕ) → is_colour choice (dart_in c q) ≡ nat_eq ((bit choice c + q % 4) % 2) 1
-    colour-in choice c q = grind (arith, nat_tests, place_in c q, dart_in-slot c q)
-
-    differ : (b q : ℕ) → (b + q % 4) % 2 ≡ (b + (q + 1) % 4) % 2 → ⊥
-    differ b q same = omega (arith, same)
+colours-next choice c q = grind (arith, nat_tests)
 
 pub dart_in-next : (c q : ℕ) → dart_in c (q + 4) ≡ dart_in c q
 dart_in-next c q = omega arith

@@ -30,10 +30,4 @@ HasPasses-crossing_with positive u v s t = grind (arith, nat_tests)
 -- a slot is at one of the four ends of the passes
 pub slot_of_pass : (P : ℕ → Type 0) (slots : List ℕ) (positive : Bool) (u v s t slot : ℕ) → HasPasses slots positive u v s t
     → P u → P v → P s → P t → slot < 4 → P (arc_in slots slot)
-slot_of_pass P slots positive u v s t zero passes at_u at_v at_s at_t below = subst P (sym passes.under_from) at_u
-slot_of_pass P slots true u v s t (suc zero) passes at_u at_v at_s at_t below = subst P (sym passes.over_to) at_t
-slot_of_pass P slots false u v s t (suc zero) passes at_u at_v at_s at_t below = subst P (sym passes.over_from) at_s
-slot_of_pass P slots positive u v s t (suc (suc zero)) passes at_u at_v at_s at_t below = subst P (sym passes.under_to) at_v
-slot_of_pass P slots true u v s t (suc (suc (suc zero))) passes at_u at_v at_s at_t below = subst P (sym passes.over_from) at_s
-slot_of_pass P slots false u v s t (suc (suc (suc zero))) passes at_u at_v at_s at_t below = subst P (sym passes.over_to) at_t
-slot_of_pass P slots positive u v s t (suc (suc (suc (suc slot)))) passes at_u at_v at_s at_t below = absurd (omega (arith, below))
+slot_of_pass P slots positive u v s t slot passes at_u at_v at_s at_t below = grind (arith, nat_tests)

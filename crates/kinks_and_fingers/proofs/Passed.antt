@@ -28,10 +28,7 @@ pub record IsStep (first : ℕ → ℕ) (u v : ℕ) : Type 0 where
 
 -- a step inside a run
 pub IsStep-inside : (first : ℕ → ℕ) (u : ℕ) → first (u + 1) ≡ first u → IsStep first u (u + 1)
-IsStep-inside first u same = record { same = same; follows = inside (first (u + 1)) (first u) (u + 1) same }
-  where
-    inside : (x y k : ℕ) → x ≡ y → k ≡ (if nat_eq x y then k else y)
-    inside x y k same = grind (arith, nat_tests)
+IsStep-inside first u same = grind (arith, nat_tests)
 
 -- a crossing has a pass from one arc to another, in either direction
 abbrev pub HasPass : List (List ℕ) → ℕ → ℕ → ℕ → Type 0

@@ -43,32 +43,10 @@ pub record AreHeld (m : ℕ) (partner : ℕ → ℕ) (s t : ℕ) : Type 0 where
 
 pub IsPairing-pulled : (m : ℕ) (partner : ℕ → ℕ) (s t : ℕ) → IsPairing m partner → AreHeld m partner s t
     → IsPairing m (pulled partner s t)
-IsPairing-pulled m partner s t pairing held = record {
-  below = λ p p_below.
-      within partner s t p m p_below (pairing.below p p_below) (pairing.below s held.first_below) (pairing.below t held.second_below);
-  back = λ p p_below.
-      back partner s t p held.apart held.first_held held.second_held (pairing.back p p_below) (pairing.back s held.first_below)
-      (pairing.back t held.second_below);
-}
-  where
-    within : (partner : ℕ → ℕ) (s t p m : ℕ) → p < m → partner p < m → partner s < m → partner t < m → pulled partner s t p < m
-    within partner s t p m p_below to_p to_s to_t = grind (arith, nat_tests)
-
-    back : (partner : ℕ → ℕ) (s t p : ℕ) → s ≢ t → partner s ≢ s → partner t ≢ t → partner (partner p) ≡ p → partner (partner s) ≡ s
-        → partner (partner t) ≡ t → pulled partner s t (pulled partner s t p) ≡ p
-    back partner s t p apart s_held t_held back_p back_s back_t = grind (arith, nat_tests)
+IsPairing-pulled m partner s t pairing held = grind (arith, nat_tests)
 
 IsPairing-cut : (m : ℕ) (partner : ℕ → ℕ) (s t : ℕ) → IsPairing m partner → IsPairing m (cut partner s t)
-IsPairing-cut m partner s t pairing = record {
-  below = λ p p_below. within partner s t p m p_below (pairing.below p p_below);
-  back = λ p p_below. back partner s t p (pairing.back p p_below);
-}
-  where
-    within : (partner : ℕ → ℕ) (s t p m : ℕ) → p < m → partner p < m → cut partner s t p < m
-    within partner s t p m p_below to_p = grind (arith, nat_tests)
-
-    back : (partner : ℕ → ℕ) (s t p : ℕ) → partner (partner p) ≡ p → cut partner s t (cut partner s t p) ≡ p
-    back partner s t p back_p = grind (arith, nat_tests)
+IsPairing-cut m partner s t pairing = grind (arith, nat_tests)
 
 IsPart-cut : (m : ℕ) (partner : ℕ → ℕ) (s t : ℕ) → IsPart m (cut partner s t) partner
 IsPart-cut m partner s t p p_below = cut-cases partner s t p
@@ -76,33 +54,12 @@ IsPart-cut m partner s t p p_below = cut-cases partner s t p
 -- where the two darts are not partners, their other ends get an arc
 HasArcMore-pulled : (m : ℕ) (partner : ℕ → ℕ) (s t : ℕ) → IsPairing m partner → AreHeld m partner s t → partner s ≢ t
     → HasArcMore m (cut partner s t) (pulled partner s t) (partner s) (partner t)
-HasArcMore-pulled m partner s t pairing held not_mates =
-    let back_s = pairing.back s held.first_below in
-    let back_t = pairing.back t held.second_below in
-    let not_s : partner t ≢ s = λ same. not_mates (ap partner (sym same) ∙ back_t) in
-    record {
-      dart_below = pairing.below s held.first_below;
-      other_below = pairing.below t held.second_below;
-      apart = λ same. held.apart (sym back_s ∙ ap partner same ∙ back_t);
-      dart_open = cut-there partner s t (partner s) (inr (inl back_s));
-      other_open = cut-there partner s t (partner t) (inr (inr back_t));
-      dart_after = pulled-to_first partner s t (partner s) held.first_held not_mates back_s;
-      other_after = pulled-to_second partner s t (partner t) held.apart not_s held.second_held back_t;
-      others = λ p p_below not_first not_second. others partner s t p not_first not_second (pairing.back p p_below);
-    }
-  where
-    others : (partner : ℕ → ℕ) (s t p : ℕ) → p ≢ partner s → p ≢ partner t → partner (partner p) ≡ p
-        → pulled partner s t p ≡ cut partner s t p
-    others partner s t p not_first not_second back_p = grind (arith, nat_tests)
+HasArcMore-pulled m partner s t pairing held not_mates = grind (arith, nat_tests)
 
 -- where they are partners, their arc goes
 IsPart-pulled : (m : ℕ) (partner : ℕ → ℕ) (s t : ℕ) → IsPairing m partner → AreHeld m partner s t → partner s ≡ t
     → IsPart m (pulled partner s t) partner
-IsPart-pulled m partner s t pairing held mates p p_below = part partner s t p mates (pairing.back p p_below) (pairing.back s held.first_below)
-  where
-    part : (partner : ℕ → ℕ) (s t p : ℕ) → partner s ≡ t → partner (partner p) ≡ p → partner (partner s) ≡ s
-        → (pulled partner s t p ≡ partner p) ⊎ (pulled partner s t p ≡ p)
-    part partner s t p mates back_p back_s = grind (arith, nat_tests)
+IsPart-pulled m partner s t pairing held mates = grind (arith, nat_tests)
 
 IsPart-with : (m : ℕ) (part after whole : ℕ → ℕ) (dart other : ℕ) → IsPart m part whole → HasArcMore m part after dart other
     → whole dart ≡ other → whole other ≡ dart → IsPart m after whole
