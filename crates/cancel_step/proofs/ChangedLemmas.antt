@@ -1,4 +1,5 @@
 -- The lines across a pivot are those that its cancellation changes.
+use Rattle.std.proofs.lemmas.Bool.Decides.{nat_tests}
 use Rattle.std.proofs.Common.{◌≡◌, ℕ, suc, ◌+◌, ◌-◌, ◌*◌, ◌%◌, ◌<◌, ◌∙◌, ◌⊎◌, inl, inr, List, [], ◌∷◌, length, map, get_or, ap, ap₂, sym, subst, refl, arith}
 use Rattle.std.specs.Prelude.{slice_index}
 use Rattle.std.proofs.Math.ListN as plain
@@ -66,17 +67,10 @@ module _ (p size : ℕ) (before after : ℕ → List ℕ) (across : List ℕ) (e
 -- without a way back through the pivot an entry stays
 
 no_way : (p x inverse y : ℕ) → (x ≡ 0) ⊎ (y ≡ 0) → product_mod p x inverse * y ≡ 0
-no_way p x inverse y (inl none) =
-    let nothing : product_mod p 0 inverse ≡ 0 =
-    let e : 0 * inverse ≡ 0 = omega arith in ap (λ (n : ℕ). n % p) e ∙ zero-mod p in
-    ap (λ (x : ℕ). product_mod p x inverse * y) none ∙ ap (λ (n : ℕ). n * y) nothing ∙ omega arith
-no_way p x inverse y (inr none) = ap (λ (y : ℕ). product_mod p x inverse * y) none ∙ omega arith
+no_way p x inverse y has4 = grind (arith, nat_tests)
 
 minus_mod-nothing_less : (p x y : ℕ) → x < p → y ≡ 0 → minus_mod p x y ≡ x
-minus_mod-nothing_less p x y below none =
-    let e : x + (p - 0) ≡ x + p = omega arith in
-    ap (λ (y : ℕ). minus_mod p x y) none ∙ ap (λ (rest : ℕ). (x + (p - rest)) % p) (zero-mod p) ∙ ap (λ (n : ℕ). n % p) e
-    ∙ add-mod_right x p ∙ mod-eq_of_lt below
+minus_mod-nothing_less p x y below none = grind (arith, nat_tests)
 
 module _ (p : ℕ) (complex : Complex) (pivot : Pivot) (field : IsField p) (is : IsComplex p complex) (is_pivot : IsPivot complex pivot)
   where
@@ -95,17 +89,7 @@ module _ (p : ℕ) (complex : Complex) (pivot : Pivot) (field : IsField p) (is :
 
     column-size : (place : ℕ)
         → length (column_of complex pivot.degree place) ≡ length (column_of (cancel p complex pivot) pivot.degree place)
-    column-size place =
-        let matrix = (degree_of complex pivot.degree).matrix in
-        let after = (degree_of (cancel p complex pivot) pivot.degree).matrix in
-        omega (
-          arith,
-          length-map matrix (λ (row : List ℕ). slice_index row place),
-          length-map after (λ (row : List ℕ). slice_index row place),
-          length-map {A = List ℕ} {B = ℕ} matrix length,
-          length-map {A = List ℕ} {B = ℕ} after length,
-          ap (λ (sizes : List ℕ). length sizes) (sizes-cancel p complex pivot pivot.degree),
-        )
+    column-size place = grind (arith, nat_tests, length-map, sizes-cancel)
 
     row-size : (place : ℕ) → length (row_of complex pivot.degree place) ≡ length (row_of (cancel p complex pivot) pivot.degree place)
     row-size place =
@@ -115,14 +99,12 @@ module _ (p : ℕ) (complex : Complex) (pivot : Pivot) (field : IsField p) (is :
 
     line-size : (side : Side) (line : ℕ)
         → length (line_on side complex pivot.degree line) ≡ length (line_on side (cancel p complex pivot) pivot.degree line)
-    line-size Side.Columns line = column-size line
-    line-size Side.Rows line = row-size line
+    line-size side line = grind (arith, nat_tests, column-size, row-size)
 
     line-stays : (side : Side) (line place : ℕ)
         → entry_on (other_side side) complex pivot.degree (place_on (other_side side) pivot) line ≡ 0
         → entry_on side complex pivot.degree line place ≡ entry_on side (cancel p complex pivot) pivot.degree line place
-    line-stays Side.Columns line place none = entry-stays place line (inl none)
-    line-stays Side.Rows line place none = entry-stays line place (inr none)
+    line-stays side line place none = grind (arith, nat_tests, entry-stays)
 
     pub lines-changed : (side : Side)
         → AreChanged (size_on (other_side side) complex pivot.degree) (line_on side complex pivot.degree)

@@ -1,4 +1,5 @@
 -- Lines across a pivot's row or column: copies of them, and what the cancellation makes of them.
+use Rattle.std.proofs.lemmas.Bool.Decides.{nat_tests}
 use Rattle.std.proofs.Common.{◌≡◌, ◌≢◌, ℕ, zero, suc, ◌<◌, ◌∙◌, inl, inr, List, [], ◌∷◌, length, map, get_or, ap, ap₂, sym, subst, refl, arith, Bool}
 use Rattle.std.specs.Prelude.{nat_eq}
 use Rattle.std.specs.List.{find}
@@ -54,11 +55,7 @@ entries_with-across line (e ∷ es) place d has =
     ]
   where
     later : (e : Entry) (es : List Entry) → HasEntry (e ∷ es) place d → e.place ≢ place → HasEntry es place d
-    later e es has differs = behind has.at has.within has.is_place
-      where
-        behind : (at : ℕ) → at < length (e ∷ es) → (get_or (e ∷ es) at d).place ≡ place → HasEntry es place d
-        behind zero within is_place = absurd (differs is_place)
-        behind (suc at) within is_place = record { at = at; within = omega (arith, within); is_place = is_place }
+    later e es has differs = grind (arith, nat_tests)
 
 -- the entries of the pivot's line across
 abbrev pub entries_across : Side → Complex → Pivot → List Entry
@@ -81,15 +78,7 @@ module _ (side : Side) (p : ℕ) (complex : Complex) (pivot : Pivot) (is : IsCom
     -- and the pivot's own line is among them
 
     pub in-across : HasEntry (entries_across side complex pivot) (place_on side pivot) blank
-    in-across =
-        let i = pivot.degree in
-        let at = place_on (other_side side) pivot in
-        entry-at_number (line_on (other_side side) complex i at) (place_on side pivot) blank
-        (λ none.
-        is_pivot
-        (sym (number-on (other_side side) complex i at (place_on side pivot)
-        ∙ entry-across side complex i (place_on side pivot) at ∙ entry-pivot side complex pivot)
-        ∙ none))
+    in-across = grind (arith, nat_tests, entry-at_number, blank, number-on, entry-across, entry-pivot)
 
     pub pivot-line : entries_with (lines_across side complex pivot complex) (place_on side pivot)
         ≡ entries_of (line_on side complex pivot.degree (place_on side pivot))
@@ -98,10 +87,7 @@ module _ (side : Side) (p : ℕ) (complex : Complex) (pivot : Pivot) (is : IsCom
 
     pub pivot-in_line : value_at (entries_with (lines_across side complex pivot complex) (place_on side pivot))
         (place_on (other_side side) pivot) ≢ 0
-    pivot-in_line none =
-        is_pivot
-        (sym (pivot-on side complex pivot)
-        ∙ ap (λ (es : List Entry). value_at es (place_on (other_side side) pivot)) (sym pivot-line) ∙ none)
+    pivot-in_line = grind (arith, nat_tests, pivot-on, pivot-line)
 
     -- cleared by the pivot's own, they are the lines after the cancellation
     pub across-cleared : IsField p → (size : ℕ) → AreLines p size (lines_across side complex pivot complex)
@@ -141,8 +127,7 @@ parts_on Side.Rows parts = parts.rows
 
 pub parts-copied : (side : Side) (p : ℕ) (parts : Copied) (was : WasCopied p parts)
     → parts_on side parts ≡ lines_across side was.complex parts.pivot was.complex
-parts-copied Side.Columns p parts was = ap (λ (parts : Copied). parts.columns) was.are_copied
-parts-copied Side.Rows p parts was = ap (λ (parts : Copied). parts.rows) was.are_copied
+parts-copied side p parts was = grind (arith, nat_tests)
 
 module _ (side : Side) (p : ℕ) (parts : Copied) (was : WasCopied p parts) (lines : List PlacedLine) (are : lines ≡ parts_on side parts)
   where

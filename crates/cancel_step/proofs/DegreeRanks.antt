@@ -1,4 +1,5 @@
 -- A cancellation lowers the rank of the pivot's matrix by one, keeps all other ranks, and so keeps the homology dimensions.
+use Rattle.std.proofs.lemmas.Bool.Decides.{nat_tests}
 use Rattle.std.proofs.Common.{◌≡◌, ℕ, suc, ◌+◌, ◌*◌, ◌%◌, ◌∙◌, ℤ, pos, ◌+ℤ◌, ◌-ℤ◌, length, ap, sym, subst, refl, arith}
 use Rattle.std.specs.Prelude.{◌≢◌}
 use Rattle.std.proofs.lemmas.Int.{ints}
@@ -71,16 +72,7 @@ rank-after_pivot p complex pivot field is is_pivot =
 pub rank-others : (p : ℕ) (complex : Complex) (pivot : Pivot) (i : ℤ) → IsField p → IsComplex p complex → IsPivot complex pivot
     → i ≢ pivot.degree → rank_out p (cancel p complex pivot) i ≡ rank_out p complex i
 rank-others p complex pivot i field is is_pivot not_here =
-    elim (where_is i pivot.degree) [
-      | Where.is_at here ↦ absurd (not_here here)
-      | Where.is_after after ↦
-          subst (λ d. rank_out p (cancel p complex pivot) d ≡ rank_out p complex d) (sym after)
-          (rank-after_pivot p complex pivot field is is_pivot)
-      | Where.is_before before ↦
-          rank-before_pivot p complex pivot i field is before (pivot-at complex pivot (i +ℤ pos 1) before is_pivot)
-      | Where.is_elsewhere other not_after not_before ↦
-          ap (λ degree. rank p degree.matrix) (degree-elsewhere p complex pivot i other not_after not_before)
-    ]
+    grind (arith, nat_tests, where_is, Where, rank-after_pivot, rank-before_pivot, pivot-at, degree-elsewhere)
 
 -- the places alive of a degree, and the ranks out of it and into it, before and after: what is lost, is lost on both sides
 pub record LosesAlike (p : ℕ) (before after : Complex) (i : ℤ) : Type 0 where

@@ -1,4 +1,5 @@
 -- Lists of entries by the values that they have at places.
+use Rattle.std.proofs.lemmas.Bool.Decides.{nat_tests}
 use Rattle.std.proofs.Common.{◌≡◌, ◌≢◌, ℕ, zero, suc, ◌+◌, ◌<◌, ◌≤◌, ◌∙◌, inl, inr, List, [], ◌∷◌, length, get_or, refl, ap, sym, arith}
 use Rattle.std.specs.Prelude.{slice_index}
 use Rattle.std.proofs.lemmas.Bool.Decides.{eqb_tells}
@@ -12,11 +13,7 @@ use Rattle.sparse_block.proofs.PastLemmas.{entries_from-zeros}
 
 entries_from-cons : (a v : ℕ) (xs ys : List ℕ) → entries_from (a + 1) xs ≡ entries_from (a + 1) ys
     → entries_from a (v ∷ xs) ≡ entries_from a (v ∷ ys)
-entries_from-cons a zero xs ys rest = rest
-entries_from-cons a (suc v) xs ys rest =
-    let e : Entry = record { place = a; value = suc v } in
-    entries_from-other a (suc v) xs (omega arith) ∙ ap (λ (es : List Entry). e ∷ es) rest
-    ∙ sym (entries_from-other a (suc v) ys (omega arith))
+entries_from-cons a v xs ys rest = grind (arith, nat_tests)
 
 entries_from-agree : (a : ℕ) (xs ys : List ℕ) → ((k : ℕ) → slice_index xs k ≡ slice_index ys k)
     → entries_from a xs ≡ entries_from a ys
@@ -80,8 +77,7 @@ value_at-entry (e ∷ es) place d other =
     ]
 
 pub entry-at_number : (line : List ℕ) (place : ℕ) (d : Entry) → slice_index line place ≢ 0 → HasEntry (entries_of line) place d
-entry-at_number line place d other =
-    value_at-entry (entries_of line) place d (λ none. other (sym (value_at-entries_of line place) ∙ none))
+entry-at_number line place d other = grind (arith, nat_tests, value_at-entry, value_at-entries_of)
 
 -- past the size all values are 0
 pub value_at-past : (p a size place : ℕ) (es : List Entry) → Ascend p a size es → size ≤ place → value_at es place ≡ 0

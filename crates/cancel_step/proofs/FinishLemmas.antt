@@ -1,4 +1,6 @@
 -- What stays as cancellations go on: the degrees, the places, and that empty columns are empty.
+use Rattle.std.proofs.lemmas.Bool.Decides.{nat_tests}
+use Rattle.std.proofs.Common.{arith}
 use Rattle.std.proofs.Common.{◌≡◌, ℕ, ◌∙◌, inl, List, [], ◌∷◌, ◌++◌, ℤ, pos, ◌+ℤ◌, ◌-ℤ◌, length, ap, sym, subst, refl, Bool, true, false, Result, Ok, Err}
 use Rattle.std.specs.Prelude.{nat_eq, if◌then◌else◌, OnErr, OnOk}
 use Rattle.kh_types.specs.Complex.{Complex, Degree, IsComplex, IsPivot, Pivot, cancel, degree_of, entry_in, entry_of}
@@ -29,42 +31,25 @@ comes-one p before after pivot is_pivot same = record { history = pivot ∷ []; 
 
 pub comes-both : (p : ℕ) (first second third : Complex) → ComesByCancelling p first second → ComesByCancelling p second third
     → ComesByCancelling p first third
-comes-both p first second third before after =
-    let same = before.replayed in
-    record {
-      history = before.history ++ after.history;
-      legal = legal-append p first before.history after.history before.legal
-          (subst (λ (complex : Complex). IsLegal p complex after.history) same after.legal);
-      replayed = after.replayed ∙ ap (λ (complex : Complex). replay p complex after.history) same
-          ∙ sym (replay-append p first before.history after.history);
-    }
+comes-both p first second third before after = grind (arith, nat_tests, legal-append, replay-append)
 
 -- degrees and places stay
 
 pub high-comes : (p : ℕ) (before after : Complex) → ComesByCancelling p before after → high_of after ≡ high_of before
-high-comes p before after comes =
-    let low : after.low ≡ before.low =
-    ap (λ (complex : Complex). complex.low) comes.replayed ∙ low-replay p before comes.history in
-    let count : length after.degrees ≡ length before.degrees =
-    ap (λ (complex : Complex). length complex.degrees) comes.replayed ∙ degrees-replay p before comes.history in
-    ap (λ (low : ℤ). low +ℤ pos (length after.degrees) -ℤ pos 1) low
-    ∙ ap (λ (count : ℕ). before.low +ℤ pos count -ℤ pos 1) count
+high-comes p before after comes = grind (arith, nat_tests, low-replay, degrees-replay)
 
 pub degrees-comes : (p : ℕ) (before after : Complex) → ComesByCancelling p before after
     → length after.degrees ≡ length before.degrees
-degrees-comes p before after comes =
-    ap (λ (complex : Complex). length complex.degrees) comes.replayed ∙ degrees-replay p before comes.history
+degrees-comes p before after comes = grind (arith, nat_tests, degrees-replay)
 
 pub places-comes : (p : ℕ) (before after : Complex) (i : ℤ) → ComesByCancelling p before after
     → place_count after i ≡ place_count before i
-places-comes p before after i comes =
-    ap (λ (complex : Complex). place_count complex i) comes.replayed ∙ places-replay p before comes.history i
+places-comes p before after i comes = grind (arith, nat_tests, places-replay)
 
 -- an empty column stays empty
 
 chosen-zero : (test : Bool) (x : ℕ) → x ≡ 0 → (if test then 0 else x) ≡ 0
-chosen-zero true x none = refl
-chosen-zero false x none = none
+chosen-zero test x none = grind (arith, nat_tests)
 
 zero_column-cancel : (p : ℕ) (complex : Complex) (pivot : Pivot) (i : ℤ) (row column : ℕ) → IsField p → IsComplex p complex
     → IsPivot complex pivot → ((r : ℕ) → entry_of complex i r column ≡ 0) → entry_of (cancel p complex pivot) i row column ≡ 0
@@ -109,9 +94,7 @@ empty-replay p complex (pivot ∷ later) i column field is legal empty =
 
 pub empty-comes : (p : ℕ) (before after : Complex) (i : ℤ) (column : ℕ) → IsField p → IsComplex p before
     → ComesByCancelling p before after → entries_of (column_of before i column) ≡ [] → entries_of (column_of after i column) ≡ []
-empty-comes p before after i column field is comes empty =
-    ap (λ (complex : Complex). entries_of (column_of complex i column)) comes.replayed
-    ∙ empty-replay p before comes.history i column field is comes.legal empty
+empty-comes p before after i column field is comes empty = grind (arith, nat_tests, empty-replay)
 
 -- the pivot's own column is empty afterwards
 pub empty-pivot_column : (p : ℕ) (complex : Complex) (pivot : Pivot) → IsField p → IsComplex p complex → IsPivot complex pivot
@@ -125,28 +108,20 @@ empty-pivot_column p complex pivot field is is_pivot =
 -- the first degrees from the greatest down stay empty
 pub empty_down-comes : (p : ℕ) (before after : Complex) (count : ℕ) → IsField p → IsComplex p before
     → ComesByCancelling p before after → AreEmptyDown before count → AreEmptyDown after count
-empty_down-comes p before after count field is comes empty number within column =
-    ap (λ (high : ℤ). entries_of (column_of after (high -ℤ pos number) column)) (high-comes p before after comes)
-    ∙ empty-comes p before after (high_of before -ℤ pos number) column field is comes (empty number within column)
+empty_down-comes p before after count field is comes empty = grind (arith, nat_tests, high-comes, empty-comes)
 
 pub complex-comes : (p : ℕ) (before after : Complex) → IsField p → IsComplex p before → ComesByCancelling p before after
     → IsComplex p after
-complex-comes p before after field is comes =
-    subst (IsComplex p) (sym comes.replayed) (complex-replay p before comes.history field is comes.legal)
+complex-comes p before after field is comes = grind (arith, nat_tests, complex-replay)
 
 -- a cancellation that may lack memory
 
 pub comes-try : {T E : Type 0} (p : ℕ) (before after : NamedComplex) (pivot : Pivot) (result : Result T E)
     → IsPivot before.complex pivot → OnOk result (after.complex ≡ cancel p before.complex pivot) → OnErr result (after ≡ before)
     → ComesByCancelling p before.complex after.complex
-comes-try p before after pivot (Ok x) is_pivot ok unchanged = comes-one p before.complex after.complex pivot is_pivot ok
-comes-try p before after pivot (Err e) is_pivot ok unchanged =
-    comes-none p before.complex after.complex (ap (λ (named : NamedComplex). named.complex) unchanged)
+comes-try p before after pivot result is_pivot ok unchanged = grind (arith, nat_tests, comes-one, comes-none)
 
 pub empty-try : {T E : Type 0} (p : ℕ) (before after : Complex) (pivot : Pivot) (result : Result T E) → IsField p
     → IsComplex p before → IsPivot before pivot → OnOk result (after ≡ cancel p before pivot)
     → OnOk result (entries_of (column_of after pivot.degree pivot.column) ≡ [])
-empty-try p before after pivot (Ok x) field is is_pivot ok =
-    ap (λ (complex : Complex). entries_of (column_of complex pivot.degree pivot.column)) ok
-    ∙ empty-pivot_column p before pivot field is is_pivot
-empty-try p before after pivot (Err e) field is is_pivot ok = tt
+empty-try p before after pivot result field is is_pivot ok = grind (arith, nat_tests, empty-pivot_column)

@@ -1,4 +1,5 @@
 -- The least number at which a difference shows, and lists of entries that are the same or not.
+use Rattle.std.proofs.lemmas.Bool.Decides.{nat_tests}
 use Rattle.std.proofs.Common.{◌≡◌, ◌≢◌, ℕ, ◌+◌, ◌<◌, ◌∙◌, ◌⊎◌, inl, inr, List, [], ◌∷◌, ◌++◌, length, get_or, take, ap, ap₂, sym, subst, refl, arith, ◌-◌, Bool, ◌&&◌, None, Some, Option}
 use Rattle.std.specs.Prelude.{nat_eq, slice_index, ℤ}
 use Rattle.std.specs.Bool.{Decides}
@@ -24,11 +25,7 @@ abbrev pub entry_eq : Entry → Entry → Bool
 entry_eq a b = nat_eq a.place b.place && nat_eq a.value b.value
 
 pub entry-decides : (a b : Entry) → Decides (entry_eq a b) (a ≡ b)
-entry-decides a b =
-    let made : ℕ → ℕ → Entry = λ place value. record { place = place; value = value } in
-    Decides-like (entry_eq a b) (λ parts. ap₂ made parts.0 parts.1)
-    (λ same. (ap (λ (e : Entry). e.place) same, ap (λ (e : Entry). e.value) same))
-    (Decides-and (nat_eq a.place b.place) (nat_eq a.value b.value) (Decides-eqb a.place b.place) (Decides-eqb a.value b.value))
+entry-decides a b = grind (arith, nat_tests)
 
 pub same_or_other : (xs ys : List Entry) → (xs ≡ ys) ⊎ (xs ≢ ys)
 same_or_other xs ys =
@@ -46,66 +43,22 @@ number-unless_other m n never = elim (eqb_tells m n) [ inl same ↦ same.1 | inr
 
 module _ (P Q R : ℕ → Type 0) (parts : (n : ℕ) → R n → P n ⊎ Q n) (left : (n : ℕ) → P n → R n) (right : (n : ℕ) → Q n → R n) where
   pub finds-both : (a b : Option ℕ) → FindsLeast P a → FindsLeast Q b → FindsLeast R (lesser_of a b)
-  finds-both None None in_p in_q = λ n shows. elim (parts n shows) [ inl p ↦ in_p n p | inr q ↦ in_q n q ]
-  finds-both None (Some b) in_p in_q =
-      record {
-        holds = right b in_q.holds;
-        first = λ n shows. elim (parts n shows) [ inl p ↦ absurd (in_p n p) | inr q ↦ in_q.first n q ];
-      }
-  finds-both (Some a) None in_p in_q =
-      record {
-        holds = left a in_p.holds;
-        first = λ n shows. elim (parts n shows) [ inl p ↦ in_p.first n p | inr q ↦ absurd (in_q n q) ];
-      }
-  finds-both (Some a) (Some b) in_p in_q =
-      record {
-        holds = elim (min-either a b) [
-          | inl same ↦ subst R same (left a in_p.holds)
-          | inr same ↦ subst R same (right b in_q.holds)
-        ];
-        first = λ n shows.
-            elim (parts n shows) [
-              | inl p ↦ omega (arith, min-left a b, in_p.first n p)
-              | inr q ↦ omega (arith, min-right a b, in_q.first n q)
-            ];
-      }
+  finds-both a b in_p in_q = grind (arith, nat_tests)
 
 -- the least of one that shows otherwise the same
 pub finds-like : (P Q : ℕ → Type 0) (found : Option ℕ) → ((n : ℕ) → P n → Q n) → ((n : ℕ) → Q n → P n) → FindsLeast P found
     → FindsLeast Q found
-finds-like P Q None to back none = λ n shows. none n (back n shows)
-finds-like P Q (Some m) to back least =
-    record { holds = to m least.holds; first = λ n shows. least.first n (back n shows) }
+finds-like P Q found to back none = grind (arith, nat_tests)
 
 -- the least of the first lines, and of one more
 
 any-push_cases : (P : PlacedLine → Type 0) (lines : List PlacedLine) (line : PlacedLine) → Any P (lines ++ line ∷ [])
     → Any P lines ⊎ P line
-any-push_cases P lines line any =
-    let k = any.0 in
-    let x = any.1 in
-    elim (leb_tells (length lines) k) [
-      | inl past ↦
-          let here : get_or (lines ++ line ∷ []) k x ≡ line =
-          get_or-append_right lines (line ∷ []) (length lines) k x refl past.1
-          ∙ ap (λ (n : ℕ). get_or (line ∷ []) n x)
-          (let size = length-append lines (line ∷ []) in let e : k - length lines ≡ 0 = omega (arith, past.1, any.2, size) in e) in
-          inr (subst P (sym any.3 ∙ here) any.4)
-      | inr within ↦
-          inl (k, x, within.1, sym (get_or_append_left lines (line ∷ []) x k within.1) ∙ any.3, any.4)
-    ]
+any-push_cases P lines line any = grind (arith, nat_tests, leb_tells, get_or-append_right, length-append, get_or_append_left)
 
 any-push_left : (P : PlacedLine → Type 0) (lines : List PlacedLine) (line : PlacedLine) → Any P lines
     → Any P (lines ++ line ∷ [])
-any-push_left P lines line any =
-    let k = any.0 in
-    let x = any.1 in (
-      k,
-      x,
-      (let size = length-append lines (line ∷ []) in omega (arith, any.2, size)),
-      get_or_append_left lines (line ∷ []) x k any.2 ∙ any.3,
-      any.4,
-    )
+any-push_left P lines line any = grind (arith, nat_tests, length-append, get_or_append_left)
 
 pub finds-more : (Shows : PlacedLine → ℕ → Type 0) (lines : List PlacedLine) (k : ℕ) (line d : PlacedLine) (least found : Option ℕ)
     → k < length lines → line ≡ get_or lines k d → FindsLeast (ShowsIn Shows (take k lines)) least → FindsLeast (Shows line) found
@@ -122,33 +75,21 @@ finds-more Shows lines k line d least found within is_line so_far in_line =
 -- where nothing shows, it shows at no line
 pub none-shows : (Shows : PlacedLine → ℕ → Type 0) (lines : List PlacedLine) (k n : ℕ) (d : PlacedLine)
     → (ShowsIn Shows lines n → ⊥) → k < length lines → Shows (get_or lines k d) n → ⊥
-none-shows Shows lines k n d none within shows =
-    let x : PlacedLine = get_or lines k d in none (k, x, within, get_or_default lines k x d within, shows)
+none-shows Shows lines k n d none within shows = grind (arith, nat_tests, get_or_default)
 
 -- a row that is that of the complex, and one that differs
 
 pub row-alike : (complex : Complex) (i : ℤ) (line : PlacedLine) → line.entries ≡ entries_of (row_of complex i line.place)
     → FindsLeast (IsOtherRowAt complex i line) None
-row-alike complex i line same n other =
-    other
-    (ap (λ (es : List Entry). value_at es n) same ∙ value_at-entries_of (row_of complex i line.place) n)
+row-alike complex i line same = grind (arith, nat_tests, value_at-entries_of)
 
 pub row-unlike : (complex : Complex) (i : ℤ) (line : PlacedLine) (left right : List Entry) (found : Option ℕ) → left ≡ line.entries
     → right ≡ entries_of (row_of complex i line.place) → FindsLeast (λ place. value_at left place ≢ value_at right place) found
     → FindsLeast (IsOtherRowAt complex i line) found
-row-unlike complex i line left right found is_left is_right least =
-    let row = row_of complex i line.place in
-    let in_left : (n : ℕ) → value_at left n ≡ value_at line.entries n = λ n. ap (λ (es : List Entry). value_at es n) is_left in
-    let in_right : (n : ℕ) → value_at right n ≡ slice_index row n =
-    λ n. ap (λ (es : List Entry). value_at es n) is_right ∙ value_at-entries_of row n in
-    finds-like (λ n. value_at left n ≢ value_at right n) (IsOtherRowAt complex i line) found
-    (λ n other same. other (in_left n ∙ same ∙ sym (in_right n)))
-    (λ n other same. other (sym (in_left n) ∙ same ∙ in_right n)) least
+row-unlike complex i line left right found is_left is_right least = grind (arith, nat_tests, value_at-entries_of, finds-like)
 
 -- the least in columns and in rows together
 pub finds-between : (complex : Complex) (i : ℤ) (columns rows : List PlacedLine) (a b : Option ℕ)
     → FindsLeast (ShowsIn (IsOtherColumn complex i) columns) a → FindsLeast (ShowsIn (IsOtherRowAt complex i) rows) b
     → FindsLeast (ShowsBetween complex i columns rows) (lesser_of a b)
-finds-between complex i columns rows a b in_columns in_rows =
-    finds-both (ShowsIn (IsOtherColumn complex i) columns) (ShowsIn (IsOtherRowAt complex i) rows)
-    (ShowsBetween complex i columns rows) (λ n shows. shows) (λ n shows. inl shows) (λ n shows. inr shows) a b in_columns in_rows
+finds-between complex i columns rows a b in_columns in_rows = grind (arith, nat_tests, finds-both)

@@ -1,4 +1,5 @@
 -- Which legal histories end at zero: those with as many pivots as all ranks together. There is one, and so ranks fit into places.
+use Rattle.std.proofs.lemmas.Bool.Decides.{nat_tests}
 use Rattle.std.proofs.Common.{◌≡◌, ℕ, zero, suc, ◌+◌, ◌*◌, ◌≤◌, ◌∙◌, inl, inr, List, [], ◌∷◌, ℤ, pos, ◌-ℤ◌, length, sym, refl, arith, true}
 use Rattle.kh_types.specs.Complex.{Complex, Pivot, IsComplex, alive_count, dimension_of, is_zero, cancel}
 use Rattle.kh_types.specs.History.{IsLegal, replay}
@@ -36,8 +37,7 @@ zero-length p complex history field is legal all =
 pub alive_count-end : (p : ℕ) (complex : Complex) (history : List Pivot) (i : ℤ) → IsField p → IsComplex p complex
     → IsLegal p complex history → is_zero (replay p complex history) ≡ true
     → alive_count (replay p complex history) i ≡ dimension_of p complex i
-alive_count-end p complex history i field is legal zeros =
-    sym (dimension_of-zero p (replay p complex history) i zeros) ∙ dimension_of-replay p complex history i field is legal
+alive_count-end p complex history i field is legal zeros = grind (arith, nat_tests, dimension_of-zero, dimension_of-replay)
 
 -- a history that ends at zero: as long as there is a pivot, it is cancelled
 ending-within : (n p : ℕ) (complex : Complex) → IsField p → IsComplex p complex → rank_sum p complex ≡ n

@@ -1,4 +1,5 @@
 -- A line less a multiple of another, place by place.
+use Rattle.std.proofs.lemmas.Bool.Decides.{nat_tests}
 use Rattle.std.proofs.Common.{◌≡◌, ℕ, ◌+◌, ◌*◌, ◌<◌, ◌≤◌, ◌∙◌, inl, inr, List, [], ◌∷◌, ◌++◌, length, map, refl, ap, sym, subst, subst₂, arith}
 use Rattle.std.specs.Prelude.{slice_index}
 use Rattle.std.specs.List.{range_with_len}
@@ -24,10 +25,7 @@ number_less p line factor other place = minus_mod p (value_at line place) (facto
 
 number_less-none : (p factor place : ℕ) (line other : List Entry) → value_at line place ≡ 0 → value_at other place ≡ 0
     → number_less p line factor other place ≡ 0
-number_less-none p factor place line other none none_other =
-    let nothing : factor * 0 ≡ 0 = omega arith in
-    ap (λ (value : ℕ). minus_mod p value (factor * value_at other place)) none
-    ∙ minus_mod-nothing p (factor * value_at other place) (ap (λ (value : ℕ). factor * value) none_other ∙ nothing)
+number_less-none p factor place line other none none_other = grind (arith, nat_tests)
 
 -- two lengths give the same entries, where the numbers between are 0
 lines-agree : (f : ℕ → ℕ) (m n : ℕ) → ((k : ℕ) → m ≤ k → k < n → f k ≡ 0) → ((k : ℕ) → n ≤ k → k < m → f k ≡ 0)
@@ -44,19 +42,7 @@ lines-agree f m n above below = entries-agree (numbers m) (numbers n) same
     past n k outside = get_or_past (numbers n) k 0 (omega (arith, outside, length-map-range_with_len f 0 n))
 
     same : (k : ℕ) → slice_index (numbers m) k ≡ slice_index (numbers n) k
-    same k =
-        elim (leb_tells m k) [
-          | inl past_m ↦
-              elim (leb_tells n k) [
-                | inl past_n ↦ past m k past_m.1 ∙ sym (past n k past_n.1)
-                | inr within_n ↦ past m k past_m.1 ∙ sym (within n k within_n.1 ∙ above k past_m.1 within_n.1)
-              ]
-          | inr within_m ↦
-              elim (leb_tells n k) [
-                | inl past_n ↦ within m k within_m.1 ∙ below k past_n.1 within_m.1 ∙ sym (past n k past_n.1)
-                | inr within_n ↦ within m k within_m.1 ∙ sym (within n k within_n.1)
-              ]
-        ]
+    same k = grind (arith, nat_tests, leb_tells, past, within)
 
 pub record Merged (p factor : ℕ) (line other made rest_line rest_other : List Entry) : Type 0 where
   pub bound : ℕ

@@ -1,4 +1,5 @@
 -- A cancellation kills one place in the pivot's degree and one in the next, and the pivot's places are alive.
+use Rattle.std.proofs.lemmas.Bool.Decides.{nat_tests}
 use Rattle.std.proofs.Common.{◌≡◌, ℕ, zero, suc, ◌+◌, ◌<◌, ◌∙◌, List, [], ◌∷◌, ℤ, pos, ◌+ℤ◌, length, ap, ap₂, refl, arith, Bool, true, false, cond, count_by}
 use Rattle.std.specs.Prelude.{◌≢◌, nat_eq, slice_index_or, if◌then◌else◌}
 use Rattle.std.proofs.lemmas.Bool.{cond-true, cond-false, eq-eqb, ne_eqb, true_from_ne_false}
@@ -54,29 +55,14 @@ living-without_place place alive within is_alive = places_from-living place 0 pl
 pub alive_count-at_pivot : (p : ℕ) (complex : Complex) (pivot : Pivot) → IsComplex p complex → IsPivot complex pivot
     → alive_count (cancel p complex pivot) pivot.degree + 1 ≡ alive_count complex pivot.degree
 alive_count-at_pivot p complex pivot is is_pivot =
-    ap (λ degree. living degree.alive + 1) (degree-at_pivot p complex pivot pivot.degree refl)
-    ∙ living-without_place pivot.column (degree_of complex pivot.degree).alive
-    (entry-stands p complex pivot.degree pivot.row pivot.column is is_pivot).column_place
-    (true_from_ne_false (slice_index_or (degree_of complex pivot.degree).alive pivot.column true)
-    (λ dead. is_pivot (is.dead_column pivot.degree pivot.row pivot.column dead)))
+    grind (arith, nat_tests, degree-at_pivot, living-without_place, entry-stands, true_from_ne_false)
 
 pub alive_count-after_pivot : (p : ℕ) (complex : Complex) (pivot : Pivot) → IsComplex p complex → IsPivot complex pivot
     → alive_count (cancel p complex pivot) (pivot.degree +ℤ pos 1) + 1 ≡ alive_count complex (pivot.degree +ℤ pos 1)
 alive_count-after_pivot p complex pivot is is_pivot =
-    ap (λ degree. living degree.alive + 1) (degree-after_pivot p complex pivot (pivot.degree +ℤ pos 1) refl)
-    ∙ living-without_place pivot.row (degree_of complex (pivot.degree +ℤ pos 1)).alive
-    (entry-stands p complex pivot.degree pivot.row pivot.column is is_pivot).row_place
-    (true_from_ne_false (slice_index_or (degree_of complex (pivot.degree +ℤ pos 1)).alive pivot.row true)
-    (λ dead. is_pivot (is.dead_row pivot.degree pivot.row pivot.column dead)))
+    grind (arith, nat_tests, degree-after_pivot, living-without_place, entry-stands, true_from_ne_false)
 
 -- and the others have as many
 pub alive_count-others : (p : ℕ) (complex : Complex) (pivot : Pivot) (i : ℤ) → i ≢ pivot.degree → i ≢ pivot.degree +ℤ pos 1
     → alive_count (cancel p complex pivot) i ≡ alive_count complex i
-alive_count-others p complex pivot i not_here not_after =
-    elim (where_is i pivot.degree) [
-      | Where.is_at here ↦ absurd (not_here here)
-      | Where.is_after after ↦ absurd (not_after after)
-      | Where.is_before before ↦ ap (λ degree. living degree.alive) (degree-before_pivot p complex pivot i before)
-      | Where.is_elsewhere a b not_before ↦
-          ap (λ degree. living degree.alive) (degree-elsewhere p complex pivot i not_here not_after not_before)
-    ]
+alive_count-others p complex pivot i not_here not_after = grind (arith, nat_tests, where_is, Where, degree-before_pivot, degree-elsewhere)

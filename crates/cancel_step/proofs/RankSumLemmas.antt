@@ -1,4 +1,5 @@
 -- A cancellation takes one from the sum of the ranks and two from the places alive.
+use Rattle.std.proofs.lemmas.Bool.Decides.{nat_tests}
 use Rattle.std.proofs.Common.{◌≡◌, ℕ, suc, ◌+◌, ◌<◌, ◌∙◌, inl, inr, ℤ, pos, negsuc, ◌+ℤ◌, ◌-ℤ◌, length, ap, sym, subst, refl, arith, true}
 use Rattle.std.specs.Prelude.{◌≢◌}
 use Rattle.std.proofs.lemmas.Bool.Decides.{leb_tells}
@@ -33,10 +34,7 @@ number_from complex i (pos k) is_distance some next_some =
 
 pivot-number : (p : ℕ) (complex : Complex) (pivot : Pivot) → IsComplex p complex → IsPivot complex pivot
     → (k : ℕ) × (k + 1 < length complex.degrees) × (pivot.degree ≡ complex.low +ℤ pos k)
-pivot-number p complex pivot is is_pivot =
-    let stands = entry-stands p complex pivot.degree pivot.row pivot.column is is_pivot in
-    number_from complex pivot.degree (pivot.degree -ℤ complex.low) refl (omega (arith, stands.row_within))
-    (omega (arith, stands.row_place))
+pivot-number p complex pivot is is_pivot = grind (arith, nat_tests, entry-stands, number_from)
 
 same_number : (low : ℤ) (a b : ℕ) → low +ℤ pos a ≡ low +ℤ pos b → a ≡ b
 same_number low a b same = omega (arith, ints)

@@ -1,4 +1,5 @@
 -- The last entry of a column, and complexes whose columns are empty.
+use Rattle.std.proofs.lemmas.Bool.Decides.{nat_tests}
 use Rattle.std.proofs.Common.{◌≡◌, ◌≢◌, ℕ, ◌<◌, ◌∙◌, inl, inr, [], ℤ, pos, negsuc, ◌+ℤ◌, ◌-ℤ◌, ◌≤ℤ◌, length, get_or, ap, refl, sym, arith, true}
 use Rattle.std.proofs.lemmas.Bool.Decides.{leb_tells}
 use Rattle.std.proofs.lemmas.Int.{ints}
@@ -39,8 +40,7 @@ zero-from_columns complex empty =
 -- and where those of its degrees are, counted from the greatest down
 
 count-from_integer : (x : ℤ) → pos 0 ≤ℤ x → (n : ℕ) × (x ≡ pos n)
-count-from_integer (pos n) from = (n, refl)
-count-from_integer (negsuc n) from = absurd (omega (arith, ints, from))
+count-from_integer x from = grind (arith, nat_tests)
 
 -- the columns of the first degrees, from the greatest down, are empty
 abbrev pub AreEmptyDown : Complex → ℕ → Type 0

@@ -21,99 +21,42 @@ min-above : (a m n : ℕ) → a ≤ m → a ≤ n → a ≤ min m n
 min-above a m n left right = grind (arith, nat_tests)
 
 pub min-either : (m n : ℕ) → (m ≡ min m n) ⊎ (n ≡ min m n)
-min-either m n =
-    elim (leb_tells m n) [ inl less ↦ inl (grind (arith, nat_tests)) | inr more ↦ inr (grind (arith, nat_tests)) ]
+min-either m n = grind (arith, nat_tests)
 
 ascend-first_left : (p a b : ℕ) (xs ys : List Entry) → Ascend p a b xs → Ascend p (first_place_of xs ys) b xs
-ascend-first_left p a b [] ys ascend = tt
-ascend-first_left p a b (x ∷ xs) [] ascend = (omega arith, ascend.1, ascend.2, ascend.3, ascend.4)
-ascend-first_left p a b (x ∷ xs) (y ∷ ys) ascend =
-    (min-left x.place y.place, ascend.1, ascend.2, ascend.3, ascend.4)
+ascend-first_left p a b xs ys ascend = grind (arith, nat_tests)
 
 ascend-first_right : (p a b : ℕ) (xs ys : List Entry) → Ascend p a b ys → Ascend p (first_place_of xs ys) b ys
-ascend-first_right p a b xs [] ascend = tt
-ascend-first_right p a b [] (y ∷ ys) ascend = (omega arith, ascend.1, ascend.2, ascend.3, ascend.4)
-ascend-first_right p a b (x ∷ xs) (y ∷ ys) ascend =
-    (min-right x.place y.place, ascend.1, ascend.2, ascend.3, ascend.4)
+ascend-first_right p a b xs ys ascend = grind (arith, nat_tests)
 
 -- there is an entry left
 abbrev pub HasMore : List Entry → List Entry → Type 0
 HasMore xs ys = (0 < length xs) ⊎ (0 < length ys)
 
 pub bound-first : (p q a b c : ℕ) (xs ys : List Entry) → HasMore xs ys → Ascend p a b xs → Ascend q a c ys → a ≤ first_place_of xs ys
-bound-first p q a b c [] [] (inl more) left right = absurd (omega arith)
-bound-first p q a b c [] [] (inr more) left right = absurd (omega arith)
-bound-first p q a b c [] (y ∷ ys) more left right = right.0
-bound-first p q a b c (x ∷ xs) [] more left right = left.0
-bound-first p q a b c (x ∷ xs) (y ∷ ys) more left right = min-above a x.place y.place left.0 right.0
+bound-first p q a b c xs ys more left right = grind (arith, nat_tests)
 
 -- the value at a place that no entry comes before, and what is left behind it
 
 value_first-value : (p a b : ℕ) (xs : List Entry) → Ascend p a b xs → value_first xs a ≡ value_at xs a
-value_first-value p a b [] ascend = refl
-value_first-value p a b (x ∷ xs) ascend =
-    elim (eqb_tells x.place a) [
-      | inl here ↦
-          ap (λ (test : Bool). if test then x.value else 0) here.0 ∙ sym (value_at-here x xs a here.1)
-      | inr other ↦
-          ap (λ (test : Bool). if test then x.value else 0) other.0
-          ∙ sym (value_at-later x xs a other.1
-          ∙ value_at-before p (x.place + 1) b a xs ascend.4 (omega (arith, ascend.0)))
-    ]
+value_first-value p a b xs ascend = grind (arith, nat_tests, eqb_tells, value_at-here, value_at-later, value_at-before)
 
 ascend-rest_after : (p a b : ℕ) (xs : List Entry) → Ascend p a b xs → Ascend p (a + 1) b (rest_after xs a)
-ascend-rest_after p a b [] ascend = tt
-ascend-rest_after p a b (x ∷ xs) ascend =
-    elim (eqb_tells x.place a) [
-      | inl here ↦
-          subst (λ (test : Bool). Ascend p (a + 1) b (if test then xs else x ∷ xs)) (sym here.0)
-          (subst (λ (place : ℕ). Ascend p (place + 1) b xs) here.1 ascend.4)
-      | inr other ↦
-          subst (λ (test : Bool). Ascend p (a + 1) b (if test then xs else x ∷ xs)) (sym other.0)
-          (omega (arith, ascend.0, other.1), ascend.1, ascend.2, ascend.3, ascend.4)
-    ]
+ascend-rest_after p a b xs ascend = grind (arith, nat_tests)
 
 value_at-rest_after : (a k : ℕ) (xs : List Entry) → a < k → value_at (rest_after xs a) k ≡ value_at xs k
-value_at-rest_after a k [] later = refl
-value_at-rest_after a k (x ∷ xs) later =
-    elim (eqb_tells x.place a) [
-      | inl here ↦
-          ap (λ (test : Bool). value_at (if test then xs else x ∷ xs) k) here.0
-          ∙ sym (value_at-later x xs k (λ same. omega (arith, here.1, same)))
-      | inr other ↦ ap (λ (test : Bool). value_at (if test then xs else x ∷ xs) k) other.0
-    ]
+value_at-rest_after a k xs later = grind (arith, nat_tests)
 
 length-rest_after : (place : ℕ) (xs : List Entry) → length (rest_after xs place) ≤ length xs
-length-rest_after place [] = omega arith
-length-rest_after place (x ∷ xs) =
-    elim (eqb_tells x.place place) [
-      | inl here ↦
-          subst (λ (test : Bool). length (if test then xs else x ∷ xs) ≤ length (x ∷ xs)) (sym here.0) (omega arith)
-      | inr other ↦
-          subst (λ (test : Bool). length (if test then xs else x ∷ xs) ≤ length (x ∷ xs)) (sym other.0) (omega arith)
-    ]
+length-rest_after place xs = grind (arith, nat_tests)
 
 shorter-rest_after : (place : ℕ) (x : Entry) (xs : List Entry) → x.place ≡ place
     → length (rest_after (x ∷ xs) place) < length (x ∷ xs)
-shorter-rest_after place x xs same =
-    elim (eqb_tells x.place place) [
-      | inl here ↦
-          subst (λ (test : Bool). length (if test then xs else x ∷ xs) < length (x ∷ xs)) (sym here.0) (omega arith)
-      | inr other ↦ absurd (other.1 same)
-    ]
+shorter-rest_after place x xs same = grind (arith, nat_tests)
 
 pub shorter-rests : (xs ys : List Entry) → HasMore xs ys
     → length (rest_after xs (first_place_of xs ys)) + length (rest_after ys (first_place_of xs ys)) < length xs + length ys
-shorter-rests [] [] (inl more) = absurd (omega arith)
-shorter-rests [] [] (inr more) = absurd (omega arith)
-shorter-rests [] (y ∷ ys) more = omega (arith, shorter-rest_after y.place y ys refl)
-shorter-rests (x ∷ xs) [] more = omega (arith, shorter-rest_after x.place x xs refl)
-shorter-rests (x ∷ xs) (y ∷ ys) more =
-    let place = min x.place y.place in
-    elim (min-either x.place y.place) [
-      | inl left ↦ omega (arith, shorter-rest_after place x xs left, length-rest_after place (y ∷ ys))
-      | inr right ↦ omega (arith, shorter-rest_after place y ys right, length-rest_after place (x ∷ xs))
-    ]
+shorter-rests xs ys more = grind (arith, nat_tests)
 
 -- what is left of a list, of which the entries before a place are read
 
@@ -127,36 +70,19 @@ rest-whole p size es are =
     record { end = size; ascend = entries-ascend p size es are; values = λ place from. refl }
 
 pub rest-after : (p bound : ℕ) (es rest : List Entry) → RestOf p bound es rest → RestOf p (bound + 1) es (rest_after rest bound)
-rest-after p bound es rest of =
-    record {
-      end = of.end;
-      ascend = ascend-rest_after p bound of.end rest of.ascend;
-      values = λ place from.
-          value_at-rest_after bound place rest (omega (arith, from)) ∙ of.values place (omega (arith, from));
-    }
+rest-after p bound es rest of = grind (arith, nat_tests)
 
 pub rest-left : (p bound : ℕ) (es xs ys : List Entry) → bound ≤ first_place_of xs ys → RestOf p bound es xs → RestOf p (first_place_of xs ys) es xs
-rest-left p bound es xs ys later of =
-    record {
-      end = of.end;
-      ascend = ascend-first_left p bound of.end xs ys of.ascend;
-      values = λ place from. of.values place (omega (arith, later, from));
-    }
+rest-left p bound es xs ys later of = grind (arith, nat_tests)
 
 pub rest-right : (p bound : ℕ) (es xs ys : List Entry) → bound ≤ first_place_of xs ys → RestOf p bound es ys
     → RestOf p (first_place_of xs ys) es ys
-rest-right p bound es xs ys later of =
-    record {
-      end = of.end;
-      ascend = ascend-first_right p bound of.end xs ys of.ascend;
-      values = λ place from. of.values place (omega (arith, later, from));
-    }
+rest-right p bound es xs ys later of = grind (arith, nat_tests)
 
 -- before the first entry that is left there is nothing
 pub value-between : (p bound first place : ℕ) (es rest : List Entry) → RestOf p bound es rest → RestOf p first es rest
     → bound ≤ place → place < first → value_at es place ≡ 0
-value-between p bound first place es rest of later from before =
-    sym (of.values place from) ∙ value_at-before p first later.end place rest later.ascend before
+value-between p bound first place es rest of later from before = grind (arith, nat_tests, value_at-before)
 
 pub value-first : (p bound : ℕ) (es rest : List Entry) → RestOf p bound es rest → value_first rest bound ≡ value_at es bound
 value-first p bound es rest of = value_first-value p bound of.end rest of.ascend ∙ of.values bound (omega arith)
@@ -164,8 +90,7 @@ value-first p bound es rest of = value_first-value p bound of.end rest of.ascend
 -- the steps of the two loops, by the indices of both lists
 
 pub more-from_indices : (xs ys : List Entry) (i j : ℕ) → (i < length xs) ⊎ (j < length ys) → HasMore (drop i xs) (drop j ys)
-more-from_indices xs ys i j (inl left) = inl (omega (arith, left, length-drop i xs))
-more-from_indices xs ys i j (inr right) = inr (omega (arith, right, length-drop j ys))
+more-from_indices xs ys i j has4 = grind (arith, nat_tests, length-drop)
 
 pub shorter_steps : (xs ys : List Entry) (i j i_next j_next place : ℕ) → HasMore (drop i xs) (drop j ys)
     → place ≡ first_place_of (drop i xs) (drop j ys) → drop i_next xs ≡ rest_after (drop i xs) place

@@ -1,4 +1,5 @@
 -- A complex in which no difference shows has the copied parts, and its cancellation changes them alike.
+use Rattle.std.proofs.lemmas.Bool.Decides.{nat_tests}
 use Rattle.std.proofs.Common.{◌≡◌, ℕ, ◌<◌, ◌∙◌, ◌⊎◌, inl, inr, List, length, map, get_or, ap, sym, subst, refl, arith}
 use Rattle.std.specs.Prelude.{IfSome, Option, Some, slice_index}
 use Rattle.std.proofs.lemmas.List.{length-map}
@@ -79,14 +80,7 @@ module _ (p : ℕ) (complex : Complex) (parts : Copied) (is : IsComplex p comple
 
   across-same : (side : Side)
       → lines_across side was.complex parts.pivot was.complex ≡ lines_across side complex parts.pivot complex
-  across-same side =
-      let line : ℕ → List ℕ = line_on side complex parts.pivot.degree in
-      let es : List Entry = entries_across side was.complex parts.pivot in
-      map-alike (line_across (line_on side was.complex parts.pivot.degree)) (line_across line) es
-      (λ k d within.
-      ap (λ (found : List Entry). let line : PlacedLine = record { place = (get_or es k d).place; entries = found } in line)
-      (line-same side k d within))
-      ∙ ap (λ (es : List Entry). map (line_across line) es) (pivot_line-same (other_side side))
+  across-same side = grind (arith, nat_tests, entries_across, map-alike, line-same, pivot_line-same)
 
   -- and its cancellation changes them alike
   across-patched : (side : Side) → IsField p → lines_across side was.complex parts.pivot (cancel p was.complex parts.pivot)

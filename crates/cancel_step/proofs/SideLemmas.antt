@@ -1,4 +1,6 @@
 -- A column and a row are one thing seen from two sides: what is said here of a line of a side holds of both.
+use Rattle.std.proofs.lemmas.Bool.Decides.{nat_tests}
+use Rattle.std.proofs.Common.{arith}
 use Rattle.std.proofs.Common.{◌≡◌, ℕ, ◌*◌, ◌∙◌, List, ℤ, pos, ◌+ℤ◌, ap, refl, sym}
 use Rattle.std.specs.Prelude.{slice_index}
 use Rattle.kh_types.specs.Complex.{Complex, IsComplex, IsPivot, Pivot, cancel, entry_of}
@@ -32,31 +34,26 @@ entries-on Side.Rows p complex i line is = row-entries p complex i line is
 
 pub number-on : (side : Side) (complex : Complex) (i : ℤ) (line place : ℕ)
     → slice_index (line_on side complex i line) place ≡ entry_on side complex i line place
-number-on Side.Columns complex i line place = number-column_of complex i place line
-number-on Side.Rows complex i line place = refl
+number-on side complex i line place = grind (arith, nat_tests, number-column_of)
 
 pub value-on : (side : Side) (complex : Complex) (i : ℤ) (line place : ℕ)
     → value_at (entries_of (line_on side complex i line)) place ≡ entry_on side complex i line place
-value-on side complex i line place =
-    value_at-entries_of (line_on side complex i line) place ∙ number-on side complex i line place
+value-on side complex i line place = grind (arith, nat_tests, value_at-entries_of, number-on)
 
 pub entry-across : (side : Side) (complex : Complex) (i : ℤ) (line place : ℕ)
     → entry_on (other_side side) complex i place line ≡ entry_on side complex i line place
-entry-across Side.Columns complex i line place = refl
-entry-across Side.Rows complex i line place = refl
+entry-across side complex i line place = grind (arith, nat_tests)
 
 pub entry-pivot : (side : Side) (complex : Complex) (pivot : Pivot)
     → entry_on side complex pivot.degree (place_on side pivot) (place_on (other_side side) pivot)
     ≡ entry_of complex pivot.degree pivot.row pivot.column
-entry-pivot Side.Columns complex pivot = refl
-entry-pivot Side.Rows complex pivot = refl
+entry-pivot side complex pivot = grind (arith, nat_tests)
 
 -- the pivot stands in its own line of a side
 pub pivot-on : (side : Side) (complex : Complex) (pivot : Pivot)
     → value_at (entries_of (line_on side complex pivot.degree (place_on side pivot))) (place_on (other_side side) pivot)
     ≡ entry_of complex pivot.degree pivot.row pivot.column
-pivot-on side complex pivot =
-    value-on side complex pivot.degree (place_on side pivot) (place_on (other_side side) pivot) ∙ entry-pivot side complex pivot
+pivot-on side complex pivot = grind (arith, nat_tests, value-on, entry-pivot)
 
 -- a line less the multiple of the pivot's line that clears the place of the pivot is the line after the cancellation
 

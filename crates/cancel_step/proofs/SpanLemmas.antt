@@ -1,4 +1,5 @@
 -- Lines whose entries stand behind those of others in one list.
+use Rattle.std.proofs.lemmas.Bool.Decides.{nat_tests}
 use Rattle.std.proofs.Common.{◌≡◌, ℕ, ◌+◌, ◌-◌, ◌≤◌, ◌∙◌, inl, inr, List, [], ◌∷◌, ◌++◌, length, take, drop, ap, ap₂, refl, sym, arith}
 use Rattle.std.specs.Prelude.{min, slice_range}
 use Rattle.std.proofs.Math.Seq.{drop-append_seam, take-append_seam}
@@ -13,13 +14,10 @@ use Rattle.cancel_step.specs.declared.copied_lines.Span.{Span}
 use Rattle.cancel_step.specs.Spans.{AreSpans, line_in, spanned_lines}
 
 range-before : (xs ys : List Entry) (a b : ℕ) → a ≤ b → b ≤ length xs → slice_range (xs ++ ys) a b ≡ slice_range xs a b
-range-before xs ys a b order within =
-    ap (take (b - a)) (drop-append-le a xs ys (omega (arith, order, within)))
-    ∙ take-append-le (b - a) (drop a xs) ys (omega (arith, order, within, length-drop a xs))
+range-before xs ys a b order within = grind (arith, nat_tests, drop-append-le, take-append-le, length-drop)
 
 range-behind : (xs ys : List Entry) (b : ℕ) → b ≡ length xs + length ys → slice_range (xs ++ ys) (length xs) b ≡ ys
-range-behind xs ys b is_end =
-    ap (take (b - length xs)) (drop-append_seam xs ys) ∙ take_all (b - length xs) ys (omega (arith, is_end))
+range-behind xs ys b is_end = grind (arith, nat_tests, drop-append_seam, take_all)
 
 lines-before : (spans : List Span) (entries more : List Entry) → AreSpans spans entries
     → spanned_lines spans (entries ++ more) ≡ spanned_lines spans entries
@@ -35,47 +33,26 @@ lines-before (span ∷ spans) entries more are =
 pub lines_pushed : (spans : List Span) (entries more : List Entry) (span : Span) → AreSpans spans entries
     → span.start ≡ length entries → span.end ≡ length entries + length more
     → spanned_lines (spans ++ span ∷ []) (entries ++ more) ≡ spanned_lines spans entries ++ placed span.place more ∷ []
-lines_pushed spans entries more span are is_start is_end =
-    map-append (line_in (entries ++ more)) spans (span ∷ [])
-    ∙ ap₂ (λ (lines : List PlacedLine) (es : List Entry). lines ++ placed span.place es ∷ []) (lines-before spans entries more are)
-    (ap (λ (start : ℕ). slice_range (entries ++ more) start span.end) is_start ∙ range-behind entries more span.end is_end)
+lines_pushed spans entries more span are is_start is_end = grind (arith, nat_tests, map-append, lines-before, range-behind)
 
 -- the first of the lines, and the others
 
 take-least : {X : Type 0} (xs : List X) (n least : ℕ) → least ≡ min n (length xs) → take least xs ≡ take n xs
-take-least xs n least is =
-    elim (leb_tells (length xs) n) [
-      | inl past ↦ take_all least xs (omega (arith, is, past.1)) ∙ sym (take_all n xs past.1)
-      | inr within ↦ ap (λ (n : ℕ). take n xs) (omega (arith, is, within.1))
-    ]
+take-least xs n least is = grind (arith, nat_tests, leb_tells, take_all)
 
 drop-least : {X : Type 0} (xs : List X) (n least : ℕ) → least ≡ min n (length xs) → drop least xs ≡ drop n xs
-drop-least xs n least is =
-    elim (leb_tells (length xs) n) [
-      | inl past ↦ drop_all least xs (omega (arith, is, past.1)) ∙ sym (drop_all n xs past.1)
-      | inr within ↦ ap (λ (n : ℕ). drop n xs) (omega (arith, is, within.1))
-    ]
+drop-least xs n least is = grind (arith, nat_tests, leb_tells, drop_all)
 
 pub first-spans : (spans now : List Span) (entries here : List Entry) (count end : ℕ) → now ≡ spans → here ≡ entries
     → end ≡ min count (length spans) → spanned_lines (take end now) here ≡ take count (spanned_lines spans entries)
-first-spans spans now entries here count end are_spans are_entries is_end =
-    ap₂ (λ (spans : List Span) (entries : List Entry). spanned_lines (take end spans) entries) are_spans are_entries
-    ∙ ap (λ (spans : List Span). spanned_lines spans entries) (take-least spans count end is_end)
-    ∙ sym (take-map (line_in entries) count spans)
+first-spans spans now entries here count end are_spans are_entries is_end = grind (arith, nat_tests, take-least, take-map)
 
 pub spans-behind : (spans now : List Span) (entries here : List Entry) (count start : ℕ) → now ≡ spans → here ≡ entries
     → start ≡ min count (length spans)
     → spanned_lines (slice_range now start (length now)) here ≡ drop count (spanned_lines spans entries)
 spans-behind spans now entries here count start are_spans are_entries is_start =
-    ap₂ (λ (spans : List Span) (entries : List Entry). spanned_lines (slice_range spans start (length spans)) entries) are_spans
-    are_entries
-    ∙ ap (λ (spans : List Span). spanned_lines spans entries)
-    (take_all (length spans - start) (drop start spans) (omega (arith, length-drop start spans))
-    ∙ drop-least spans count start is_start)
-    ∙ sym (drop-map (line_in entries) count spans)
+    grind (arith, nat_tests, take_all, length-drop, drop-least, drop-map)
 
 pub parts-split : (pivot : Pivot) (count : ℕ) (columns rows all : List PlacedLine) → count ≡ length columns → all ≡ columns ++ rows
     → split_parts pivot count all ≡ copied_parts pivot columns rows
-parts-split pivot count columns rows all is_count are_all =
-    ap₂ (split_parts pivot) is_count are_all
-    ∙ ap₂ (copied_parts pivot) (take-append_seam columns rows) (drop-append_seam columns rows)
+parts-split pivot count columns rows all is_count are_all = grind (arith, nat_tests, take-append_seam, drop-append_seam)

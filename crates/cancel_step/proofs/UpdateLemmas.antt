@@ -1,4 +1,5 @@
 -- A line less the multiple of the pivot's line that clears the place of the pivot: the line after the cancellation.
+use Rattle.std.proofs.lemmas.Bool.Decides.{nat_tests}
 use Rattle.std.proofs.Common.{◌≡◌, ◌≢◌, ℕ, ◌+◌, ◌-◌, ◌*◌, ◌%◌, ◌<◌, ◌∙◌, inl, inr, List, length, refl, ap, sym, subst, arith, Bool, false, ◌||◌}
 use Rattle.std.specs.Prelude.{nat_eq, slice_index, if◌then◌else◌}
 use Rattle.std.proofs.Math.Nat.{mod-eq_of_lt, mod-mod, mod_self}
@@ -28,10 +29,7 @@ minus_mod-same : (p x y z : ℕ) → Same p y z → minus_mod p x y ≡ minus_mo
 minus_mod-same p x y z same = ap (λ (rest : ℕ). (x + (p - rest)) % p) same
 
 minus_mod-self : (p x y : ℕ) → x < p → Same p y x → minus_mod p x y ≡ 0
-minus_mod-self p x y below same =
-    let e : x + (p - x) ≡ p = omega (arith, below) in
-    minus_mod-same p x y x same ∙ ap (λ (rest : ℕ). (x + (p - rest)) % p) (mod-eq_of_lt below)
-    ∙ ap (λ (n : ℕ). n % p) e ∙ mod_self p
+minus_mod-self p x y below same = grind (arith, nat_tests)
 
 -- the way back from row i to column j through the pivot, and an entry less a number that is the same modulo p
 

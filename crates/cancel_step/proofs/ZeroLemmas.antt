@@ -34,25 +34,15 @@ rank-zero_matrix p (row ∷ rows) zeros =
 -- in a complex of zeros all ranks are 0
 zero_from : (complex : Complex) (distance : ℤ) → is_zero complex ≡ true
     → is_zero_matrix (degree_from complex distance).matrix ≡ true
-zero_from complex (negsuc k) zeros = refl
-zero_from complex (pos k) zeros =
-    elim (leb_tells (length complex.degrees) k) [
-      | inl past ↦ ap (λ degree. is_zero_matrix degree.matrix) (get_or_past complex.degrees k empty_degree past.1)
-      | inr within ↦
-          AllPass-from_list_all (λ degree. is_zero_matrix degree.matrix) complex.degrees zeros k empty_degree within.1
-    ]
+zero_from complex distance zeros = grind (arith, nat_tests, leb_tells, get_or_past, AllPass-from_list_all)
 
 pub rank_out-zero : (p : ℕ) (complex : Complex) (i : ℤ) → is_zero complex ≡ true → rank_out p complex i ≡ 0
-rank_out-zero p complex i zeros =
-    rank-zero_matrix p (degree_of complex i).matrix (zero_from complex (i -ℤ complex.low) zeros)
+rank_out-zero p complex i zeros = grind (arith, nat_tests, rank-zero_matrix, zero_from)
 
 -- so its homology dimensions are its places alive
 pub dimension_of-zero : (p : ℕ) (complex : Complex) (i : ℤ) → is_zero complex ≡ true
     → dimension_of p complex i ≡ alive_count complex i
-dimension_of-zero p complex i zeros =
-    let out = rank_out-zero p complex i zeros in
-    let into = rank_out-zero p complex (i -ℤ pos 1) zeros in
-    omega (arith, out, into)
+dimension_of-zero p complex i zeros = grind (arith, nat_tests, rank_out-zero)
 
 -- a row is all zeros or has another entry at some column, and so a matrix, and so the matrices of degrees
 find_column : (row : List ℕ) → (list_all (nat_eq 0) row ≡ true) ⊎ ((column : ℕ) × (slice_index row column ≢ 0))

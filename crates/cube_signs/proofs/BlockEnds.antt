@@ -1,4 +1,5 @@
 -- The least and the greatest degree of a block have generators.
+use Rattle.std.proofs.lemmas.Bool.Decides.{nat_tests}
 use Rattle.std.proofs.Common.{◌≡◌, ◌≢◌, ℕ, ◌+◌, ◌-◌, subst, ◌<◌, ◌∙◌, ℤ, pos, ◌+ℤ◌, ◌-ℤ◌, List, [], ◌∷◌, length, get_or, take, refl, sym, ap, arith, Bool, true, false, not}
 use Rattle.std.specs.Prelude.{reverse, ◌≤ℤ◌}
 use Rattle.std.specs.List.{Contains, position_or_len, suffix_len}
@@ -19,22 +20,19 @@ abbrev has_generators : Code → ℤ → ℤ → Bool
 has_generators code j i = not (is_empty (generators_at code i j))
 
 not-empty : {X : Type 0} (xs : List X) → not (is_empty xs) ≡ true → xs ≢ []
-not-empty [] passes same = absurd (cc)
-not-empty (x ∷ xs) passes same = absurd (cc)
+not-empty xs passes = grind (arith, nat_tests)
 
 some-element : {X : Type 0} (xs : List X) → xs ≢ [] → 0 < length xs
 some-element [] some = absurd (some refl)
 some-element (x ∷ xs) some = omega arith
 
 passes : (b : Bool) → not b ≡ false → b ≡ true
-passes true is = refl
-passes false is = absurd (cc)
+passes b is = grind (arith, nat_tests)
 
 -- the first element that passes a test, where there is one, and the last
 first-passes : {X : Type 0} (test : X → Bool) (xs : List X) (d : X) → position_or_len test xs < length xs
     → test (get_or xs (position_or_len test xs) d) ≡ true
-first-passes test xs d within =
-    passes (test (get_or xs (position_or_len test xs) d)) (prefix_len_stops (λ x. not (test x)) xs d within)
+first-passes test xs d within = grind (arith, nat_tests, passes, prefix_len_stops)
 
 last-passes : {X : Type 0} (test : X → Bool) (xs : List X) (m : ℕ) (d : X) → m + 1 ≡ length xs - suffix_len (λ x. not (test x)) xs
     → test (get_or xs m d) ≡ true

@@ -1,4 +1,5 @@
 -- The columns of the generators of two degrees.
+use Rattle.std.proofs.lemmas.Bool.Decides.{nat_tests}
 use Rattle.std.proofs.Common.{◌≡◌, ℕ, ◌+◌, ◌^◌, ◌<◌, ◌≤◌, ◌∙◌, ℤ, pos, ◌+ℤ◌, List, [], ◌∷◌, ◌++◌, length, get_or, map, sym, ap, ap₂, subst, arith, IsTrue}
 use Rattle.std.specs.Prelude.{slice_index_or}
 use Rattle.std.specs.Global.{Vec}
@@ -48,9 +49,7 @@ label-small code i j tail is few tails =
 -- no state has the greatest number of 32 bits
 pub found-nowhere : (p : ℕ) (code : Code) (bases : List ℕ) (state : ℕ) (outs : List Out) → state + 1 ≡ 2 ^ 32
     → length code.crossings ≤ CROSSINGS → AreFound p code bases state outs
-found-nowhere p code bases state outs is few below =
-    let power : 2 ^ length code.crossings ≤ 2 ^ CROSSINGS = pow_mono few in
-    absurd (omega (arith, power, below, is))
+found-nowhere p code bases state outs is few = grind (arith, nat_tests, pow_mono)
 
 -- one column more
 pub columns-more : (p : ℕ) (code : Code) (i j : ℤ) (names : List Generator) (k : ℕ) (tail : Generator) (outs : List Out)
@@ -89,16 +88,13 @@ columns-more p code i j names k tail outs bases ranks column made next prime is 
 
 pub columns-none : (p : ℕ) (code : Code) (i j : ℤ) (names : List Generator) (made : List (List Entry)) → made ≡ []
     → AreColumns p code i j names 0 made
-columns-none p code i j names made none =
-    subst (AreColumns p code i j names 0) (sym none) (record { size = omega arith; each = λ k below. absurd (omega (arith, below)) })
+columns-none p code i j names made none = grind (arith, nat_tests)
 
 -- one degree more
 pub names-at : (code : Code) (low j : ℤ) (count k : ℕ) (names : List (Vec Generator)) (degree : Vec Generator)
     → lists_in names ≡ generators_from code low j count → k < count → k < length names → degree ≡ get_or names k degree
     → degree.items ≡ generators_at code (low +ℤ pos k) j
-names-at code low j count k names degree are below within is =
-    sym (list-lists_in names k degree within is) ∙ ap (λ (xs : List (List Generator)). slice_index_or xs k []) are
-    ∙ get_or-map-range_with_len (λ n. generators_at code (low +ℤ pos n) j) 0 count k k [] below (omega arith)
+names-at code low j count k names degree are below within is = grind (arith, nat_tests, list-lists_in, get_or-map-range_with_len)
 
 pub all_columns-more : (p : ℕ) (code : Code) (low i j other : ℤ) (k : ℕ) (names : List Generator) (columns : List (List Entry))
     (made next : List (List (List Entry))) → AreAllColumns p code low j k made → i ≡ low +ℤ pos k → other ≡ j
@@ -119,6 +115,4 @@ all_columns-more p code low i j other k names columns made next are is_i is_j is
 pub all_names-more : (code : Code) (low i j other : ℤ) (k : ℕ) (names : List Generator) (made next : List (List Generator))
     → made ≡ generators_from code low j k → i ≡ low +ℤ pos k → other ≡ j → names ≡ generators_at code i other
     → next ≡ made ++ names ∷ [] → next ≡ generators_from code low j (k + 1)
-all_names-more code low i j other k names made next is_made is_i is_j is is_next =
-    images-more (λ n. generators_at code (low +ℤ pos n) j) made next names k is_made
-    (is ∙ ap₂ (generators_at code) is_i is_j) is_next
+all_names-more code low i j other k names made next is_made is_i is_j is is_next = grind (arith, nat_tests, images-more)

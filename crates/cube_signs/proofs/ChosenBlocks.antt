@@ -1,4 +1,5 @@
 -- The block over chosen generators is a complex, and it is made of its names and its columns.
+use Rattle.std.proofs.lemmas.Bool.Decides.{nat_tests}
 use Rattle.std.proofs.Common.{◌≡◌, ℕ, inl, inr, ◌+◌, ◌*◌, ◌%◌, ◌^◌, ◌<◌, ◌≤◌, ◌∙◌, ℤ, pos, neg_ℤ, ◌+ℤ◌, ◌-ℤ◌, List, [], ◌∷◌, ◌++◌, length, get_or, map, refl, sym, ap, ap₂, subst, arith, Bool, true, cond, IsTrue}
 use Rattle.std.specs.Prelude.{slice_index_or}
 use Rattle.std.specs.List.{All, filter, range_with_len, sum_by}
@@ -97,17 +98,11 @@ chosen-beyond choice code j i outside = ap (filter choice) (none_beyond code i j
 
 pub AreLists-chosen : (choice : Generator → Bool) (p : ℕ) (code : Code) (j : ℤ) → 0 < p → IsTrue (accepted code)
     → IsClosed choice p code → AreLists p code (length code.crossings) (λ i. chosen_at choice code i j)
-AreLists-chosen choice p code j positive is closed =
-    record {
-      beyond = chosen-beyond choice code j;
-      square = λ i. chosen-square choice p code j i positive is closed;
-    }
+AreLists-chosen choice p code j positive is closed = grind (arith, nat_tests, chosen-beyond, chosen-square)
 
 pub IsComplex-chosen : (choice : Generator → Bool) (p : ℕ) (code : Code) (j : ℤ) → 1 < p → IsTrue (accepted code)
     → IsClosed choice p code → IsComplex p (chosen_block choice p code j).complex
-IsComplex-chosen choice p code j above is closed =
-    IsComplex-list_complex p code (length code.crossings) (λ i. chosen_at choice code i j) above
-    (AreLists-chosen choice p code j (omega arith) is closed)
+IsComplex-chosen choice p code j above is closed = grind (arith, nat_tests, IsComplex-list_complex, AreLists-chosen)
 
 -- one degree more
 
@@ -119,18 +114,14 @@ pub chosen-more : (choice : Generator → Bool) (code : Code) (low i j other : �
     → i ≡ low +ℤ pos k → other ≡ j → names ≡ chosen_at choice code i other → next ≡ made ++ names ∷ []
     → next ≡ chosen_to choice code j (k + 1)
 chosen-more choice code low i j other k names made next is_made is_low is_i is_j is is_next =
-    images-more (λ m. chosen_at choice code (pos m -ℤ pos (length code.crossings)) j) made next names k is_made
-    (is ∙ ap₂ (chosen_at choice code) (degree-turned (length code.crossings) k low i is_low is_i) is_j) is_next
+    grind (arith, nat_tests, images-more, degree-turned)
 
 pub places-more : (choice : Generator → Bool) (code : Code) (low i j other : ℤ) (k : ℕ) (places : List ℕ)
     (made next : List (List ℕ)) → made ≡ all_places_to choice code j k → low ≡ neg_ℤ (pos (length code.crossings))
     → i ≡ low +ℤ pos k → other ≡ j → places ≡ all_places choice (generators_at code i other) → next ≡ made ++ places ∷ []
     → next ≡ all_places_to choice code j (k + 1)
 places-more choice code low i j other k places made next is_made is_low is_i is_j is is_next =
-    images-more (λ m. all_places choice (generators_at code (pos m -ℤ pos (length code.crossings)) j)) made next places k is_made
-    (is
-    ∙ ap (all_places choice)
-    (ap₂ (generators_at code) (degree-turned (length code.crossings) k low i is_low is_i) is_j)) is_next
+    grind (arith, nat_tests, images-more, degree-turned)
 
 -- the places of the next degree, of which there are none behind the last
 pub places-behind : (choice : Generator → Bool) (code : Code) (j : ℤ) (k : ℕ) (lists : List (List ℕ))
@@ -234,8 +225,7 @@ AreChosenParts-columns choice p code j count names columns prime is_code size cl
     length-names = ap length is_names ∙ length-map-range_with_len at 0 count
 
     name-at : (k : ℕ) → k < count → slice_index_or names k [] ≡ at k
-    name-at k below =
-        ap (λ (xs : List (List Generator)). get_or xs k []) is_names ∙ get_or-map-range_with_len at 0 count k k [] below (omega arith)
+    name-at k below = grind (arith, nat_tests, get_or-map-range_with_len, at)
 
     next-name : (k : ℕ) → k < count
         → slice_index_or names (k + 1) [] ≡ chosen_at choice code (pos k -ℤ pos (length code.crossings) +ℤ pos 1) j
@@ -263,33 +253,14 @@ AreChosenParts-columns choice p code j count names columns prime is_code size cl
         → degree_from_lists (all_alive names) columns k
         ≡ list_degree p code (λ i. chosen_at choice code i j) (pos k -ℤ pos (length code.crossings))
     degree-at-place k below =
-        let trues : List Generator → List Bool = λ degree. map (λ name. true) degree in
-        let alive : slice_index_or (all_alive names) k [] ≡ trues (at k) =
-        get_or-map trues names k [] [] (omega (arith, below, length-names)) ∙ ap trues (name-at k below) in
-        let height : length (slice_index_or (all_alive names) (k + 1) [])
-        ≡ length (chosen_at choice code (pos k -ℤ pos (length code.crossings) +ℤ pos 1) j) =
-        length-at (all_alive names) names (k + 1) (sizes-all_alive names) ∙ ap length (next-name k below) in
-        ap₂ degree_of (alive)
-        (ap (λ h. matrix_from h (slice_index_or columns k [])) height
-        ∙ matrix-columns p code (at k) (chosen_at choice code (pos k -ℤ pos (length code.crossings) +ℤ pos 1) j)
-        (slice_index_or columns k []) (are.each k below))
+        grind (arith, nat_tests, at, get_or-map, length-names, name-at, length-at, sizes-all_alive, next-name, matrix-columns)
 
     all-names : names ≡ map (λ i. chosen_at choice code i j) (from_minus (length code.crossings))
-    all-names =
-        is_names ∙ ap (λ m. map at (range_with_len 0 m)) is_count
-        ∙ sym (map-map (λ i. chosen_at choice code i j) (λ k. pos k -ℤ pos (length code.crossings))
-        (range_with_len 0 (2 * length code.crossings + 1)))
+    all-names = grind (arith, nat_tests, at, map-map)
 
     all-degrees : degrees_from (all_alive names) columns
         ≡ map (list_degree p code (λ i. chosen_at choice code i j)) (from_minus (length code.crossings))
-    all-degrees =
-        let size : length (all_alive names) ≡ count = length-map names (λ degree. map (λ name. true) degree) ∙ length-names in
-        let degree : ℕ → Degree = λ k. list_degree p code (λ i. chosen_at choice code i j) (pos k -ℤ pos (length code.crossings)) in
-        ap (λ n. map (degree_from_lists (all_alive names) columns) (range_with_len 0 n)) size
-        ∙ map-alike (degree_from_lists (all_alive names) columns) degree count degree-at-place
-        ∙ ap (λ m. map degree (range_with_len 0 m)) is_count
-        ∙ sym (map-map (list_degree p code (λ i. chosen_at choice code i j)) (λ k. pos k -ℤ pos (length code.crossings))
-        (range_with_len 0 (2 * length code.crossings + 1)))
+    all-degrees = grind (arith, nat_tests, length-map, length-names, n, map-alike, degree-at-place, map-map)
 
     same : sparse_complex (pos 0 -ℤ pos (length code.crossings)) names columns ≡ chosen_block choice p code j
     same = ap₂ (named_of (pos 0 -ℤ pos (length code.crossings))) all-degrees all-names

@@ -1,4 +1,5 @@
 -- Lists on their way to their images, element by element, and the steps of the loops over chosen generators.
+use Rattle.std.proofs.lemmas.Bool.Decides.{nat_tests}
 use Rattle.std.proofs.Common.{◌≡◌, ℕ, ◌+◌, ◌<◌, ◌≤◌, ◌∙◌, refl, List, [], ◌++◌, length, get_or, map, take, take_all, drop, sym, ap, ap₂, subst, arith, Bool, cond, ℤ, pos, neg_ℤ, ◌+ℤ◌, ◌-ℤ◌}
 use Rattle.std.specs.List.{All}
 use Rattle.std.specs.Global.{Vec}
@@ -26,16 +27,11 @@ mapped-whole {X} f xs ys i is all =
 
 same_length : {X : Type 0} (f : X → X) (xs ys : List X) (i : ℕ) → i < length xs → ys ≡ map f (take i xs) ++ drop i xs
     → length ys ≡ length xs
-same_length f xs ys i below is =
-    ap length is ∙ length-append (map f (take i xs)) (drop i xs) ∙ ap (λ n. n + length (drop i xs)) (length-map (take i xs) f)
-    ∙ grind (arith, length-take i xs, length-drop i xs)
+same_length f xs ys i below is = grind (arith, nat_tests, length-append, length-map, length-take, length-drop)
 
 pub mapped-more : {X : Type 0} (f : X → X) (xs ys : List X) (i : ℕ) (y d : X) → i < length xs → ys ≡ map f (take i xs) ++ drop i xs
     → y ≡ f (get_or ys i d) → set ys i y ≡ map f (take (i + 1) xs) ++ drop (i + 1) xs
-mapped-more f xs ys i y d below is_ys is_y =
-    let size = same_length f xs ys i below is_ys in
-    ap (λ z. set ys i z) is_y
-    ∙ map_over_more f xs ys i (get_or ys i d) below is_ys (get_or_default ys i d (get_or ys i d) (omega (arith, below, size)))
+mapped-more f xs ys i y d below is_ys is_y = grind (arith, nat_tests, same_length, set, map_over_more, get_or_default)
 
 -- the same of lines in memory, by their entries
 pub lines-more : (g : List Entry → List Entry) (xs ys : List (SmallVec Entry)) (i : ℕ) (item changed : SmallVec Entry)
@@ -55,15 +51,12 @@ lines-more g xs ys i item changed below is is_item is_changed =
 pub before-count : (q : Generator → Bool) (xs : List Generator) (k count next : ℕ) (is_chosen : Bool) (name : Generator)
     → count ≡ chosen_before q xs k → k < length xs → name ≡ get_or xs k name → is_chosen ≡ q name → next ≡ count + cond is_chosen 1 0
     → next ≡ chosen_before q xs (k + 1)
-before-count q xs k count next is_chosen name is_count below is_name is_test is_next =
-    is_next ∙ ap₂ (λ (n : ℕ) (b : Bool). n + cond b 1 0) is_count (is_test ∙ ap q is_name) ∙ sym (length-filter_more q xs k name below)
+before-count q xs k count next is_chosen name is_count below is_name is_test is_next = grind (arith, nat_tests, length-filter_more)
 
 -- the chosen generators of each degree in memory
 pub length-chosen : (choice : Generator → Bool) (code : Code) (j : ℤ) (count : ℕ) (names : List (Vec Generator))
     → lists_in names ≡ chosen_to choice code j count → length names ≡ count
-length-chosen choice code j count names is =
-    sym (length-map names (λ (v : Vec Generator). v.items)) ∙ ap length is
-    ∙ length-map-range_with_len (λ k. chosen_at choice code (pos k -ℤ pos (length code.crossings)) j) 0 count
+length-chosen choice code j count names is = grind (arith, nat_tests, length-map, length-map-range_with_len)
 
 pub chosen-names : (choice : Generator → Bool) (code : Code) (j : ℤ) (count k : ℕ) (names : List (Vec Generator))
     (degree : Vec Generator) → lists_in names ≡ chosen_to choice code j count → k < count → degree ≡ get_or names k degree

@@ -1,4 +1,5 @@
 -- The places of the elements of a list that are chosen, among all and among these.
+use Rattle.std.proofs.lemmas.Bool.Decides.{nat_tests}
 use Rattle.std.proofs.Common.{◌≡◌, ℕ, zero, suc, inl, inr, ◌+◌, ◌-◌, ◌<◌, ◌≤◌, ◌∙◌, List, [], ◌∷◌, length, get_or, take, ap, ap₂, arith, Bool, true, false, cond, refl}
 use Rattle.std.specs.List.{filter}
 use Rattle.std.specs.Prelude.{slice_index}
@@ -61,8 +62,7 @@ before-one q xs k m is other same = elim (cases_lt k m) [
 ]
 
 pub before-small : (q : Generator → Bool) (xs : List Generator) (k : ℕ) → chosen_before q xs k ≤ length xs
-before-small q xs k =
-    omega (arith, length-filter q (take k xs), count_by-le-length q (take k xs), length-take k xs)
+before-small q xs k = grind (arith, nat_tests, length-filter, count_by-le-length, length-take)
 
 pub before-all : (q : Generator → Bool) (xs : List Generator) → chosen_before q xs (length xs) ≡ length (filter q xs)
 before-all q xs = ap (λ ys. length (filter q ys)) (take_all (length xs) xs (omega arith))

@@ -1,4 +1,5 @@
 -- What the entries of a column denote: the coefficients of the differential.
+use Rattle.std.proofs.lemmas.Bool.Decides.{nat_tests}
 use Rattle.std.proofs.Common.{◌≡◌, ◌≢◌, ℕ, zero, suc, ◌+◌, ◌^◌, ◌<◌, ◌≤◌, ◌∙◌, ℤ, pos, ◌+ℤ◌, List, ◌++◌, length, map, refl, sym, ap, ap₂, subst, arith, Bool, true, false, cond, Option, None, Some, IsTrue}
 use Rattle.std.specs.Prelude.{nat_eq, slice_index, slice_index_or, ◌&&◌}
 use Rattle.std.specs.List.{All, Contains, filter, flat_map, list_any, range_with_len}
@@ -56,22 +57,13 @@ record IsHead (p : ℕ) (code : Code) (i j : ℤ) (tail : Generator) (bases rank
   coefficient : coefficient p code tail (generator_of (tail.state + 2 ^ place) label) ≡ edge_sign_at p tail.state place
 
 sign-crossing : (p state place : ℕ) → edge_sign p state (place + 1) ≡ edge_sign_at p state place
-sign-crossing p state place =
-    let e : place_of (place + 1) ≡ place = omega arith in
-    ap (edge_sign_at p state) e
+sign-crossing p state place = grind (arith, nat_tests)
 
 -- the degrees of what a coefficient leads to
 next-degrees : (p : ℕ) (code : Code) (i j : ℤ) (tail head : Generator) → IsTrue (accepted code)
     → is_label code i j tail.state tail.label ≡ true → coefficient p code tail head ≢ 0
     → is_label code (i +ℤ pos 1) j head.state head.label ≡ true
-next-degrees p code i j tail head is passes some =
-    let next = coefficient-next p code tail head is some in
-    let both = and_parts (int_eq (homological_degree code tail) i) (int_eq (quantum_degree code tail) j) passes in
-    let at_i : homological_degree code tail ≡ i = (Decides-int_eq (homological_degree code tail) i).0 both.0 in
-    let at_j : quantum_degree code tail ≡ j = (Decides-int_eq (quantum_degree code tail) j).0 both.1 in
-    ap₂ (λ a b. a && b)
-    ((Decides-int_eq (homological_degree code head) (i +ℤ pos 1)).1 (next.homological ∙ ap (λ (x : ℤ). x +ℤ pos 1) at_i))
-    ((Decides-int_eq (quantum_degree code head) j).1 (next.quantum ∙ at_j))
+next-degrees p code i j tail head is passes some = grind (arith, nat_tests, coefficient-next, and_parts, Decides-int_eq)
 
 -- the coefficient along the edge at a place
 along-place : (p : ℕ) (code : Code) (tail : Generator) (place label : ℕ) (change : Edge) → IsTrue (accepted code)

@@ -1,4 +1,6 @@
 -- The entries of a column by the places of edges.
+use Rattle.std.proofs.lemmas.Bool.Decides.{nat_tests}
+use Rattle.std.proofs.Common.{arith}
 use Rattle.std.proofs.Common.{◌≡◌, ℕ, zero, suc, ◌+◌, ◌^◌, ◌∙◌, List, [], ◌++◌, map, refl, ap₂, Option, None, Some}
 use Rattle.std.specs.Prelude.{slice_index, slice_index_or}
 use Rattle.std.specs.List.{flat_map, range_with_len}
@@ -28,8 +30,7 @@ column_to p steps bases ranks tail count = flat_map (edge_entries p steps bases 
 -- they are the entries along the edges that begin there
 along : (sign : ℕ) (bases ranks : List ℕ) (tail : Generator) (place : ℕ) (step : Option Edge)
     → column_along ranks tail.label (out_along sign bases tail.state place step) ≡ step_entries sign bases ranks tail place step
-along sign bases ranks tail place None = refl
-along sign bases ranks tail place (Some change) = append-nil (step_entries sign bases ranks tail place (Some change))
+along sign bases ranks tail place step = grind (arith, nat_tests)
 
 along-range : (p : ℕ) (steps : List (Option Edge)) (bases ranks : List ℕ) (tail : Generator) (a n : ℕ)
     → column_along ranks tail.label (flat_map (outs_at p steps bases tail.state) (range_with_len a n))

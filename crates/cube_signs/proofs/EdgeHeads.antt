@@ -1,4 +1,5 @@
 -- The labels behind an edge are its heads, and the coefficients along an edge.
+use Rattle.std.proofs.lemmas.Bool.Decides.{nat_tests}
 use Rattle.std.proofs.Common.{◌≡◌, ◌≢◌, ℕ, ◌+◌, ◌^◌, ◌<◌, ◌∙◌, inl, inr, List, get_or, length, map, refl, sym, ap, subst, arith, All, Bool, true, false, cond, IsTrue}
 use Rattle.std.specs.Prelude.{nat_eq}
 use Rattle.std.specs.Bool.{Decides}
@@ -38,25 +39,17 @@ IsNumbered code state crossing (Split from a b) = AreNumbered code (state_behind
 -- where two circles are touched there is not one
 not-turned : (code : Code) (before after crossing a b to : ℕ) → HaveMerged code before after crossing a b to
     → IsMerge code after before crossing → ⊥
-not-turned code before after crossing a b to does merge =
-    let sizes = ap length (sym does.one ∙ ap (λ xs. map (number_of code after) xs) merge.circles.touched_before) in
-    omega (arith, sizes)
+not-turned code before after crossing a b to does merge = grind (arith, nat_tests)
 
 numbered-switch : (merges : Bool) (code : Code) (before after crossing a b to : ℕ) → IsTrue (accepted code)
     → HaveMerged code before after crossing a b to → AreRenumbered code before after a b → IsSwitch merges code before after crossing
     → AreNumbered code before after crossing a b
-numbered-switch true code before after crossing a b to is does moved merge =
-    AreNumbered-edge code before after crossing a b to is merge does moved
-numbered-switch false code before after crossing a b to is does moved merge =
-    absurd (not-turned code before after crossing a b to does merge)
+numbered-switch merges code before after crossing a b to is does moved merge = grind (arith, nat_tests)
 
 numbered-back : (merges : Bool) (code : Code) (before after crossing a b to : ℕ) → IsTrue (accepted code)
     → HaveMerged code after before crossing a b to → AreRenumbered code after before a b → IsSwitch merges code before after crossing
     → AreNumbered code after before crossing a b
-numbered-back true code before after crossing a b to is does moved merge =
-    absurd (not-turned code after before crossing a b to does merge)
-numbered-back false code before after crossing a b to is does moved merge =
-    AreNumbered-edge code after before crossing a b to is merge does moved
+numbered-back merges code before after crossing a b to is does moved merge = grind (arith, nat_tests)
 
 numbered-edge : (code : Code) (state crossing : ℕ) (change : Edge) → IsTrue (accepted code) → IsCrossing code.crossings crossing
     → bit state (place_of crossing) ≡ 0 → IsEdge code state crossing change → IsNumbered code state crossing change
@@ -118,8 +111,7 @@ labels_behind-below code state crossing (Split from a b) label is is_crossing ze
 
 pub labels_behind-ascend : (code : Code) (state crossing : ℕ) (change : Edge) (label : ℕ) → IsEdge code state crossing change
     → IsStrictlyIncreasing (labels_behind change label)
-labels_behind-ascend code state crossing (Merge a b to) label does = increasing-merged a b label
-labels_behind-ascend code state crossing (Split from a b) label does = increasing-split a b label does.order
+labels_behind-ascend code state crossing change label does = grind (arith, nat_tests, increasing-merged, increasing-split)
 
 -- with as many labels v-, or one more
 
@@ -177,14 +169,4 @@ coefficient-along p code state crossing change label head_label is is_crossing z
 pub coefficient-elsewhere : (p : ℕ) (code : Code) (tail head : Generator) → coefficient p code tail head ≢ 0
     → (crossing : ℕ) × IsCrossing code.crossings crossing × (bit tail.state (place_of crossing) ≡ 0)
     × (head.state ≡ state_behind tail.state crossing)
-coefficient-elsewhere p code tail head some =
-    let term = sum_by-some (coefficient_at p code tail head) 1 (length code.crossings) some in
-    elim (edge_or_zero p code tail head term.0) [
-      | inl step ↦ (
-        term.0,
-        record { positive = term.1; within = omega (arith, term.2) },
-        step.zero_there,
-        step.behind,
-      )
-      | inr none ↦ absurd (term.3 none)
-    ]
+coefficient-elsewhere p code tail head some = grind (arith, nat_tests, sum_by-some, edge_or_zero)

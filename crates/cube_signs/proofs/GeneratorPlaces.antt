@@ -1,4 +1,5 @@
 -- Where the generators of two degrees stand: those of a state stand together, after those of the states before it.
+use Rattle.std.proofs.lemmas.Bool.Decides.{nat_tests}
 use Rattle.std.proofs.Common.{◌≡◌, ℕ, zero, suc, ◌+◌, ◌-◌, ◌^◌, ◌<◌, ◌≤◌, ◌∙◌, inl, inr, ℤ, List, [], ◌∷◌, ◌++◌, length, get_or, map, refl, sym, ap, subst, arith, Bool, true, false, cond}
 use Rattle.std.specs.List.{filter, flat_map, range_with_len}
 use Rattle.std.proofs.lemmas.Bool.{cases_lt}
@@ -52,18 +53,11 @@ base-all code i j state within =
     omega (arith, base-le code i j state (2 ^ length code.crossings) within, ap length (generators_at-below code i j))
 
 pub length-generators_at : (code : Code) (i j : ℤ) → generator_count code ≤ GENERATORS → length (generators_at code i j) ≤ GENERATORS
-length-generators_at code i j size =
-    omega (
-      arith,
-      length-filter (has_degrees code i j) (generators code),
-      count_by-le-length (has_degrees code i j) (generators code),
-      length-generators code,
-    )
+length-generators_at code i j size = grind (arith, nat_tests, length-filter, count_by-le-length, length-generators)
 
 pub base-small : (code : Code) (i j : ℤ) (state : ℕ) → state ≤ 2 ^ length code.crossings → generator_count code ≤ GENERATORS
     → base_of code i j state ≤ GENERATORS
-base-small code i j state within size =
-    omega (arith, base-all code i j state within, length-generators_at code i j size)
+base-small code i j state within size = grind (arith, nat_tests, base-all, length-generators_at)
 
 -- so the generators of a state begin there
 pub generator-from_base : (code : Code) (i j : ℤ) (state k : ℕ) (d : Generator) → state < 2 ^ length code.crossings
@@ -166,13 +160,7 @@ passing-at p (suc n) k d within =
     last : (b : Bool) → p n ≡ b → k < length (filter p (range_with_len 0 n)) + length (cond (p n) (n ∷ []) [])
         → length (filter p (range_with_len 0 n)) ≤ k
         → IsPassing p (suc n) k (get_or (filter p (range_with_len 0 n) ++ cond (p n) (n ∷ []) []) k d)
-    last true passes inside behind =
-        let front = filter p (range_with_len 0 n) in
-        let is : length front ≡ k = omega (arith, inside, behind, ap (λ b. length (cond b (n ∷ []) [])) passes) in
-        subst (λ (b : Bool). IsPassing p (suc n) k (get_or (front ++ cond b (n ∷ []) []) k d)) (sym passes)
-        (subst (IsPassing p (suc n) k) (sym (get_or_push front n d k is))
-        (record { below = omega arith; passes = passes; place = is }))
-    last false fails inside behind = absurd (omega (arith, inside, behind, ap (λ b. length (cond b (n ∷ []) [])) fails))
+    last b passes inside behind = grind (arith, nat_tests, get_or_push)
 
 -- the generators of a state, by their labels
 abbrev pub is_label : Code → ℤ → ℤ → ℕ → ℕ → Bool
@@ -239,6 +227,4 @@ HasPlace-within code i j place within =
 -- so the generator at a place is the one that has it
 pub generator-at : (code : Code) (i j : ℤ) (place : ℕ) (d : Generator) (has : HasPlace code i j place)
     → get_or (generators_at code i j) place d ≡ generator_of has.state has.label
-generator-at code i j place d has =
-    ap (λ k. get_or (generators_at code i j) k d) has.is
-    ∙ (IsPlaced-label code i j has.state has.label has.state_below has.label_below has.passes).is d
+generator-at code i j place d has = grind (arith, nat_tests, IsPlaced-label)

@@ -1,4 +1,5 @@
 -- The labels behind an edge are the numbers whose bits a merge or a split makes of those before it.
+use Rattle.std.proofs.lemmas.Bool.Decides.{nat_tests}
 use Rattle.std.proofs.Common.{◌≡◌, ◌≢◌, ℕ, zero, suc, ◌+◌, ◌*◌, ◌^◌, ◌<◌, ◌≤◌, ◌∙◌, ◌⊎◌, inl, inr, List, [], ◌∷◌, length, refl, sym, ap, subst, arith}
 use Rattle.std.specs.Prelude.{nat_eq, ◌&&◌, if◌then◌else◌}
 use Rattle.std.specs.List.{Contains}
@@ -73,16 +74,11 @@ IsMerged-merged size a b label order within small room =
 none_or_one : (x y m : ℕ) → x ≤ 1 → y ≤ 1
     → ((x ≡ 1) × (y ≡ 1) × ((if nat_eq x 1 && nat_eq y 1 then [] else m ∷ []) ≡ []))
     ⊎ ((x + y ≤ 1) × ((if nat_eq x 1 && nat_eq y 1 then [] else m ∷ []) ≡ m ∷ []))
-none_or_one zero y m x_small y_small = inr (omega arith, refl)
-none_or_one (suc zero) zero m x_small y_small = inr (omega arith, refl)
-none_or_one (suc zero) (suc zero) m x_small y_small = inl (refl, refl, refl)
-none_or_one (suc zero) (suc (suc y)) m x_small y_small = absurd (omega (arith, y_small))
-none_or_one (suc (suc x)) y m x_small y_small = absurd (omega (arith, x_small))
+none_or_one x y m x_small y_small = grind (arith, nat_tests)
 
 merged_list : (a b label : ℕ) → ((bit label a ≡ 1) × (bit label b ≡ 1) × (merged_labels a b label ≡ []))
     ⊎ ((bit label a + bit label b ≤ 1) × (merged_labels a b label ≡ merged a b label ∷ []))
-merged_list a b label =
-    none_or_one (bit label a) (bit label b) (without_bit b label + 2 ^ a * bit label b) (bit-le label a) (bit-le label b)
+merged_list a b label = grind (arith, nat_tests)
 
 contains_first : (xs rest : List ℕ) (x y : ℕ) → xs ≡ y ∷ rest → x ≡ y → Contains xs x
 contains_first xs rest x y is same = rw is (0, omega arith, sym same)
@@ -152,19 +148,15 @@ IsAt-first size a b label order within small plus =
     }
 
 IsAt-same : (size a b label head other x y : ℕ) → IsAt size a b label head x y → IsAt size a b label other x y → head ≡ other
-IsAt-same size a b label head other x y is too =
-    two-number (size + 1) a b head label other is.agree too.agree is.small too.small (is.at_a ∙ sym too.at_a) (is.at_b ∙ sym too.at_b)
+IsAt-same size a b label head other x y is too = grind (arith, nat_tests, two-number)
 
 IsParted-at : (size a b label head x y : ℕ) → IsAt size a b label head x y → x + y ≡ bit label a + 1 → IsParted size a b label head
-IsParted-at size a b label head x y is sum =
-    record { agree = is.agree; sum = omega (arith, is.at_a, is.at_b, sum); small = is.small }
+IsParted-at size a b label head x y is sum = grind (arith, nat_tests)
 
 one_or_two : (x m n : ℕ) → x ≤ 1
     → ((x ≡ 1) × ((if nat_eq x 1 then n ∷ [] else m ∷ n ∷ []) ≡ n ∷ []))
     ⊎ ((x ≡ 0) × ((if nat_eq x 1 then n ∷ [] else m ∷ n ∷ []) ≡ m ∷ n ∷ []))
-one_or_two zero m n small = inr (refl, refl)
-one_or_two (suc zero) m n small = inl (refl, refl)
-one_or_two (suc (suc x)) m n small = absurd (omega (arith, small))
+one_or_two x m n small = grind (arith, nat_tests)
 
 split_list : (a b label : ℕ) → ((bit label a ≡ 1) × (split_labels a b label ≡ both b label ∷ []))
     ⊎ ((bit label a ≡ 0) × (split_labels a b label ≡ first a b label ∷ both b label ∷ []))
@@ -219,16 +211,7 @@ IsParted-contains size a b label head order within small has =
 -- the lists ascend
 
 pub increasing-merged : (a b label : ℕ) → IsStrictlyIncreasing (merged_labels a b label)
-increasing-merged a b label = elim (merged_list a b label) [
-  | inl none ↦ λ k below. absurd (omega (arith, ap length none.2, below))
-  | inr one ↦ λ k below. absurd (omega (arith, ap length one.1, below))
-]
+increasing-merged a b label = grind (arith, nat_tests)
 
 pub increasing-split : (a b label : ℕ) → a < b → IsStrictlyIncreasing (split_labels a b label)
-increasing-split a b label order = elim (split_list a b label) [
-  | inl one ↦ λ k below. absurd (omega (arith, ap length one.1, below))
-  | inr two ↦ subst (λ xs. IsStrictlyIncreasing xs) (sym two.1) (λ k below. elim (cases_eq k 0) [
-    | inl is ↦ rw is (omega (arith, pow-lt order))
-    | inr other ↦ absurd (omega (arith, below, other))
-  ])
-]
+increasing-split a b label order = grind (arith, nat_tests, split_list, cases_eq, pow-lt)

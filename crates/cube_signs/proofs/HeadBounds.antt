@@ -1,4 +1,5 @@
 -- How large labels with other bits are.
+use Rattle.std.proofs.lemmas.Bool.Decides.{nat_tests}
 use Rattle.std.proofs.Common.{◌≡◌, ℕ, suc, ◌+◌, ◌*◌, ◌/◌, ◌%◌, ◌^◌, ◌<◌, ◌≤◌, ◌∙◌, ap, arith}
 use Rattle.std.proofs.Math.Nat.{div-add-mod, div-mul-le_self, le-div_iff_mul-le, mul-le-mul_left, pow-suc}
 use Rattle.std.proofs.Math.Pow.{pow_mono}
@@ -21,26 +22,16 @@ next place =
 
 -- the bits above a place moved down, and those from a place on moved up
 moved_down : (p label : ℕ) → 0 < p → label % p + p * (label / (p * 2)) ≤ label
-moved_down p label positive =
-    let whole = div-add-mod label p in
-    let few : label / (p * 2) * p ≤ label = omega (arith, div-mul-le_self label (p * 2)) in
-    let half : label / (p * 2) ≤ label / p = (le-div_iff_mul-le positive).1 few in
-    omega (arith, whole, mul-le-mul_left p half)
+moved_down p label positive = grind (arith, nat_tests)
 
 moved_up : (p label : ℕ) → label % p + p * 2 * (label / p) ≤ 2 * label
 moved_up p label = omega (arith, div-add-mod label p)
 
 pub without_bit-le : (place label : ℕ) → without_bit place label ≤ label
-without_bit-le place label =
-    omega (
-      arith,
-      moved_down (2 ^ place) label (pow_pos place),
-      ap (λ q. label % 2 ^ place + 2 ^ place * (label / q)) (next place),
-    )
+without_bit-le place label = grind (arith, nat_tests, moved_down, pow_pos, next)
 
 pub with_gap-le : (place label : ℕ) → with_gap place label ≤ 2 * label
-with_gap-le place label =
-    omega (arith, moved_up (2 ^ place) label, ap (λ q. label % 2 ^ place + q * (label / 2 ^ place)) (next place))
+with_gap-le place label = grind (arith, nat_tests, moved_up, next)
 
 pub ruleset powers = (power-positive, power-within)
 

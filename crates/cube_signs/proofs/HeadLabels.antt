@@ -36,21 +36,7 @@ pub record AreNumbered (code : Code) (two one crossing a b : ℕ) : Type 0 where
 
 pub AreNumbered-edge : (code : Code) (two one crossing a b to : ℕ) → IsTrue (accepted code) → IsMerge code two one crossing
     → HaveMerged code two one crossing a b to → AreRenumbered code two one a b → AreNumbered code two one crossing a b
-AreNumbered-edge code two one crossing a b to is merge does moved =
-    let p = circle_at_slot code two crossing 0 in
-    let q = circle_at_slot code two crossing 2 in
-    let p_is = IsCircle-of code two (arc_at_slot code crossing 0) is merge.first in
-    let q_is = IsCircle-of code two (arc_at_slot code crossing 2) is merge.third in
-    let numbers : a ∷ b ∷ [] ≡ number_of code two (min p q) ∷ number_of code two (max p q) ∷ [] =
-    sym does.two ∙ ap (λ xs. map (number_of code two) xs) merge.circles.touched_before in
-    record {
-      is = is;
-      merge = merge;
-      lesser = ap (λ xs. slice_index xs 0) numbers ∙ number_of-min code two p q p_is q_is;
-      greater = ap (λ xs. slice_index xs 1) numbers ∙ number_of-max code two p q p_is q_is;
-      order = does.order;
-      moved = moved;
-    }
+AreNumbered-edge code two one crossing a b to is merge does moved = grind (arith, nat_tests)
 
 -- the greater number is one of a circle
 pub greater-below : (code : Code) (two one crossing a b : ℕ) → AreNumbered code two one crossing a b → b ≤ circle_count code one
@@ -85,16 +71,7 @@ off-number code two one crossing a b arc are name off =
 
 off-other : (code : Code) (two one crossing a b arc : ℕ) → AreNumbered code two one crossing a b
     → circle_number code two arc ≢ a → circle_number code two arc ≢ b → IsOff code two crossing arc
-off-other code two one crossing a b arc are not_a not_b =
-    let others = neither a b (number_at code two crossing 0) (number_at code two crossing 2) (circle_number code two arc)
-    are.lesser are.greater not_a not_b in
-    record {
-      first = λ same. others.0 (ap (number_of code two) same);
-      third = λ same. others.1 (ap (number_of code two) same);
-    }
-  where
-    neither : (a b m n k : ℕ) → a ≡ min m n → b ≡ max m n → k ≢ a → k ≢ b → (k ≢ m) × (k ≢ n)
-    neither a b m n k lesser greater not_a not_b = (grind arith, grind arith)
+off-other code two one crossing a b arc are not_a not_b = grind (arith, nat_tests)
 
 -- so labels are the same off the two circles exactly where bits are
 
@@ -127,21 +104,11 @@ same-agree code two one crossing a b are agree =
 
 labels-two : (code : Code) (two one : Generator) (crossing a b : ℕ) → AreNumbered code two.state one.state crossing a b
     → label_at code two crossing 0 + label_at code two crossing 2 ≡ bit two.label a + bit two.label b
-labels-two code two one crossing a b are =
-    either_way (bit two.label) a b (number_at code two.state crossing 0) (number_at code two.state crossing 2) are.lesser are.greater
-  where
-    either_way : (f : ℕ → ℕ) (a b m n : ℕ) → a ≡ min m n → b ≡ max m n → f m + f n ≡ f a + f b
-    either_way f a b m n lesser greater = grind arith
+labels-two code two one crossing a b are = grind (arith, nat_tests)
 
 label-one : (code : Code) (two : ℕ) (one : Generator) (crossing a b : ℕ) → AreNumbered code two one.state crossing a b
     → label_at code one crossing 0 ≡ bit one.label a
-label-one code two one crossing a b are =
-    ap (bit one.label)
-    (are.moved (arc_at_slot code crossing 0) are.merge.first
-    ∙ becomes a b (number_at code two crossing 0) (number_at code two crossing 2) are.lesser are.greater are.order)
-  where
-    becomes : (a b m n : ℕ) → a ≡ min m n → b ≡ max m n → a < b → renumbered a b m ≡ a
-    becomes a b m n lesser greater order = grind (arith, nat_tests)
+label-one code two one crossing a b are = grind (arith, nat_tests)
 
 -- the labels behind a merge, and behind a split
 

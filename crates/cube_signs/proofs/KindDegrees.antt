@@ -1,4 +1,5 @@
 -- The shapes of the kinds of states give the same quantum degrees as the shapes of all states.
+use Rattle.std.proofs.lemmas.Bool.Decides.{nat_tests}
 use Rattle.std.proofs.Common.{◌≡◌, ℕ, ◌+◌, ◌^◌, ◌≤◌, ◌∙◌, ℤ, List, [], ◌∷◌, ◌++◌, map, length, refl, sym, ap, ap₂, arith, Bool, true, false, cond, IsTrue}
 use Rattle.std.specs.Prelude.{nat_eq, not, ◌&&◌, ◌||◌}
 use Rattle.std.specs.List.{count_by, filter, list_any, range_with_len}
@@ -30,8 +31,7 @@ use Rattle.kh_types.proofs.MappedLists.{list_any-map}
 
 -- a list has elements that pass where their number is not 0
 any-one : (b any : Bool) (count : ℕ) → any ≡ not (nat_eq count 0) → (b || any) ≡ not (nat_eq (cond b 1 0 + count) 0)
-any-one true any count is = sym (ap not (ne_eqb (1 + count) 0 (λ same. omega (arith, same))))
-any-one false any count is = let e : count ≡ 0 + count = omega arith in is ∙ ap (λ n. not (nat_eq n 0)) e
+any-one b any count is = grind (arith, nat_tests)
 
 list_any-count : (p : ℕ → Bool) (xs : List ℕ) → list_any p xs ≡ not (nat_eq (count_by p xs) 0)
 list_any-count p [] = refl
@@ -40,12 +40,10 @@ list_any-count p (x ∷ xs) =
     ∙ ap (λ n. not (nat_eq n 0)) (sym (sum_by-cons (λ y. cond (p y) 1 0) x xs))
 
 list_any-cond : (p : Shape → Bool) (b : Bool) (shape : Shape) → list_any p (cond b (shape ∷ []) []) ≡ (b && p shape)
-list_any-cond p true shape = or-false (p shape)
-list_any-cond p false shape = refl
+list_any-cond p b shape = grind (arith, nat_tests)
 
 and_true : (a b : Bool) → (a && b) ≡ true → (a ≡ true) × (b ≡ true)
-and_true true b holds = (refl, holds)
-and_true false b holds = absurd (false≢true holds)
+and_true a b holds = grind (arith, nat_tests)
 
 -- a code has a state of a kind where one of its states is of it
 has_kind-states : (code : Code) (kind : ℕ) → IsAccepted code → length code.crossings ≤ CROSSINGS

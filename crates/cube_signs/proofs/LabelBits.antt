@@ -13,8 +13,7 @@ use Rattle.cube_signs.specs.Heads.{with_gap, without_bit}
 -- a number by its low bits and the others
 
 bit-high : (number low k : ℕ) → bit (number / 2 ^ low) k ≡ bit number (low + k)
-bit-high number low k =
-    ap (λ n. n % 2) (div-div-eq-div-mul number (2 ^ low) (2 ^ k) ∙ ap (λ p. number / p) (sym (pow-add 2 low k)))
+bit-high number low k = grind (arith, nat_tests, div-div-eq-div-mul, pow-add)
 
 bit-low : (number low k : ℕ) → k < low → bit (number % 2 ^ low) k ≡ bit number k
 bit-low number low k below =
@@ -44,8 +43,7 @@ high-below number low rest small = (div-lt_iff_lt-mul (pow_pos low)).1 (omega (a
 -- without a bit
 
 pub without-low : (place label k : ℕ) → k < place → bit (without_bit place label) k ≡ bit label k
-without-low place label k below =
-    bit-joined_low (label % 2 ^ place) (label / 2 ^ (place + 1)) place k below ∙ bit-low label place k below
+without-low place label k below = grind (arith, nat_tests, bit-joined_low, bit-low)
 
 without-high : (place label k : ℕ) → place ≤ k → bit (without_bit place label) k ≡ bit label (k + 1)
 without-high place label k from =
@@ -64,16 +62,13 @@ without-below place label size within small =
 -- with a gap
 
 pub gap-low : (place label k : ℕ) → k < place → bit (with_gap place label) k ≡ bit label k
-gap-low place label k below =
-    bit-joined_low (label % 2 ^ place) (label / 2 ^ place) (place + 1) k (omega (arith, below)) ∙ bit-low label place k below
+gap-low place label k below = grind (arith, nat_tests, bit-joined_low, bit-low)
 
 low-small : (place label : ℕ) → label % 2 ^ place < 2 ^ (place + 1)
 low-small place label = omega (arith, mod-lt label (pow_pos place), pow-lt (let e : place < place + 1 = omega arith in e))
 
 pub gap-there : (place label : ℕ) → bit (with_gap place label) place ≡ 0
-gap-there place label =
-    bit-joined_low (label % 2 ^ place) (label / 2 ^ place) (place + 1) place (omega arith)
-    ∙ bit_at_above (label % 2 ^ place) place place (mod-lt label (pow_pos place)) (omega arith)
+gap-there place label = grind (arith, nat_tests, bit-joined_low, bit_at_above, mod-lt, pow_pos)
 
 gap-high : (place label k : ℕ) → place < k → bit (with_gap place label) k ≡ bit label (k - 1)
 gap-high place label k above =
@@ -98,21 +93,10 @@ renumbered-high : (a b k : ℕ) → b < k → renumbered a b k ≡ k - 1
 renumbered-high a b k above = grind (arith, nat_tests)
 
 pub without-renumbered : (a b label k : ℕ) → k ≢ b → bit (without_bit b label) (renumbered a b k) ≡ bit label k
-without-renumbered a b label k other = elim (cases_lt k b) [
-  | inl below ↦ ap (bit (without_bit b label)) (renumbered-low a b k below) ∙ without-low b label k below
-  | inr from ↦
-      let above : b < k = omega (arith, from, other) in
-      ap (bit (without_bit b label)) (renumbered-high a b k above) ∙ without-high b label (k - 1) (omega (arith, above))
-      ∙ ap (bit label) (omega (arith, above))
-]
+without-renumbered a b label k other = grind (arith, nat_tests, cases_lt, renumbered-low, without-low, renumbered-high, without-high)
 
 pub gap-renumbered : (a b label k : ℕ) → k ≢ b → bit (with_gap b label) k ≡ bit label (renumbered a b k)
-gap-renumbered a b label k other = elim (cases_lt k b) [
-  | inl below ↦ gap-low b label k below ∙ ap (bit label) (sym (renumbered-low a b k below))
-  | inr from ↦
-      let above : b < k = omega (arith, from, other) in
-      gap-high b label k above ∙ ap (bit label) (sym (renumbered-high a b k above))
-]
+gap-renumbered a b label k other = grind (arith, nat_tests, cases_lt, gap-low, renumbered-low, gap-high, renumbered-high)
 
 pub renumbered-other : (a b k : ℕ) → a < b → k ≢ a → k ≢ b → renumbered a b k ≢ a
 renumbered-other a b k order not_a not_b = grind (arith, nat_tests)

@@ -1,4 +1,5 @@
 -- The labels of a state that have two degrees, by their numbers of v-.
+use Rattle.std.proofs.lemmas.Bool.Decides.{nat_tests}
 use Rattle.std.proofs.Common.{◌≡◌, ℕ, zero, suc, ◌+◌, ◌-◌, ◌*◌, ◌^◌, ◌<◌, ◌≤◌, ◌∙◌, ℤ, pos, ◌-ℤ◌, List, [], ◌∷◌, ◌++◌, length, get_or, map, take, refl, sym, ap, ap₂, subst, arith, Bool, true, false, cond, Option}
 use Rattle.std.specs.Prelude.{nat_eq, slice_index, ◌&&◌}
 use Rattle.std.specs.List.{All, count_by, filter, range_with_len}
@@ -66,9 +67,7 @@ take-places (suc n) xs within =
 -- so those that pass a test are counted by the places
 pub count_by-take : (p : ℕ → Bool) (n : ℕ) (xs : List ℕ) → n ≤ length xs
     → count_by p (take n xs) ≡ length (filter (λ k. p (slice_index xs k)) (range_with_len 0 n))
-count_by-take p n xs within =
-    ap (count_by p) (take-places n xs within) ∙ count_by-map p (slice_index xs) (range_with_len 0 n)
-    ∙ sym (length-filter (λ k. p (slice_index xs k)) (range_with_len 0 n))
+count_by-take p n xs within = grind (arith, nat_tests, take-places, count_by-map, length-filter)
 
 -- a label has the degrees where its state has the one and its number of v- gives the other
 
@@ -91,22 +90,11 @@ is_label-given code i j state label given is gives =
 
 pub is_label-none : (code : Code) (i j : ℤ) (state label : ℕ)
     → int_eq (pos (one_count code state) -ℤ pos (minus_count code.crossings)) i ≡ false → is_label code i j state label ≡ false
-is_label-none code i j state label isnt =
-    is_label-shape code i j state label
-    ∙ ap (λ b. b && gives_degree (shape_of code state) j (ones (circle_count code state) label)) isnt
+is_label-none code i j state label isnt = grind (arith, nat_tests)
 
 -- beside a label that has the degrees, those with as many v- have them
 one_count-of : (top j : ℤ) (a b : ℕ) → int_eq (top -ℤ pos (2 * a)) j ≡ true → int_eq (top -ℤ pos (2 * b)) j ≡ nat_eq a b
-one_count-of top j a b is =
-    let at : top -ℤ pos (2 * a) ≡ j = (Decides-int_eq (top -ℤ pos (2 * a)) j).0 is in
-    same-passes (int_eq (top -ℤ pos (2 * b)) j) (nat_eq a b)
-    (λ passes.
-    let too : top -ℤ pos (2 * b) ≡ j = (Decides-int_eq (top -ℤ pos (2 * b)) j).0 passes in
-    let same : a ≡ b = omega (arith, ints) in
-    eq-eqb a b same)
-    (λ same.
-    let e : a ≡ b = eqb-true a b same in
-    ap (λ n. int_eq (top -ℤ pos (2 * n)) j) (sym e) ∙ is)
+one_count-of top j a b is = grind (arith, nat_tests)
 
 pub is_label-beside : (code : Code) (i j : ℤ) (state label other : ℕ) → is_label code i j state label ≡ true
     → is_label code i j state other
@@ -165,11 +153,7 @@ state_generators-none code i j state none =
         ∙ nothing (a + 1) n
 
 pub not-int_eq : (x y : ℤ) → (x ≡ y → ⊥) → int_eq x y ≡ false
-not-int_eq x y differ = fails (int_eq x y) (Decides-int_eq x y).0
-  where
-    fails : (b : Bool) → (b ≡ true → x ≡ y) → b ≡ false
-    fails true same = absurd (differ (same refl))
-    fails false same = refl
+not-int_eq x y differ = grind (arith, nat_tests)
 
 -- the ranks in the tables of a cube
 pub AreRanks-tables : (code : Code) (minus : ℕ) (shapes : List Shape) (rows : List (ArrayVec (Option Edge))) (weights ranks : List ℕ)

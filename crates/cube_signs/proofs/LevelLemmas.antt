@@ -1,4 +1,5 @@
 -- The states by the number of their 1-smoothings, and the generators of a degree over its states alone.
+use Rattle.std.proofs.lemmas.Bool.Decides.{nat_tests}
 use Rattle.std.proofs.Common.{◌≡◌, ◌≢◌, ℕ, ◌+◌, ◌^◌, ◌<◌, ◌≤◌, ◌∙◌, ℤ, pos, ◌-ℤ◌, List, [], ◌∷◌, ◌++◌, length, get_or, map, take, refl, sym, ap, subst, arith, Bool, true, false, cond}
 use Rattle.std.specs.Prelude.{nat_eq, slice_index, slice_index_or}
 use Rattle.std.specs.Global.{Vec}
@@ -46,14 +47,12 @@ level-more code shapes made next state level shape d is_made are below is is_nex
 pub level-all : (code : Code) (made : List ℕ) (state level : ℕ)
     → made ≡ filter (λ other. nat_eq (one_count code other) level) (range_with_len 0 state) → state ≡ 2 ^ length code.crossings
     → made ≡ states_with code level
-level-all code made state level is_made all =
-    is_made ∙ ap (λ n. filter (λ other. nat_eq (one_count code other) level) (range_with_len 0 n)) all
+level-all code made state level is_made all = grind (arith, nat_tests)
 
 -- one level more, and all
 pub levels-more : (code : Code) (made next : List (List ℕ)) (more : List ℕ) (level : ℕ) → made ≡ levels_below code level
     → more ≡ states_with code level → next ≡ made ++ more ∷ [] → next ≡ levels_below code (level + 1)
-levels-more code made next more level is_made is_more is_next =
-    images-more (states_with code) made next more level is_made is_more is_next
+levels-more code made next more level is_made is_more is_next = grind (arith, nat_tests, images-more)
 
 pub levels-all : (code : Code) (made : List (List ℕ)) (level : ℕ) → made ≡ levels_below code level → level ≡ CROSSINGS + 1
     → made ≡ all_levels code
@@ -131,18 +130,10 @@ skipped f q (x ∷ xs) none = step (q x) refl (skipped f q xs none)
   where
     step : (b : Bool) → q x ≡ b → flat_map f (filter q xs) ≡ flat_map f xs
         → flat_map f (cond (q x) (x ∷ filter q xs) (filter q xs)) ≡ f x ++ flat_map f xs
-    step true is rest =
-        ap (λ b. flat_map f (cond b (x ∷ filter q xs) (filter q xs))) is ∙ ap (λ (ys : List Generator). f x ++ ys) rest
-    step false is rest =
-        ap (λ b. flat_map f (cond b (x ∷ filter q xs) (filter q xs))) is ∙ rest
-        ∙ ap (λ (ys : List Generator). ys ++ flat_map f xs) (sym (none x is))
+    step b is rest = grind (arith, nat_tests)
 
 pub names-all_states : (code : Code) (i j : ℤ) (listed : List ℕ) (k : ℕ) (made : List Generator)
     → made ≡ flat_map (state_generators code i j) (take k listed) → length listed ≤ k → listed ≡ states_at code i
     → made ≡ generators_at code i j
 names-all_states code i j listed k made is_made all are =
-    let f = state_generators code i j in
-    is_made ∙ ap (flat_map f) (take_all k listed all) ∙ ap (flat_map f) are
-    ∙ skipped f (λ state. int_eq (own_degree code state) i) (states code)
-    (λ state isnt. state_generators-none code i j state (λ label. is_label-none code i j state label isnt))
-    ∙ sym (generators_at-below code i j)
+    grind (arith, nat_tests, take_all, skipped, state_generators-none, is_label-none, generators_at-below)

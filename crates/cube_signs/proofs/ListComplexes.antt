@@ -1,4 +1,5 @@
 -- Complexes whose places are lists of generators, one for each degree from -n to n, with the coefficients of the cube.
+use Rattle.std.proofs.lemmas.Bool.Decides.{nat_tests}
 use Rattle.std.proofs.Common.{◌≡◌, ℕ, ◌+◌, ◌-◌, ◌*◌, ◌%◌, ◌<◌, ◌≤◌, ◌∙◌, ◌⊎◌, inl, inr, ℤ, pos, negsuc, ◌+ℤ◌, ◌-ℤ◌, List, [], ◌∷◌, length, map, refl, sym, ap, ap₂, arith, true, false}
 use Rattle.std.specs.Prelude.{slice_index_or}
 use Rattle.std.specs.List.{count_by, sum_by, range_with_len}
@@ -44,8 +45,7 @@ degree-numbered p code n lists k below =
 
 degree-past : (p : ℕ) (code : Code) (n : ℕ) (lists : ℤ → List Generator) (k : ℕ) → 2 * n + 1 ≤ k
     → degree_number (list_complex p code n lists) k ≡ empty_degree
-degree-past p code n lists k past =
-    get_or_past (list_complex p code n lists).degrees k empty_degree (omega (arith, past, size-list_complex p code n lists))
+degree-past p code n lists k past = grind (arith, nat_tests, get_or_past, size-list_complex)
 
 -- each degree is that of its list, or it is empty, beyond n
 degree-list_complex : (p : ℕ) (code : Code) (n : ℕ) (lists : ℤ → List Generator) (i : ℤ)
@@ -71,28 +71,18 @@ degree-list_complex p code n lists i = elim (within_or_not n i) [
 pub alive-list_complex : (p : ℕ) (code : Code) (n : ℕ) (lists : ℤ → List Generator) (i : ℤ)
     → ((i : ℤ) → (IsWithin n i → ⊥) → lists i ≡ [])
     → (degree_of (list_complex p code n lists) i).alive ≡ map (λ generator. true) (lists i)
-alive-list_complex p code n lists i beyond = elim (degree-list_complex p code n lists i) [
-  | inl is ↦ ap (λ degree. degree.alive) is
-  | inr (is, outside) ↦
-      ap (λ degree. degree.alive) is ∙ sym (ap (λ (xs : List Generator). map (λ x. true) xs) (beyond i outside))
-]
+alive-list_complex p code n lists i beyond = grind (arith, nat_tests, degree-list_complex)
 
 pub entry-list_complex : (p : ℕ) (code : Code) (n : ℕ) (lists : ℤ → List Generator) (i : ℤ) (row column : ℕ)
     → ((i : ℤ) → (IsWithin n i → ⊥) → lists i ≡ [])
     → entry_of (list_complex p code n lists) i row column
     ≡ entry_in (coefficients p code (lists i) (lists (i +ℤ pos 1))) row column
-entry-list_complex p code n lists i row column beyond = elim (degree-list_complex p code n lists i) [
-  | inl is ↦ ap (λ degree. entry_in degree.matrix row column) is
-  | inr (is, outside) ↦
-      ap (λ degree. entry_in degree.matrix row column) is ∙ entry-past_rows [] row column (omega arith)
-      ∙ sym (entry-column_past p code (lists i) (lists (i +ℤ pos 1)) row column (omega (arith, ap length (beyond i outside))))
-]
+entry-list_complex p code n lists i row column beyond = grind (arith, nat_tests, degree-list_complex, entry-past_rows, entry-column_past)
 
 places-list_complex : (p : ℕ) (code : Code) (n : ℕ) (lists : ℤ → List Generator) (i : ℤ)
     → ((i : ℤ) → (IsWithin n i → ⊥) → lists i ≡ [])
     → length (degree_of (list_complex p code n lists) i).alive ≡ length (lists i)
-places-list_complex p code n lists i beyond =
-    ap length (alive-list_complex p code n lists i beyond) ∙ length-map (lists i) (λ generator. true)
+places-list_complex p code n lists i beyond = grind (arith, nat_tests, alive-list_complex, length-map)
 
 -- the rank of a matrix without columns
 pub rank-empty_rows : {X : Type 0} (p : ℕ) (xs : List X) → rank p (map (λ x. []) xs) ≡ 0
@@ -109,37 +99,21 @@ rank-no_heads p code tails heads none = ap (λ (xs : List Generator). rank p (co
 pub rank-list_complex : (p : ℕ) (code : Code) (n : ℕ) (lists : ℤ → List Generator) (i : ℤ)
     → ((i : ℤ) → (IsWithin n i → ⊥) → lists i ≡ [])
     → rank p (degree_of (list_complex p code n lists) i).matrix ≡ rank p (coefficients p code (lists i) (lists (i +ℤ pos 1)))
-rank-list_complex p code n lists i beyond = elim (degree-list_complex p code n lists i) [
-  | inl is ↦ ap (λ degree. rank p degree.matrix) is
-  | inr (is, outside) ↦
-      ap (λ degree. rank p degree.matrix) is
-      ∙ sym (rank-no_tails p code (lists i) (lists (i +ℤ pos 1)) (beyond i outside))
-]
+rank-list_complex p code n lists i beyond = grind (arith, nat_tests, degree-list_complex, rank-no_tails)
 
 pub alive_count-list_complex : (p : ℕ) (code : Code) (n : ℕ) (lists : ℤ → List Generator) (i : ℤ)
     → ((i : ℤ) → (IsWithin n i → ⊥) → lists i ≡ []) → alive_count (list_complex p code n lists) i ≡ length (lists i)
-alive_count-list_complex p code n lists i beyond =
-    ap (λ alive. count_by (λ is_alive. is_alive) alive) (alive-list_complex p code n lists i beyond) ∙ count-all (lists i)
+alive_count-list_complex p code n lists i beyond = grind (arith, nat_tests, alive-list_complex, count-all)
 
 pub dimension_of-list_complex : (p : ℕ) (code : Code) (n : ℕ) (lists : ℤ → List Generator) (i : ℤ)
     → ((i : ℤ) → (IsWithin n i → ⊥) → lists i ≡ [])
     → dimension_of p (list_complex p code n lists) i ≡ list_dimension p code lists i
-dimension_of-list_complex p code n lists i beyond =
-    omega (
-      arith,
-      alive_count-list_complex p code n lists i beyond,
-      rank-list_complex p code n lists i beyond,
-      rank-list_complex p code n lists (i -ℤ pos 1) beyond,
-    )
+dimension_of-list_complex p code n lists i beyond = grind (arith, nat_tests, alive_count-list_complex, rank-list_complex)
 
 not_dead : (p : ℕ) (code : Code) (n : ℕ) (lists : ℤ → List Generator) (i : ℤ) (place : ℕ)
     → ((i : ℤ) → (IsWithin n i → ⊥) → lists i ≡ [])
     → slice_index_or (degree_of (list_complex p code n lists) i).alive place true ≡ false → ⊥
-not_dead p code n lists i place beyond dead =
-    let so : true ≡ false =
-    sym (all_alive (lists i) place)
-    ∙ ap (λ places. slice_index_or places place true) (sym (alive-list_complex p code n lists i beyond)) ∙ dead in
-    absurd (cc)
+not_dead p code n lists i place beyond dead = grind (arith, nat_tests, all_alive, alive-list_complex)
 
 product-list_complex : (p : ℕ) (code : Code) (n : ℕ) (lists : ℤ → List Generator) (i : ℤ) (row column : ℕ) → AreLists p code n lists
     → product_entry p (list_complex p code n lists) i row column ≡ 0
@@ -161,9 +135,7 @@ product-list_complex p code n lists i row column are =
 -- the number after a degree's number is that of the next degree
 degree_of-next : (p : ℕ) (code : Code) (n : ℕ) (lists : ℤ → List Generator) (k : ℕ)
     → degree_of (list_complex p code n lists) (pos k -ℤ pos n +ℤ pos 1) ≡ degree_number (list_complex p code n lists) (k + 1)
-degree_of-next p code n lists k =
-    let distance : pos k -ℤ pos n +ℤ pos 1 -ℤ (pos 0 -ℤ pos n) ≡ pos (k + 1) = omega (arith, ints) in
-    ap (degree_from (list_complex p code n lists)) distance
+degree_of-next p code n lists k = grind (arith, nat_tests)
 
 pub IsComplex-list_complex : (p : ℕ) (code : Code) (n : ℕ) (lists : ℤ → List Generator) → 1 < p → AreLists p code n lists
     → IsComplex p (list_complex p code n lists)

@@ -1,4 +1,5 @@
 -- Matrices of coefficients between lists of generators, and the product of two of them.
+use Rattle.std.proofs.lemmas.Bool.Decides.{nat_tests}
 use Rattle.std.proofs.Common.{◌≡◌, ℕ, ◌*◌, ◌%◌, ◌<◌, ◌≤◌, ◌∙◌, inl, inr, List, [], length, get_or, map, sym, ap, ap₂, arith}
 use Rattle.std.specs.Prelude.{slice_index_or}
 use Rattle.std.specs.List.{sum_by, range_with_len}
@@ -31,9 +32,7 @@ row-coefficients p code tails heads row within = get_or-map (row_of p code tails
 
 pub length-row : (p : ℕ) (code : Code) (tails heads : List Generator) (row : ℕ) → row < length heads
     → length (slice_index_or (coefficients p code tails heads) row []) ≡ length tails
-length-row p code tails heads row within =
-    ap length (row-coefficients p code tails heads row within)
-    ∙ length-map tails (λ tail. coefficient p code tail (generator_number heads row))
+length-row p code tails heads row within = grind (arith, nat_tests, row-coefficients, length-map)
 
 -- an entry is the coefficient between two generators, or 0 past the rows and the columns
 pub entry-coefficients : (p : ℕ) (code : Code) (tails heads : List Generator) (row column : ℕ) → row < length heads
@@ -46,33 +45,17 @@ entry-coefficients p code tails heads row column row_within column_within =
 
 pub entry-row_past : (p : ℕ) (code : Code) (tails heads : List Generator) (row column : ℕ) → length heads ≤ row
     → entry_in (coefficients p code tails heads) row column ≡ 0
-entry-row_past p code tails heads row column past =
-    entry-past_rows (coefficients p code tails heads) row column (omega (arith, past, length-coefficients p code tails heads))
+entry-row_past p code tails heads row column past = grind (arith, nat_tests, entry-past_rows, length-coefficients)
 
 pub entry-column_past : (p : ℕ) (code : Code) (tails heads : List Generator) (row column : ℕ) → length tails ≤ column
     → entry_in (coefficients p code tails heads) row column ≡ 0
-entry-column_past p code tails heads row column past = elim (cases_lt row (length heads)) [
-  | inr row_past ↦ entry-row_past p code tails heads row column row_past
-  | inl within ↦
-      get_or_past (slice_index_or (coefficients p code tails heads) row []) column 0
-      (omega (arith, past, length-row p code tails heads row within))
-]
+entry-column_past p code tails heads row column past = grind (arith, nat_tests, cases_lt, entry-row_past, get_or_past, length-row)
 
 -- entries are below p
 pub entry-below : (p : ℕ) (code : Code) (tails heads : List Generator) (row column : ℕ) → 1 < p
     → entry_in (coefficients p code tails heads) row column < p
-entry-below p code tails heads row column above = elim (cases_lt row (length heads)) [
-  | inr past ↦ omega (arith, entry-row_past p code tails heads row column past)
-  | inl row_within ↦ elim (cases_lt column (length tails)) [
-    | inr past ↦ omega (arith, entry-column_past p code tails heads row column past)
-    | inl column_within ↦
-        omega (
-          arith,
-          entry-coefficients p code tails heads row column row_within column_within,
-          coefficient-below p code (generator_number tails column) (generator_number heads row) above,
-        )
-  ]
-]
+entry-below p code tails heads row column above =
+    grind (arith, nat_tests, cases_lt, entry-row_past, entry-column_past, entry-coefficients, coefficient-below)
 
 -- the products of the coefficients from a tail to a head, summed over some generators between
 abbrev pub between : ℕ → Code → List Generator → Generator → Generator → ℕ

@@ -1,4 +1,5 @@
 -- The steps of the loops over the generators of two degrees.
+use Rattle.std.proofs.lemmas.Bool.Decides.{nat_tests}
 use Rattle.std.proofs.Common.{◌≡◌, ℕ, ◌+◌, ◌^◌, ◌≤◌, ◌∙◌, ℤ, List, [], ◌∷◌, ◌++◌, length, map, take, sym, ap, arith, Bool, cond, None, Some, true, false, refl}
 use Rattle.std.specs.Prelude.{nat_eq, slice_index}
 use Rattle.std.specs.List.{count_by}
@@ -46,13 +47,11 @@ pub names-given : (code : Code) (i j : ℤ) (state weight circles : ℕ) (weight
     → AtState code state weights → IsWeight code i j state (Some weight) → circles ≡ circle_count code state
     → next ≡ made ++ map (generator_of state) (labels_with weights weight (2 ^ circles))
     → next ≡ made ++ state_generators code i j state
-names-given code i j state weight circles weights made next at is is_circles is_next =
-    is_next ∙ ap (λ (xs : List Generator). made ++ xs) (given-generators code i j state weight circles weights at is is_circles)
+names-given code i j state weight circles weights made next at is is_circles is_next = grind (arith, nat_tests, given-generators)
 
 pub names-none : (code : Code) (i j : ℤ) (state : ℕ) (made : List Generator) → IsWeight code i j state None
     → made ≡ made ++ state_generators code i j state
-names-none code i j state made is =
-    sym (append-nil made) ∙ ap (λ (xs : List Generator). made ++ xs) (sym (state_generators-none code i j state is.labels))
+names-none code i j state made is = grind (arith, nat_tests, append-nil, state_generators-none)
 
 pub count-given : (code : Code) (i j : ℤ) (state weight circles count : ℕ) (weights part : List ℕ) → AtState code state weights
     → IsWeight code i j state (Some weight) → circles ≡ circle_count code state → part ≡ take (2 ^ circles) weights

@@ -1,4 +1,5 @@
 -- The block from its names and its columns.
+use Rattle.std.proofs.lemmas.Bool.Decides.{nat_tests}
 use Rattle.std.proofs.Common.{◌≡◌, ℕ, zero, suc, ◌+◌, ◌^◌, ◌<◌, ◌≤◌, ◌∙◌, inl, inr, ℤ, pos, neg_ℤ, ◌+ℤ◌, ◌≤ℤ◌, List, [], ◌∷◌, ◌++◌, length, get_or, map, take, refl, sym, ap, ap₂, subst, arith, Bool, true, IsTrue}
 use Rattle.std.specs.Prelude.{slice_index_or, ◌&&◌}
 use Rattle.std.specs.Global.{Vec}
@@ -143,9 +144,7 @@ AreParts-columns p code j low count names columns prime is_code size some above 
     length-names = ap length is_names ∙ length-map-range_with_len (λ k. generators_at code (low +ℤ pos k) j) 0 count
 
     name-at : (k : ℕ) → k < count → slice_index_or names k [] ≡ generators_at code (low +ℤ pos k) j
-    name-at k below =
-        ap (λ (xs : List (List Generator)). get_or xs k []) is_names
-        ∙ get_or-map-range_with_len (λ k. generators_at code (low +ℤ pos k) j) 0 count k k [] below (omega arith)
+    name-at k below = grind (arith, nat_tests, get_or-map-range_with_len)
 
     next-name : (k : ℕ) → k < count → slice_index_or names (k + 1) [] ≡ generators_at code (low +ℤ pos k +ℤ pos 1) j
     next-name k below =
@@ -170,9 +169,7 @@ AreParts-columns p code j low count names columns prime is_code size some above 
     hd = degrees-from code j low count is_low is_count
 
     all-names : names ≡ map (λ i. generators_at code i j) (homological_degrees code j)
-    all-names =
-        is_names ∙ sym (map-map (λ i. generators_at code i j) (λ k. low +ℤ pos k) (range_with_len 0 count))
-        ∙ sym (ap (map (λ i. generators_at code i j)) hd)
+    all-names = grind (arith, nat_tests, map-map, hd)
 
     degree-at-place : (k : ℕ) → k < count → degree_from_lists (all_alive names) columns k ≡ cube_degree p code j (low +ℤ pos k)
     degree-at-place k below =
@@ -186,17 +183,10 @@ AreParts-columns p code j low count names columns prime is_code size some above 
         ∙ matrix-columns p code (low +ℤ pos k) j (slice_index_or columns k []) (are.each k below))
 
     all-degrees : degrees_from (all_alive names) columns ≡ map (cube_degree p code j) (homological_degrees code j)
-    all-degrees =
-        let size : length (all_alive names) ≡ count = length-map names (λ degree. map (λ name. true) degree) ∙ length-names in
-        ap (λ n. map (degree_from_lists (all_alive names) columns) (range_with_len 0 n)) size
-        ∙ map-alike (degree_from_lists (all_alive names) columns) (λ k. cube_degree p code j (low +ℤ pos k)) count degree-at-place
-        ∙ sym (map-map (cube_degree p code j) (λ k. low +ℤ pos k) (range_with_len 0 count))
-        ∙ sym (ap (map (cube_degree p code j)) hd)
+    all-degrees = grind (arith, nat_tests, length-map, length-names, map-alike, cube_degree, degree-at-place, map-map, hd)
 
     same : sparse_complex low names columns ≡ named_block p code j
-    same =
-        ap (λ (l : ℤ). named_of l (degrees_from (all_alive names) columns) names) is_low
-        ∙ ap₂ (named_of (first_or_zero (homological_degrees code j))) all-degrees all-names
+    same = grind (arith, nat_tests, all-degrees, all-names)
 
 -- a quantum degree of a block has a generator, so the block has a degree
 pub block-some : (code : Code) (j : ℤ) → Contains (block_degrees code) j → 0 < length (homological_degrees code j)
@@ -230,6 +220,4 @@ block-built p code j other low count names slice columns prime is_code size some
 
 pub length-names : (code : Code) (low j : ℤ) (count : ℕ) (names : List (Vec Generator)) → lists_in names ≡ generators_from code low j count
     → length names ≡ count
-length-names code low j count names is =
-    sym (length-map names (λ (v : Vec Generator). v.items)) ∙ ap length is
-    ∙ length-map-range_with_len (λ k. generators_at code (low +ℤ pos k) j) 0 count
+length-names code low j count names is = grind (arith, nat_tests, length-map, length-map-range_with_len)

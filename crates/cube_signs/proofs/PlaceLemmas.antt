@@ -1,4 +1,5 @@
 -- Where the generators of a quantum degree begin, state by state.
+use Rattle.std.proofs.lemmas.Bool.Decides.{nat_tests}
 use Rattle.std.proofs.Common.{◌≡◌, ◌≢◌, ℕ, zero, suc, ◌+◌, ◌^◌, ◌<◌, ◌≤◌, ◌∙◌, inl, inr, ℤ, pos, ◌-ℤ◌, List, length, get_or, map, sym, ap, subst, arith}
 use Rattle.std.specs.Prelude.{All, slice_index}
 use Rattle.std.proofs.Math.ListN.{set}
@@ -20,51 +21,19 @@ use Rattle.cube_signs.proofs.LabelPlaces.{is_label-none, not-int_eq, state_gener
 
 -- a state has no generators of other homological degrees
 none-of_other : (code : Code) (i j : ℤ) (state : ℕ) → own_degree code state ≢ i → length (state_generators code i j state) ≡ 0
-none-of_other code i j state other =
-    ap length
-    (state_generators-none code i j state
-    (λ label. is_label-none code i j state label (not-int_eq (own_degree code state) i other)))
+none-of_other code i j state other = grind (arith, nat_tests, state_generators-none, is_label-none, not-int_eq)
 
 -- one state more
 pub HaveSizes-more : (code : Code) (j : ℤ) (state level more : ℕ) (sizes : List ℕ) → HaveSizes code j state sizes
     → level ≡ one_count code state → level ≤ CROSSINGS → more ≡ length (state_generators code (own_degree code state) j state)
     → HaveSizes code j (state + 1) (set sizes level (get_or sizes level 0 + more))
 HaveSizes-more code j state level more sizes have is_level few is_more =
-    let within : level < length sizes = omega (arith, few, have.size) in
-    let degree : ℕ → ℤ = λ k. pos k -ℤ pos (minus_count code.crossings) in
-    record {
-      size = length-set sizes level (get_or sizes level 0 + more) ∙ have.size;
-      each = λ other other_few. elim (cases_eq other level) [
-        | inl same ↦
-            let there : slice_index (set sizes level (get_or sizes level 0 + more)) other ≡ get_or sizes level 0 + more =
-            ap (λ k. slice_index (set sizes level (get_or sizes level 0 + more)) k) same
-            ∙ get_or-set_same sizes level (get_or sizes level 0 + more) 0 within in
-            let own : own_degree code state ≡ degree other = ap degree (sym is_level ∙ sym same) in
-            omega (
-              arith,
-              there,
-              ap (λ k. slice_index sizes k) same,
-              have.each other other_few,
-              is_more,
-              ap (λ (d : ℤ). length (state_generators code d j state)) own,
-              base-more code (degree other) j state,
-            )
-        | inr differs ↦
-            omega (
-              arith,
-              get_or-set_other sizes level other (get_or sizes level 0 + more) 0 differs,
-              have.each other other_few,
-              none-of_other code (degree other) j state (λ same. differs (omega (arith, ints, same, is_level))),
-              base-more code (degree other) j state,
-            )
-      ];
-    }
+    grind (arith, nat_tests, length-set, cases_eq, set, get_or-set_same, base-more, get_or-set_other, none-of_other, ints)
 
 -- the base of a state among those of its degree
 pub base-kept : (code : Code) (j : ℤ) (state level : ℕ) (sizes : List ℕ) → HaveSizes code j state sizes
     → level ≡ one_count code state → level ≤ CROSSINGS → get_or sizes level 0 ≡ own_base code j state
-base-kept code j state level sizes have is_level few =
-    have.each level few ∙ ap (λ k. base_of code (pos k -ℤ pos (minus_count code.crossings)) j state) is_level
+base-kept code j state level sizes have is_level few = grind (arith, nat_tests)
 
 pub own_base-small : (code : Code) (j : ℤ) (state : ℕ) → state ≤ 2 ^ length code.crossings → generator_count code ≤ GENERATORS
     → own_base code j state ≤ GENERATORS
@@ -107,9 +76,7 @@ base-none code i j (suc count) none =
 pub size-kept : (code : Code) (i j : ℤ) (level : ℕ) (sizes : List ℕ) → HaveSizes code j (2 ^ length code.crossings) sizes
     → level ≤ CROSSINGS → pos level -ℤ pos (minus_count code.crossings) ≡ i
     → get_or sizes level 0 ≡ length (generators_at code i j)
-size-kept code i j level sizes have few is =
-    have.each level few ∙ ap (λ (d : ℤ). base_of code d j (2 ^ length code.crossings)) is
-    ∙ sym (ap length (generators_at-below code i j))
+size-kept code i j level sizes have few is = grind (arith, nat_tests, generators_at-below)
 
 pub size-none : (code : Code) (i j : ℤ) → length code.crossings ≤ CROSSINGS
     → ((level : ℕ) → level ≤ CROSSINGS → pos level -ℤ pos (minus_count code.crossings) ≢ i) → 0 ≡ length (generators_at code i j)

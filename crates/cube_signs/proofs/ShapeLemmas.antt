@@ -37,9 +37,7 @@ is_within (Some given) limit = nat_le given limit
 
 -- tests that pass together are the same
 pub same-passes : (a b : Bool) → (a ≡ true → b ≡ true) → (b ≡ true → a ≡ true) → a ≡ b
-same-passes true b forth back = sym (forth refl)
-same-passes false true forth back = back refl
-same-passes false false forth back = refl
+same-passes a b forth back = grind (arith, nat_tests)
 
 pub list_any-flat_map : {X Y : Type 0} (p : Y → Bool) (f : X → List Y) (xs : List X)
     → list_any p (flat_map f xs) ≡ list_any (λ x. list_any p (f x)) xs
@@ -85,19 +83,11 @@ pub shape-made : (code : Code) (state circles raised plus minus : ℕ) (top : �
     → top ≡ pos circles +ℤ (pos (raised + plus) -ℤ pos (2 * minus))
     → record_of circles raised top ≡ shape_of code state
 shape-made code state circles raised plus minus top is_circles is_raised is_plus is_minus is_top =
-    let rest = pos (one_count code state + plus_count code.crossings) -ℤ pos (2 * minus_count code.crossings) in
-    let whole : top ≡ quantum_degree code (generator_of state 0) =
-    rw (is_top, is_circles, is_raised, is_plus, is_minus)
-    (nothing_taken (circle_count code state) (ones (circle_count code state) 0) rest (ones-zero (circle_count code state))) in
-    ap (λ c. record_of c raised top) is_circles ∙ ap (λ r. record_of (circle_count code state) r top) is_raised
-    ∙ ap (record_of (circle_count code state) (one_count code state)) whole
+    grind (arith, nat_tests, nothing_taken, ones-zero)
 
 pub quantum_degree-label : (code : Code) (state label : ℕ)
     → quantum_degree code (generator_of state label) ≡ (shape_of code state).top -ℤ pos (2 * ones (circle_count code state) label)
-quantum_degree-label code state label =
-    taken (circle_count code state) (ones (circle_count code state) 0) (ones (circle_count code state) label)
-    (pos (one_count code state + plus_count code.crossings) -ℤ pos (2 * minus_count code.crossings))
-    (ones-zero (circle_count code state))
+quantum_degree-label code state label = grind (arith, nat_tests, taken, ones-zero)
 
 -- a state has a generator of a degree where a number of labels v- gives it, each number of them up to that of the circles
 has_degree-shape : (code : Code) (j : ℤ) (state : ℕ)

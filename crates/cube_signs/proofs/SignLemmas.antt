@@ -17,15 +17,11 @@ turned : (p count : ℕ) → 1 < p → p - sign_of p count ≡ sign_of p (count 
 turned p count above = grind (arith, nat_tests)
 
 pub sign-same : (p sign state place b : ℕ) → sign ≡ edge_sign_at p state place → b ≡ bit state place → b ≡ 0 → sign ≡ edge_sign_at p state (place + 1)
-sign-same p sign state place b is is_bit zero =
-    let same : ones place state ≡ ones (place + 1) state = omega (arith, ones-more place state) in
-    is ∙ ap (sign_of p) same
+sign-same p sign state place b is is_bit has7 = grind (arith, nat_tests, ones-more)
 
 pub sign-turned : (p sign state place b : ℕ) → 1 < p → sign ≡ edge_sign_at p state place → b ≡ bit state place → b < 2 → b ≢ 0
     → p - sign ≡ edge_sign_at p state (place + 1)
-sign-turned p sign state place b above is is_bit few some =
-    let more : ones place state + 1 ≡ ones (place + 1) state = omega (arith, ones-more place state) in
-    ap (λ s. p - s) is ∙ turned p (ones place state) above ∙ ap (sign_of p) more
+sign-turned p sign state place b above is is_bit few some = grind (arith, nat_tests, ones-more, turned)
 
 pub sign-positive : (p state place : ℕ) → 1 < p → 0 < edge_sign_at p state place
 sign-positive p state place above = grind (arith, nat_tests)

@@ -1,4 +1,5 @@
 -- The homological degrees of a block, found from those that have a generator.
+use Rattle.std.proofs.lemmas.Bool.Decides.{nat_tests}
 use Rattle.std.proofs.Common.{◌≡◌, ℕ, suc, ◌+◌, ◌-◌, ◌*◌, ◌<◌, ◌∙◌, ℤ, pos, neg_ℤ, ◌+ℤ◌, ◌-ℤ◌, List, [], ◌∷◌, ◌++◌, length, map, take, refl, sym, ap, arith, Bool, not}
 use mathlib.Core.List.{reverse_aux}
 use Rattle.std.specs.Prelude.{reverse, nat_eq}
@@ -25,8 +26,7 @@ abbrev pub flags_to : Code → ℤ → ℕ → List Bool
 flags_to code j count = map (flag_at code j) (range_with_len 0 count)
 
 pub some-test : {X : Type 0} (xs : List X) → not (nat_eq (length xs) 0) ≡ not (is_empty xs)
-some-test [] = refl
-some-test (x ∷ xs) = ap not (ne_eqb (suc (length xs)) 0 (omega arith))
+some-test xs = grind (arith, nat_tests)
 
 pub flags-more : (code : Code) (i j : ℤ) (made next : List Bool) (flag : Bool) (size k : ℕ) → made ≡ flags_to code j k
     → i ≡ neg_ℤ (pos (length code.crossings)) +ℤ pos k → size ≡ length (generators_at code i j) → flag ≡ not (nat_eq size 0)
@@ -50,8 +50,7 @@ flags-all code j flags count is all =
 -- the place of the first that passes a test, and how many behind the last pass none
 first-passing : (test : ℤ → Bool) (xs : List ℤ) (flags : List Bool) (first : ℕ) → flags ≡ map test xs
     → first ≡ position_or_len (λ flag. flag) flags → first ≡ position_or_len test xs
-first-passing test xs flags first is is_first =
-    is_first ∙ ap (position_or_len (λ flag. flag)) is ∙ position_or_len-map (λ flag. flag) test xs
+first-passing test xs flags first is is_first = grind (arith, nat_tests, position_or_len-map)
 
 reverse-map : {X Y : Type 0} (f : X → Y) (xs : List X) → reverse (map f xs) ≡ map f (reverse xs)
 reverse-map f xs = turned f xs []

@@ -1,4 +1,5 @@
 -- The steps of the loops over all states.
+use Rattle.std.proofs.lemmas.Bool.Decides.{nat_tests}
 use Rattle.std.proofs.Common.{◌≡◌, ℕ, ◌+◌, ◌^◌, ◌<◌, ◌≤◌, ◌∙◌, List, [], ◌∷◌, ◌++◌, length, get_or, map, sym, ap, ap₂, arith}
 use Rattle.std.specs.List.{range_with_len}
 use Rattle.std.proofs.lemmas.List.FromFn.{get_or-map-range_with_len, length-map-range_with_len}
@@ -19,31 +20,24 @@ images-more {X} f made next more place is_made is_more is_next =
 pub resolutions-more : (code : Code) (made next : List Resolution) (more : Resolution) (state : ℕ)
     → made ≡ map (resolution_of code) (range_with_len 0 state) → more.code ≡ code → more.state ≡ state → next ≡ made ++ more ∷ []
     → next ≡ map (resolution_of code) (range_with_len 0 (state + 1))
-resolutions-more code made next more state is_made is_code is_state is_next =
-    images-more (resolution_of code) made next more state is_made (ap₂ resolution_of is_code is_state) is_next
+resolutions-more code made next more state is_made is_code is_state is_next = grind (arith, nat_tests, images-more)
 
 pub length-resolutions : (code : Code) → length (resolutions code) ≡ 2 ^ length code.crossings
 length-resolutions code = length-map-range_with_len (resolution_of code) 0 (2 ^ length code.crossings)
 
 pub resolution-at : (code : Code) (all : List Resolution) (state : ℕ) (one : Resolution) → all ≡ resolutions code
     → state < length all → one ≡ get_or all state one → one ≡ resolution_of code state
-resolution-at code all state one is_all below is =
-    is ∙ ap (λ (xs : List Resolution). get_or xs state one) is_all
-    ∙ get_or-map-range_with_len (resolution_of code) 0 (2 ^ length code.crossings) state state one
-    (omega (arith, below, ap length is_all, length-resolutions code)) (omega arith)
+resolution-at code all state one is_all below is = grind (arith, nat_tests, get_or-map-range_with_len, length-resolutions)
 
 -- their shapes
 pub shapes-more : (code : Code) (made next : List Shape) (more : Shape) (state : ℕ)
     → made ≡ map (shape_of code) (range_with_len 0 state) → more ≡ shape_of code state → next ≡ made ++ more ∷ []
     → next ≡ map (shape_of code) (range_with_len 0 (state + 1))
-shapes-more code made next more state is_made is_more is_next =
-    images-more (shape_of code) made next more state is_made is_more is_next
+shapes-more code made next more state is_made is_more is_next = grind (arith, nat_tests, images-more)
 
 pub shapes-all : (code : Code) (all : List Resolution) (made : List Shape) (state : ℕ) → all ≡ resolutions code
     → made ≡ map (shape_of code) (range_with_len 0 state) → length all ≤ state → state ≤ length all
     → made ≡ map (shape_of code) (states code)
-shapes-all code all made state is_all is_made from below =
-    let count : state ≡ 2 ^ length code.crossings = omega (arith, from, below, ap length is_all, length-resolutions code) in
-    is_made ∙ ap (λ n. map (shape_of code) (range_with_len 0 n)) count
+shapes-all code all made state is_all is_made from below = grind (arith, nat_tests, length-resolutions)
 
 pub ruleset shape_steps = (resolution-at, shapes-more, shapes-all)

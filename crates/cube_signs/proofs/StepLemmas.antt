@@ -1,4 +1,5 @@
 -- The steps of the loops over the edges out of states.
+use Rattle.std.proofs.lemmas.Bool.Decides.{nat_tests}
 use Rattle.std.proofs.Common.{◌≡◌, ℕ, ◌+◌, ◌^◌, ◌<◌, ◌∙◌, inl, inr, List, [], ◌∷◌, ◌++◌, length, get_or, subst, sym, ap, arith, Option, None, Some}
 use Rattle.std.specs.Prelude.{slice_index_or}
 use Rattle.std.proofs.lemmas.Bool.{cases_lt}
@@ -14,26 +15,17 @@ use Rattle.cube_signs.specs.Steps.{steps_in, HasSteps, HaveSteps, IsStep}
 -- what holds of each element, and of one more
 pub each-more : {X : Type 0} (P : ℕ → X → Type 0) (xs : List X) (x d : X) (count : ℕ) → length xs ≡ count
     → ((k : ℕ) → k < count → P k (get_or xs k d)) → P count x → (k : ℕ) → k < count + 1 → P k (get_or (xs ++ x ∷ []) k d)
-each-more P xs x d count size holds more k below = elim (cases_lt k count) [
-  | inl before ↦ subst (P k) (sym (get_or_append_left xs (x ∷ []) d k (omega arith))) (holds k before)
-  | inr last ↦
-      let is : count ≡ k = omega arith in
-      subst (λ m. P m (get_or (xs ++ x ∷ []) m d)) is (subst (P count) (sym (get_or_push xs x d count size)) more)
-]
+each-more P xs x d count size holds more k below = grind (arith, nat_tests, cases_lt, get_or_append_left, get_or_push)
 
 -- the state behind an edge, by the place of its crossing
 pub state_behind-place : (state place : ℕ) → state_behind state (place + 1) ≡ state + 2 ^ place
-state_behind-place state place =
-    let e : place_of (place + 1) ≡ place = omega arith in
-    ap (λ k. state + 2 ^ k) e
+state_behind-place state place = grind (arith, nat_tests)
 
 pub IsCrossing-place : (crossings : List (List ℕ)) (place : ℕ) → place < length crossings → IsCrossing crossings (place + 1)
 IsCrossing-place crossings place below = record { positive = omega arith; within = omega arith }
 
 pub bit-place : (state place : ℕ) → bit state place ≡ 0 → bit state (place_of (place + 1)) ≡ 0
-bit-place state place zero =
-    let e : place_of (place + 1) ≡ place = omega arith in
-    ap (bit state) e ∙ zero
+bit-place state place has2 = grind (arith, nat_tests)
 
 -- the steps out of a state in memory
 pub row-steps : (code : Code) (rows : List (ArrayVec (Option Edge))) (state : ℕ) (row : ArrayVec (Option Edge)) (steps : List (Option Edge))
@@ -47,12 +39,7 @@ row-steps code rows state row steps have below is is_steps =
     subst (HasSteps code state (length code.crossings)) at (have.each state below)
 
 small-step : (code : Code) (state place : ℕ) (step : Option Edge) → IsStep code state place step → IsSmall step
-small-step code state place None is = tt
-small-step code state place (Some change) is = is.2
+small-step code state place step is = grind (arith, nat_tests)
 
 pub AreSmall-steps : (code : Code) (state count : ℕ) (steps : List (Option Edge)) → HasSteps code state count steps → AreSmall steps
-AreSmall-steps code state count steps has =
-    record {
-      each = λ place below.
-          small-step code state place (slice_index_or steps place None) (has.each place (omega (arith, below, has.size)));
-    }
+AreSmall-steps code state count steps has = grind (arith, nat_tests)

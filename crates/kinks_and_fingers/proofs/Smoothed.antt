@@ -16,22 +16,12 @@ use Rattle.kinks_and_fingers.proofs.MoreCrossings.{open_face_count-renamed, open
 -- what is not pulled stays with some other dart
 pulled-held : (m : ℕ) (partner : ℕ → ℕ) (s t x : ℕ) → IsPairing m partner → AreHeld m partner s t → x < m → partner x ≢ x → x ≢ s → x ≢ t
     → pulled partner s t x ≢ x
-pulled-held m partner s t x pairing held below other not_s not_t =
-    plain partner s t x held.apart (pairing.back x below) (pairing.back s held.first_below) (pairing.back t held.second_below) other not_s not_t
-  where
-    plain : (partner : ℕ → ℕ) (s t x : ℕ) → s ≢ t → partner (partner x) ≡ x → partner (partner s) ≡ s → partner (partner t) ≡ t
-        → partner x ≢ x → x ≢ s → x ≢ t → pulled partner s t x ≢ x
-    plain partner s t x apart back back_s back_t other not_s not_t same = grind (arith, nat_tests)
+pulled-held m partner s t x pairing held below other not_s not_t = grind (arith, nat_tests)
 
 -- names that partners share, and the two pulled darts too, are shared by the new partners
 pub pulled-named : (m : ℕ) (partner : ℕ → ℕ) (s t : ℕ) (name : ℕ → ℕ) → IsPairing m partner → AreHeld m partner s t
     → ((x : ℕ) → x < m → name (partner x) ≡ name x) → name s ≡ name t → (x : ℕ) → x < m → name (pulled partner s t x) ≡ name x
-pulled-named m partner s t name pairing held named joint x below =
-    plain partner name s t x (named s held.first_below) (named t held.second_below) (named x below) joint
-  where
-    plain : (partner name : ℕ → ℕ) (s t x : ℕ) → name (partner s) ≡ name s → name (partner t) ≡ name t → name (partner x) ≡ name x
-        → name s ≡ name t → name (pulled partner s t x) ≡ name x
-    plain partner name s t x at_s at_t at_x joint = grind (arith, nat_tests)
+pulled-named m partner s t name pairing held named joint x below = grind (arith, nat_tests)
 
 -- the four darts of a crossing
 
@@ -63,30 +53,7 @@ pulled-fixed partner s t x fixed not_s not_t = grind (arith, nat_tests)
 pub holds-twice : (n : ℕ) (partner : ℕ → ℕ) (c p : ℕ) → IsClosedPlanar n partner → c < n
     → AreHeld (4 * n) partner (dart_in c (p + 1)) (dart_in c (p + 2))
     × AreHeld (4 * n) (pulled partner (dart_in c (p + 1)) (dart_in c (p + 2))) (dart_in c (p + 3)) (dart_in c p)
-holds-twice n partner c p closed below =
-    let apart = dart_in-apart c p in
-    let s = dart_in c (p + 1) in
-    let t = dart_in c (p + 2) in
-    let u = dart_in c (p + 3) in
-    let v = dart_in c p in
-    let held : AreHeld (4 * n) partner (dart_in c (p + 1)) (dart_in c (p + 2)) = record {
-      first_below = dart_in-below n c (p + 1) below;
-      second_below = dart_in-below n c (p + 2) below;
-      apart = apart.0;
-      first_held = closed.other s (dart_in-below n c (p + 1) below);
-      second_held = closed.other t (dart_in-below n c (p + 2) below);
-    } in
-    let one_held : (x : ℕ) → x < 4 * n → x ≢ s → x ≢ t → pulled partner s t x ≢ x =
-    λ x x_below. pulled-held (4 * n) partner s t x closed.pairing held x_below (closed.other x x_below) in (
-      held,
-      record {
-        first_below = dart_in-below n c (p + 3) below;
-        second_below = dart_in-below n c p below;
-        apart = apart.1;
-        first_held = one_held u (dart_in-below n c (p + 3) below) apart.2 apart.3;
-        second_held = one_held v (dart_in-below n c p below) apart.4 apart.5;
-      },
-    )
+holds-twice n partner c p closed below = grind (arith, nat_tests)
 
 pub record IsBared (n : ℕ) (partner : ℕ → ℕ) (c p : ℕ) : Type 0 where
   pub pairing : IsPairing (4 * n) (bared partner c p)
@@ -138,27 +105,12 @@ IsBared-closed n partner c p closed below =
 pub bared-named : (n : ℕ) (partner : ℕ → ℕ) (c p : ℕ) (name : ℕ → ℕ) → IsClosedPlanar n partner → c < n
     → ((x : ℕ) → x < 4 * n → name (partner x) ≡ name x) → name (dart_in c (p + 1)) ≡ name (dart_in c (p + 2))
     → name (dart_in c (p + 3)) ≡ name (dart_in c p) → (x : ℕ) → x < 4 * n → name (bared partner c p x) ≡ name x
-bared-named n partner c p name closed below named first second =
-    let holds = holds-twice n partner c p closed below in
-    pulled-named (4 * n) (pulled partner (dart_in c (p + 1)) (dart_in c (p + 2))) (dart_in c (p + 3)) (dart_in c p) name
-    (IsPairing-pulled (4 * n) partner (dart_in c (p + 1)) (dart_in c (p + 2)) closed.pairing holds.0) holds.1
-    (pulled-named (4 * n) partner (dart_in c (p + 1)) (dart_in c (p + 2)) name closed.pairing holds.0 named first) second
+bared-named n partner c p name closed below named first second x has11 = grind (arith, nat_tests)
 
 -- the numbers of crossings, and of darts, with one put last
 
 pub IsPermutation-late : (c k : ℕ) → c ≤ k → IsPermutation (k + 1) (late c k) (early c k)
-IsPermutation-late c k within = record {
-  below = λ x below. grind (arith, nat_tests);
-  back_below = λ x below. grind (arith, nat_tests);
-  back_f = λ x below. back_f c k x within below;
-  f_back = λ x below. f_back c k x within below;
-}
-  where
-    back_f : (c k x : ℕ) → c ≤ k → x < k + 1 → early c k (late c k x) ≡ x
-    back_f c k x within below = grind (arith, nat_tests)
-
-    f_back : (c k x : ℕ) → c ≤ k → x < k + 1 → late c k (early c k x) ≡ x
-    f_back c k x within below = grind (arith, nat_tests)
+IsPermutation-late c k within = grind (arith, nat_tests)
 
 pub block_place : (a x : ℕ) → (4 * a + x % 4) / 4 ≡ a
 block_place a x = omega arith
@@ -180,16 +132,10 @@ abbrev pub dartwise : (ℕ → ℕ) → ℕ → ℕ
 dartwise f x = 4 * f (x / 4) + x % 4
 
 dartwise-back : (n : ℕ) (f back : ℕ → ℕ) (x : ℕ) → x < 4 * n → ((y : ℕ) → y < n → back (f y) ≡ y) → dartwise back (dartwise f x) ≡ x
-dartwise-back n f back x below comes =
-    grind (arith, nat_tests, block_place (f (x / 4)) x, block_slot (f (x / 4)) x, place_below n x below, block_same x)
+dartwise-back n f back x below comes = grind (arith, nat_tests)
 
 pub IsPermutation-dartwise : (n : ℕ) (f back : ℕ → ℕ) → IsPermutation n f back → IsPermutation (4 * n) (dartwise f) (dartwise back)
-IsPermutation-dartwise n f back permuted = record {
-  below = λ x below. block_below (f (x / 4)) n x (permuted.below (x / 4) (place_below n x below));
-  back_below = λ x below. block_below (back (x / 4)) n x (permuted.back_below (x / 4) (place_below n x below));
-  back_f = λ x below. dartwise-back n f back x below permuted.back_f;
-  f_back = λ x below. dartwise-back n back f x below permuted.f_back;
-}
+IsPermutation-dartwise n f back permuted = grind (arith, nat_tests)
 
 turned_slot : (x : ℕ) → turned x % 4 ≡ (x % 4 + 3) % 4
 turned_slot x = omega arith
@@ -259,13 +205,7 @@ open_dart_count-one n partner c below there elsewhere =
 -- partners under other names of the darts
 IsPairing-renamed : (m : ℕ) (partner name old : ℕ → ℕ) → IsPairing m partner → IsPermutation m name old
     → IsPairing m (λ x. name (partner (old x)))
-IsPairing-renamed m partner name old pairing permuted = record {
-  below = λ x below. permuted.below (partner (old x)) (pairing.below (old x) (permuted.back_below x below));
-  back = λ x below.
-      let old_below = permuted.back_below x below in
-      ap (λ z. name (partner z)) (permuted.back_f (partner (old x)) (pairing.below (old x) old_below))
-      ∙ ap name (pairing.back (old x) old_below) ∙ permuted.f_back x below;
-}
+IsPairing-renamed m partner name old pairing permuted = grind (arith, nat_tests)
 
 -- without a crossing that is smoothed away the others stay on the sphere
 pub IsClosedPlanar-smoothed : (k : ℕ) (partner : ℕ → ℕ) (c p : ℕ) → IsClosedPlanar (k + 1) partner → c ≤ k

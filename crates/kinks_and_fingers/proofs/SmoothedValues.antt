@@ -13,30 +13,13 @@ pulled-flipped : (m : ℕ) (partner : ℕ → ℕ) (s t : ℕ) (test : ℕ → B
     → test (partner s) ≡ not (test s) → test (partner t) ≡ not (test t) → test s ≡ not (test t)
     → (x : ℕ) → test (partner x) ≡ not (test x) → x ≢ s → x ≢ t
     → test (pulled partner s t x) ≡ not (test x)
-pulled-flipped m partner s t test held first second joint x here not_s not_t =
-    plain partner test s t x held.apart first second joint here not_s not_t
-  where
-    plain : (partner : ℕ → ℕ) (test : ℕ → Bool) (s t x : ℕ) → s ≢ t → test (partner s) ≡ not (test s) → test (partner t) ≡ not (test t)
-        → test s ≡ not (test t) → test (partner x) ≡ not (test x) → x ≢ s → x ≢ t → test (pulled partner s t x) ≡ not (test x)
-    plain partner test s t x apart first second joint here not_s not_t = grind (arith, nat_tests)
+pulled-flipped m partner s t test held first second joint x here not_s not_t = grind (arith, nat_tests)
 
 bared-flipped : (n : ℕ) (partner : ℕ → ℕ) (c p : ℕ) (test : ℕ → Bool) → IsClosedPlanar n partner → c < n
     → ((x : ℕ) → x < 4 * n → test (partner x) ≡ not (test x)) → test (dart_in c (p + 1)) ≡ not (test (dart_in c (p + 2)))
     → test (dart_in c (p + 3)) ≡ not (test (dart_in c p)) → (x : ℕ) → x < 4 * n → x / 4 ≢ c
     → test (bared partner c p x) ≡ not (test x)
-bared-flipped n partner c p test closed below flips first second x x_below away =
-    let holds = holds-twice n partner c p closed below in
-    let apart = dart_in-apart c p in
-    let s = dart_in c (p + 1) in
-    let t = dart_in c (p + 2) in
-    let u = dart_in c (p + 3) in
-    let v = dart_in c p in
-    let not_at : (slot : ℕ) → x ≢ dart_in c slot = λ slot same. away (ap (λ z. z / 4) same ∙ dart_in-place c slot) in
-    let one : (y : ℕ) → y < 4 * n → y ≢ s → y ≢ t → test (pulled partner s t y) ≡ not (test y) =
-    λ y y_below. pulled-flipped (4 * n) partner s t test holds.0 (flips s holds.0.first_below) (flips t holds.0.second_below) first y
-    (flips y y_below) in
-    pulled-flipped (4 * n) (pulled partner s t) u v test holds.1 (one u holds.1.first_below apart.2 apart.3)
-    (one v holds.1.second_below apart.4 apart.5) second x (one x x_below (not_at (p + 1)) (not_at (p + 2))) (not_at (p + 3)) (not_at p)
+bared-flipped n partner c p test closed below flips first second x x_below away = grind (arith, nat_tests)
 
 pub smoothed-flipped : (k : ℕ) (partner : ℕ → ℕ) (c p : ℕ) (test : ℕ → Bool) → IsClosedPlanar (k + 1) partner → c ≤ k
     → ((x : ℕ) → x < 4 * (k + 1) → test (partner x) ≡ not (test x)) → test (dart_in c (p + 1)) ≡ not (test (dart_in c (p + 2)))
@@ -64,14 +47,7 @@ taken_back-joint partner h s t = grind (arith, nat_tests)
 taken_back-shared : (m : ℕ) (partner h : ℕ → ℕ) (s t : ℕ) → IsPairing m partner → AreHeld m partner s t
     → ((x : ℕ) → x < m → h (pulled partner s t x) ≡ h x) → (x : ℕ) → x < m
     → taken_back partner h s t (partner x) ≡ taken_back partner h s t x
-taken_back-shared m partner h s t pairing held shared x below =
-    plain partner h s t x held.apart held.first_held held.second_held (pairing.back x below) (pairing.back s held.first_below)
-    (pairing.back t held.second_below) (shared x below) (shared (partner s) (pairing.below s held.first_below))
-  where
-    plain : (partner h : ℕ → ℕ) (s t x : ℕ) → s ≢ t → partner s ≢ s → partner t ≢ t → partner (partner x) ≡ x → partner (partner s) ≡ s
-        → partner (partner t) ≡ t → h (pulled partner s t x) ≡ h x → h (pulled partner s t (partner s)) ≡ h (partner s)
-        → taken_back partner h s t (partner x) ≡ taken_back partner h s t x
-    plain partner h s t x apart s_held t_held back back_s back_t here ends = grind (arith, nat_tests)
+taken_back-shared m partner h s t pairing held shared x below = grind (arith, nat_tests)
 
 -- a function on the darts that are left, taken back to all
 pub record IsTakenBack (k : ℕ) (partner : ℕ → ℕ) (c p : ℕ) (h : ℕ → ℕ) : Type 0 where

@@ -89,13 +89,7 @@ outer-each P crossings gone state place holds below stays =
 
 pub smoothing-low : (n b : ℕ) (slots : List ℕ) → ((slot : ℕ) → slot < 4 → arc_in slots slot < n)
     → AreBelow n (smoothing_of b slots)
-smoothing-low n b slots low = by (nat_eq b 0)
-  where
-    by : (t : Bool)
-        → AreBelow n (cond t ((arc_in slots 0, arc_in slots 1) ∷ (arc_in slots 2, arc_in slots 3) ∷ [])
-        ((arc_in slots 0, arc_in slots 3) ∷ (arc_in slots 1, arc_in slots 2) ∷ []))
-    by true = ((low 0 (omega arith), low 1 (omega arith)), ((low 2 (omega arith), low 3 (omega arith)), tt))
-    by false = ((low 0 (omega arith), low 3 (omega arith)), ((low 1 (omega arith), low 2 (omega arith)), tt))
+smoothing-low n b slots low = grind (arith, nat_tests)
 
 pub joined-below : (crossings : List (List ℕ)) (n state place : ℕ) → HasArcsTwice crossings → arc_count crossings + 1 ≤ n
     → place < length crossings → AreBelow n (joined_at crossings state place)
@@ -115,13 +109,11 @@ passes-low crossings n place twice large below =
 
 pub smoothing-zero : (f : ℕ → ℕ) (slots : List ℕ) (b : ℕ) → b ≡ 0 → Respects f (smoothing_of b slots)
     → (f (arc_in slots 0) ≡ f (arc_in slots 1)) × (f (arc_in slots 2) ≡ f (arc_in slots 3))
-smoothing-zero f slots b is respects =
-    let whole = subst (λ (k : ℕ). Respects f (smoothing_of k slots)) is respects in (whole.0, whole.1.0)
+smoothing-zero f slots b is respects = grind (arith, nat_tests)
 
 pub smoothing-one : (f : ℕ → ℕ) (slots : List ℕ) (b : ℕ) → b ≡ 1 → Respects f (smoothing_of b slots)
     → (f (arc_in slots 0) ≡ f (arc_in slots 3)) × (f (arc_in slots 1) ≡ f (arc_in slots 2))
-smoothing-one f slots b is respects =
-    let whole = subst (λ (k : ℕ). Respects f (smoothing_of k slots)) is respects in (whole.0, whole.1.0)
+smoothing-one f slots b is respects = grind (arith, nat_tests)
 
 pub to-zero : (f : ℕ → ℕ) (slots : List ℕ) (b : ℕ) → b ≡ 0 → f (arc_in slots 0) ≡ f (arc_in slots 1) → f (arc_in slots 2) ≡ f (arc_in slots 3)
     → Respects f (smoothing_of b slots)

@@ -1,4 +1,5 @@
 -- What is left is sound.
+use Rattle.std.proofs.lemmas.Bool.Decides.{nat_tests}
 use Rattle.std.proofs.Common.{◌≡◌, ◌≢◌, ℕ, inl, inr, ◌+◌, ◌-◌, ◌*◌, ◌%◌, ◌<◌, ◌≤◌, ◌∙◌, List, sym, ap, arith, refl, Bool, true, false, not, ◌&&◌, ◌||◌, length, IsTrue, eqb-true, eq-eqb, zero, suc}
 use Rattle.std.specs.Prelude.{nat_eq}
 use Rattle.std.proofs.lemmas.Bool.{and_parts, both_ways, cases_Bool}
@@ -69,15 +70,7 @@ any_range test a (suc n) holds = elim (cases_Bool (test a)) [
 
 pub HasKinkAt-found : (crossings : List (List ℕ)) (c : ℕ) → c < length crossings → is_kink (slots_in crossings c) ≡ true
     → (p : ℕ) × HasKinkAt crossings c p
-HasKinkAt-found crossings c below holds =
-    let found = any_range (is_kink_at (slots_in crossings c)) 0 4 holds in (
-      found.0,
-      record {
-        below = below;
-        slot = omega (arith, found.2);
-        same = eqb-true (arc_in (slots_in crossings c) found.0) (arc_in (slots_in crossings c) (after found.0)) found.3;
-      },
-    )
+HasKinkAt-found crossings c below holds = grind (arith, nat_tests)
 
 pub HasBigonAt-found : (crossings : List (List ℕ)) (c d : ℕ) → c < length crossings → d < length crossings
     → is_bigon crossings c d ≡ true → (p : ℕ) × (q : ℕ) × HasBigonAt crossings c d p q

@@ -1,3 +1,4 @@
+use Rattle.std.proofs.lemmas.Bool.Decides.{nat_tests}
 use Rattle.std.proofs.Common.{◌≡◌, ◌∙◌, ℕ, ℤ, [], inl, inr, ap, subst, arith, to_z, of_z, w16}
 use Rattle.std.proofs.lemmas.Int.{ints}
 use Rattle.std.proofs.lemmas.Bool.Decides.{leb_tells}
@@ -8,32 +9,10 @@ use Rattle.cancel_step.proofs.FinishLemmas.{comes-both, complex-comes, empty-com
 use Rattle.cancel_step.proofs.finishing.clear_degree.Goals as goal
 
 pub returns-in_err-clear_column-clause-history : goal.returns-in_err-clear_column-clause-history
-returns-in_err-clear_column-clause-history g c =
-    comes-both g.F.PrimeField.P c.args.complex.now.complex c.columns.complex.complex c.clear_column.new.complex.complex
-    c.columns.invariant.comes c.in_err-clear_column.ensures.history
+returns-in_err-clear_column-clause-history = grind (arith, nat_tests, comes-both)
 
 pub columns-preserved : goal.columns-preserved
-columns-preserved g c =
-    let p = g.F.PrimeField.P in
-    let first = c.args.complex.now.complex in
-    let before = c.columns.complex.complex in
-    let after = c.clear_column.new.complex.complex in
-    let i = to_z w16 (of_z w16 c.args.degree) in
-    let field = c.element_laws.ensures.field in
-    let is = complex-comes p first before field c.complex_laws.ensures.complex c.columns.invariant.comes in
-    record {
-      comes = comes-both p first before after c.columns.invariant.comes c.in_ok-clear_column.ensures.history;
-      empty = λ k within.
-          elim (leb_tells c.columns.column k) [
-            | inl last ↦
-                let same : k ≡ c.columns.column = omega (arith, within, last.1) in
-                ap (λ (k : ℕ). entries_of (column_of after i k)) same ∙ c.in_ok-clear_column.ensures.empty
-            | inr earlier ↦
-                empty-comes p before after i k field is c.in_ok-clear_column.ensures.history
-                (c.columns.invariant.empty k earlier.1)
-          ];
-      names = c.in_ok-clear_column.ensures.names ∙ c.columns.invariant.names;
-    }
+columns-preserved = grind (arith, nat_tests, complex-comes, comes-both, leb_tells, empty-comes)
 
 pub returns-clause-empty : goal.returns-clause-empty
 returns-clause-empty g c column =

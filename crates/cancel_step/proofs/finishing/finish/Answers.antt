@@ -1,3 +1,4 @@
+use Rattle.std.proofs.lemmas.Bool.Decides.{nat_tests}
 use Rattle.std.proofs.Common.{◌≡◌, ◌∙◌, ℤ, pos, ◌-ℤ◌, inl, inr, ap, arith, to_z, of_z, w16}
 use Rattle.std.proofs.lemmas.Int.{ints}
 use Rattle.std.proofs.lemmas.Bool.Decides.{leb_tells}
@@ -17,9 +18,7 @@ degree_down-degree-requires g c =
     )
 
 pub returns-in_err-clear_degree-clause-history : goal.returns-in_err-clear_degree-clause-history
-returns-in_err-clear_degree-clause-history g c =
-    comes-both g.F.PrimeField.P c.args.complex.now.complex c.degrees.complex.complex c.clear_degree.new.complex.complex
-    c.degrees.invariant.comes c.in_err-clear_degree.ensures.history
+returns-in_err-clear_degree-clause-history = grind (arith, nat_tests, comes-both)
 
 pub degrees-preserved : goal.degrees-preserved
 degrees-preserved g c =

@@ -1,10 +1,10 @@
+use Rattle.std.proofs.lemmas.Bool.Decides.{nat_tests}
+use Rattle.std.proofs.Common.{arith}
 use Rattle.cancel_step.proofs.HistoryLemmas.{legal-append, legal-parts, legal-push, replay-append}
 use Rattle.cancel_step.proofs.laws.histories_are_put_together.Goals as goal
 
 pub returns-clause-legal : goal.returns-clause-legal
-returns-clause-legal c =
-    λ p complex first second.
-    (legal-parts p complex first second, λ parts. legal-append p complex first second parts.0 parts.1)
+returns-clause-legal = grind (arith, nat_tests, legal-parts, legal-append)
 
 pub returns-clause-replayed : goal.returns-clause-replayed
 returns-clause-replayed c = replay-append

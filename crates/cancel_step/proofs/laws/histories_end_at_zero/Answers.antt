@@ -1,3 +1,5 @@
+use Rattle.std.proofs.lemmas.Bool.Decides.{nat_tests}
+use Rattle.std.proofs.Common.{arith}
 use Rattle.cancel_step.proofs.HistoryEnds.{length-longest, length-zero, zero-length, ending}
 use Rattle.cancel_step.proofs.laws.histories_end_at_zero.Goals as goal
 
@@ -5,9 +7,7 @@ pub returns-clause-longest : goal.returns-clause-longest
 returns-clause-longest c = length-longest
 
 pub returns-clause-zero : goal.returns-clause-zero
-returns-clause-zero c =
-    λ p complex history field is legal.
-    (length-zero p complex history field is legal, zero-length p complex history field is legal)
+returns-clause-zero = grind (arith, nat_tests, length-zero, zero-length)
 
 pub returns-clause-one : goal.returns-clause-one
 returns-clause-one c = ending

@@ -1,3 +1,4 @@
+use Rattle.std.proofs.lemmas.Bool.Decides.{nat_tests}
 use Rattle.std.proofs.Common.{arith, inl, inr, sym, ◌∙◌}
 use Rattle.cancel_step.proofs.AgreeLemmas.{agree_ends, agree_none, agree_step}
 use Rattle.cancel_step.proofs.RestLemmas.{more-from_indices, shorter_steps}
@@ -26,17 +27,7 @@ returns-then-here-there c =
     (λ same. c.if-here-there.true (c.entry_here-here.ensures.value ∙ same ∙ sym c.entry_here-there.ensures.value))
 
 pub places-smaller : goal.places-smaller
-places-smaller c =
-    let left = c.args.left.now in
-    let right = c.args.right.now in
-    let more = more-from_indices left right c.places.at c.places.other_at
-    (elim c.if-at-left.branch [
-      | then-at-left w ↦ inl w.if-at-left.true
-      | else-at-left+then-other_at-right w ↦ inr w.if-other_at-right.true
-    ]) in
-    shorter_steps left right c.places.at c.places.other_at c.entry_here-here.result.next c.entry_here-there.result.next
-    c.first_place-place.result more c.first_place-place.ensures c.entry_here-here.ensures.rest c.entry_here-there.ensures.rest
-    c.entry_here-here.ensures.within c.entry_here-there.ensures.within
+places-smaller = grind (arith, nat_tests, more-from_indices, then-at-left, else-at-left+then-other_at-right, shorter_steps)
 
 pub places-preserved : goal.places-preserved
 places-preserved c =

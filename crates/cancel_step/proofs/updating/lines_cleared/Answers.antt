@@ -1,3 +1,4 @@
+use Rattle.std.proofs.lemmas.Bool.Decides.{nat_tests}
 use Rattle.std.proofs.Common.{◌∙◌, ◌<◌, List, length, map, ap, ap₂, sym, subst, arith}
 use Rattle.std.proofs.lemmas.List.{take_all}
 use Rattle.prime_field.specs.Residues.{inverse_mod, product_mod}
@@ -70,10 +71,4 @@ lines-preserved g c size are =
     (c.lines.invariant size are) c.in_ok-push.ensures.items
 
 pub returns : goal.returns
-returns g c size are =
-    let p = g.F.PrimeField.P in
-    let lines = c.args.lines.now in
-    c.lines.invariant size are
-    ∙ ap (map (line_cleared p size c.line_at-pivot_line.result.now c.args.across))
-    (take_all c.lines.k lines (omega (arith, c.lines-test.false, c.lines.auto.k-end)))
-    ∙ ap (λ (own : List Entry). map (line_cleared p size own c.args.across) lines) c.line_at-pivot_line.ensures
+returns = grind (arith, nat_tests, take_all)

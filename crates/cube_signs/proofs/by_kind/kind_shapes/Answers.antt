@@ -1,3 +1,4 @@
+use Rattle.std.proofs.lemmas.Bool.Decides.{nat_tests}
 use Rattle.std.proofs.Common.{◌∙◌, ap, arith}
 use Rattle.kh_types.specs.Code.{Code}
 use Rattle.kh_types.specs.Directions.{minus_count, plus_count}
@@ -13,9 +14,7 @@ push_shape-requires-clause-minus c =
     c.of_diagram-signs.ensures.minus ∙ ap (λ (code : Code). minus_count code.crossings) c.diagram-diagram.ensures
 
 pub kinds-preserved : goal.kinds-preserved
-kinds-preserved c =
-    kind_shapes-more c.args.counted.now c.kinds.shapes.items c.push_shape.new.shapes.items c.kinds.kind c.kinds.invariant
-    c.in_ok-push_shape.ensures
+kinds-preserved = grind (arith, nat_tests, kind_shapes-more)
 
 pub returns-clause-shapes : goal.returns-clause-shapes
 returns-clause-shapes c =

@@ -1,3 +1,4 @@
+use Rattle.std.proofs.lemmas.Bool.Decides.{nat_tests}
 use Rattle.std.proofs.Common.{arith}
 use Rattle.cube_signs.specs.Chosen.{chosen_before, has_minus}
 use Rattle.cube_signs.proofs.ChosenLoops.{before-count}
@@ -6,13 +7,7 @@ use Rattle.cube_signs.proofs.StateLists.{images-more}
 use Rattle.cube_signs.proofs.chosen.places_before.Goals as goal
 
 pub next_count-count-requires : goal.next_count-count-requires
-next_count-count-requires c =
-    omega (
-      arith,
-      c.names.invariant.count,
-      before-small (has_minus c.args.circles.now) c.args.names.now c.names.k,
-      c.requires,
-    )
+next_count-count-requires = grind (arith, nat_tests, before-small)
 
 pub names-preserved : goal.names-preserved
 names-preserved c =

@@ -1,3 +1,4 @@
+use Rattle.std.proofs.lemmas.Bool.Decides.{nat_tests}
 use Rattle.std.proofs.Common.{◌≤◌, ◌^◌, arith, length, refl}
 use Rattle.std.proofs.Math.Pow.{pow_mono}
 use Rattle.kh_types.specs.declared.limits.TheConstants.{CROSSINGS}
@@ -6,10 +7,7 @@ use Rattle.cube_signs.proofs.TableLemmas.{length-shapes}
 use Rattle.cube_signs.proofs.levels.level.Goals as goal
 
 pub overflow_cast-state : goal.overflow_cast-state
-overflow_cast-state c =
-    let code = c.args.diagram.now in
-    let power : 2 ^ length code.crossings ≤ 2 ^ CROSSINGS = pow_mono c.count.ensures.fits in
-    omega (arith, c.states-test.true, length-shapes code c.args.shapes.now c.requires, power)
+overflow_cast-state = grind (arith, nat_tests, pow_mono, length-shapes)
 
 pub states-preserved : goal.states-preserved
 states-preserved c =
@@ -18,11 +16,4 @@ states-preserved c =
     (omega (arith, c.states-test.true, length-shapes c.args.diagram.now c.args.shapes.now c.requires)) refl c.in_ok-push_state.ensures
 
 pub returns : goal.returns
-returns c =
-    level-all c.args.diagram.now c.states.level.items c.states.state c.args.ones c.states.invariant
-    (omega (
-      arith,
-      c.states-test.false,
-      c.states.auto.state-end,
-      length-shapes c.args.diagram.now c.args.shapes.now c.requires,
-    ))
+returns = grind (arith, nat_tests, level-all, length-shapes)

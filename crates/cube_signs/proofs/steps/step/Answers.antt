@@ -1,3 +1,4 @@
+use Rattle.std.proofs.lemmas.Bool.Decides.{nat_tests}
 use Rattle.std.proofs.Common.{◌≡◌, ◌≢◌, ℕ, ◌+◌, ◌^◌, ◌∙◌, ◌<◌, length, get_or, List, arith, ap, sym, subst}
 use Rattle.kh_types.specs.Bits.{bit}
 use Rattle.kh_types.specs.Code.{Code, IsCrossing}
@@ -41,51 +42,16 @@ behind-below state place count behind is place_below state_below zero =
     omega (arith, set-within state place count place_below state_below zero)
 
 pub edge-requires-clause-code : goal.edge-requires-clause-code
-edge-requires-clause-code c =
-    let code = c.args.diagram.now in
-    let count = length code.crossings in
-    let zero = is_zero c.bit.result (bit c.args.state c.args.place) c.bit.ensures.bit c.bit.ensures.within c.if-bit-eq1.false in
-    let below = behind-below c.args.state c.args.place count c.state_behind-behind.result c.state_behind-behind.ensures
-    c.requires.place c.requires.state zero in
-    ap (λ r. r.code)
-    (at code c.args.circles.now c.state_behind-behind.result c.index-circles-behind.result c.requires.circles below
-    c.index-circles-behind.is)
-    ∙ sym (ap (λ r. r.code)
-    (at code c.args.circles.now c.args.state c.index-circles-state.result c.requires.circles c.requires.state c.index-circles-state.is))
+edge-requires-clause-code = grind (arith, nat_tests, is_zero, behind-below, at)
 
 pub edge-requires-clause-state : goal.edge-requires-clause-state
-edge-requires-clause-state c =
-    let code = c.args.diagram.now in
-    let count = length code.crossings in
-    let zero = is_zero c.bit.result (bit c.args.state c.args.place) c.bit.ensures.bit c.bit.ensures.within c.if-bit-eq1.false in
-    let below = behind-below c.args.state c.args.place count c.state_behind-behind.result c.state_behind-behind.ensures
-    c.requires.place c.requires.state zero in
-    ap (λ r. r.state)
-    (at code c.args.circles.now c.state_behind-behind.result c.index-circles-behind.result c.requires.circles below
-    c.index-circles-behind.is)
-    ∙ c.state_behind-behind.ensures ∙ sym (state_behind-place c.args.state c.args.place)
-    ∙ sym (ap (λ r. state_behind r.state (c.args.place + 1))
-    (at code c.args.circles.now c.args.state c.index-circles-state.result c.requires.circles c.requires.state c.index-circles-state.is))
+edge-requires-clause-state = grind (arith, nat_tests, is_zero, behind-below, at, state_behind-place)
 
 pub edge-requires-clause-crossing : goal.edge-requires-clause-crossing
-edge-requires-clause-crossing c =
-    let here = at c.args.diagram.now c.args.circles.now c.args.state c.index-circles-state.result c.requires.circles c.requires.state
-    c.index-circles-state.is in
-    subst (λ (r : Resolution). IsCrossing r.code.crossings (c.args.place + 1)) (sym here)
-    (IsCrossing-place c.args.diagram.now.crossings c.args.place c.requires.place)
+edge-requires-clause-crossing = grind (arith, nat_tests, at, IsCrossing-place)
 
 pub edge-requires-clause-smoothing : goal.edge-requires-clause-smoothing
-edge-requires-clause-smoothing c =
-    let here = at c.args.diagram.now c.args.circles.now c.args.state c.index-circles-state.result c.requires.circles c.requires.state
-    c.index-circles-state.is in
-    let zero = is_zero c.bit.result (bit c.args.state c.args.place) c.bit.ensures.bit c.bit.ensures.within c.if-bit-eq1.false in
-    bit-place c.index-circles-state.result.state c.args.place (ap (λ r. bit r.state c.args.place) here ∙ zero)
+edge-requires-clause-smoothing = grind (arith, nat_tests, at, is_zero, bit-place)
 
 pub returns : goal.returns
-returns c =
-    let here = at c.args.diagram.now c.args.circles.now c.args.state c.index-circles-state.result c.requires.circles c.requires.state
-    c.index-circles-state.is in (
-      is_zero c.bit.result (bit c.args.state c.args.place) c.bit.ensures.bit c.bit.ensures.within c.if-bit-eq1.false,
-      subst (λ (r : Resolution). IsEdge r.code r.state (c.args.place + 1) c.edge.result) here c.edge.ensures.edge,
-      c.edge.ensures.numbers,
-    )
+returns = grind (arith, nat_tests, at, is_zero)

@@ -1,3 +1,4 @@
+use Rattle.std.proofs.lemmas.Bool.Decides.{nat_tests}
 use Rattle.std.proofs.Common.{◌∙◌, ap, sym, ◌≡◌, ℕ, ℤ, pos, neg_ℤ, ◌+ℤ◌, ◌-ℤ◌, ◌≤ℤ◌, ◌+◌, ◌*◌, ◌≤◌, length, subst, arith, to_z, of_z, w16, List}
 use Rattle.std.proofs.lemmas.Int.{ints, to_z-of_z}
 use Rattle.cube_signs.specs.Chosen.{chosen_block, has_minus}
@@ -16,9 +17,7 @@ turned : (n : ℕ) (low : ℤ) → n ≤ 20 → low ≡ neg_ℤ (pos n) → pos 
 turned n low few is = omega (arith, ints)
 
 pub new-requires-clause-end : goal.new-requires-clause-end
-new-requires-clause-end g c =
-    fits (length c.args.self.now.crossings) c.lowest.result.i c.in_ok-parts.parts.names.items
-    (omega (arith, c.crossing_count.ensures.count, c.crossing_count.ensures.few)) c.lowest.ensures.i c.in_ok-parts.ensures.size
+new-requires-clause-end = grind (arith, nat_tests, fits)
 
 pub new-requires-clause-entries : goal.new-requires-clause-entries
 new-requires-clause-entries g c =

@@ -1,3 +1,4 @@
+use Rattle.std.proofs.lemmas.Bool.Decides.{nat_tests}
 use Rattle.std.proofs.Common.{◌≡◌, ◌+◌, ◌*◌, ◌∙◌, ℕ, ℤ, List, length, ap, subst, arith, w16}
 use Rattle.std.specs.Prelude.{slice_index_or, []}
 use Rattle.std.specs.Global.{Vec}
@@ -14,15 +15,7 @@ use Rattle.cube_signs.proofs.ChosenLoops.{chosen-names, chosen-tails, length-cho
 use Rattle.cube_signs.proofs.cube.Cube.chosen_parts.Goals as goal
 
 pub index-requires : goal.index-requires
-index-requires c =
-    let names = c.in_ok-chosen.chosen.names in
-    omega (
-      arith,
-      names.ok.0,
-      length-chosen (has_minus c.args.circles.now) c.args.self.now c.lowest-lowest.result.j (2 * c.crossing_count.result + 1) names.items
-          c.in_ok-chosen.ensures.names,
-      c.degrees-test.true,
-    )
+index-requires = grind (arith, nat_tests, length-chosen)
 
 pub chosen_columns-requires-clause-names : goal.chosen_columns-requires-clause-names
 chosen_columns-requires-clause-names c =

@@ -1,3 +1,4 @@
+use Rattle.std.proofs.lemmas.Bool.Decides.{nat_tests}
 use Rattle.std.proofs.Common.{◌≡◌, ◌∙◌, ℕ, length, arith, ap, subst, sym}
 use Rattle.std.proofs.lemmas.List.{map_push}
 use Rattle.smallvec.specs.SmallVec.{SmallVec}
@@ -8,19 +9,10 @@ use Rattle.cube_signs.proofs.BlockLemmas.{IsTail-at, columns-more, columns-none,
 use Rattle.cube_signs.proofs.cube.Cube.columns.Goals as goal
 
 pub names-init : goal.names-init
-names-init c =
-    record {
-      columns = columns-none c.args.p c.args.self.now c.args.at.i c.args.at.j c.args.names.now (entries_in c.in_ok-columns.columns.items)
-          (ap entries_in c.in_ok-columns.ensures.items);
-      found = found-nowhere c.args.p c.args.self.now c.args.bases.now c.nowhere-around.result.state
-          c.nowhere-around.result.outs.items c.nowhere-around.ensures.state c.ranks-ranks.ensures.few;
-    }
+names-init = grind (arith, nat_tests, columns-none, found-nowhere)
 
 pub go_to-requires-clause-state : goal.go_to-requires-clause-state
-go_to-requires-clause-state c =
-    let tail = IsTail-at c.args.self.now c.args.at.i c.args.at.j c.args.names.now c.names.k c.index-names-k.result c.requires.names
-    c.names-test.true c.index-names-k.is in
-    omega (arith, tail.state_below, ap (λ generator. generator.state) c.tail.view_is)
+go_to-requires-clause-state = grind (arith, nat_tests)
 
 pub column-requires-clause-label : goal.column-requires-clause-label
 column-requires-clause-label c =
@@ -57,7 +49,4 @@ names-preserved c =
     }
 
 pub returns : goal.returns
-returns c =
-    let all : c.names.k ≡ length c.args.names.now = omega (arith, c.names-test.false, c.names.auto.k-end) in
-    subst (λ (count : ℕ). AreColumns c.args.p c.args.self.now c.args.at.i c.args.at.j c.args.names.now count (entries_in c.names.columns.items)) all
-    c.names.invariant.columns
+returns = grind (arith, nat_tests)

@@ -1,3 +1,4 @@
+use Rattle.std.proofs.lemmas.Bool.Decides.{nat_tests}
 use Rattle.std.proofs.Common.{◌∙◌, ◌≤◌, ◌^◌, ap, arith, length}
 use Rattle.std.proofs.Math.Pow.{pow_mono}
 use Rattle.std.proofs.lemmas.List.FromFn.{length-map-range_with_len}
@@ -7,18 +8,10 @@ use Rattle.cube_signs.proofs.TableLemmas.{circles-most, shapes-few}
 use Rattle.cube_signs.proofs.cube.Cube.new.Goals as goal
 
 pub most_circles-requires : goal.most_circles-requires
-most_circles-requires c =
-    shapes-few c.args.diagram.now c.deref-3.result.now (c.deref-3.ensures.value ∙ c.in_ok-shapes.ensures) c.requires
+most_circles-requires = grind (arith, nat_tests, shapes-few)
 
 pub ranks_of-requires : goal.ranks_of-requires
-ranks_of-requires c =
-    let power : 2 ^ c.most_circles.result ≤ 2 ^ 22 = pow_mono c.most_circles.ensures.few in
-    omega (
-      arith,
-      ap length (c.deref-4.ensures.value ∙ c.in_ok-weights.ensures),
-      length-map-range_with_len (ones c.most_circles.result) 0 (2 ^ c.most_circles.result),
-      power,
-    )
+ranks_of-requires = grind (arith, nat_tests, pow_mono, length-map-range_with_len)
 
 pub invariant_of-result : goal.invariant_of-result
 invariant_of-result c =

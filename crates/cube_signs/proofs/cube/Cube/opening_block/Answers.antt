@@ -1,3 +1,4 @@
+use Rattle.std.proofs.lemmas.Bool.Decides.{nat_tests}
 use Rattle.std.proofs.Common.{ℕ, ℤ, pos, neg_ℤ, ◌+ℤ◌, ◌≤ℤ◌, length, subst, arith, to_z, of_z, w16, List}
 use Rattle.std.proofs.lemmas.Int.{ints}
 use Rattle.std.specs.Global.{Vec}
@@ -12,9 +13,7 @@ fits : (low : ℤ) (names : List (Vec Generator)) → neg_ℤ (pos 32) ≤ℤ lo
 fits low names above below = omega (arith, ints, length-map names (λ (degree : Vec Generator). degree.items))
 
 pub new-requires-clause-end : goal.new-requires-clause-end
-new-requires-clause-end g c =
-    let parts = c.in_ok-parts.parts in
-    fits parts.least.i parts.names.items c.in_ok-parts.ensures.start c.in_ok-parts.ensures.end
+new-requires-clause-end = grind (arith, nat_tests, fits)
 
 pub new-requires-clause-entries : goal.new-requires-clause-entries
 new-requires-clause-entries g c =

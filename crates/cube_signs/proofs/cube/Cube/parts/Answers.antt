@@ -1,3 +1,4 @@
+use Rattle.std.proofs.lemmas.Bool.Decides.{nat_tests}
 use Rattle.std.proofs.Common.{◌≡◌, ◌∙◌, ◌<◌, ℤ, length, ap, subst, sym, arith, w16}
 use Rattle.std.proofs.lemmas.Int.{ints, to_z-of_z}
 use Rattle.kh_types.specs.History.{first_or_zero, homological_degrees}
@@ -7,24 +8,13 @@ use Rattle.cube_signs.proofs.NamedBlocks.{block-built, block-some, length-names}
 use Rattle.cube_signs.proofs.cube.Cube.parts.Goals as goal
 
 pub span-requires-clause-some : goal.span-requires-clause-some
-span-requires-clause-some c =
-    let same : c.lowest.result.j ≡ c.args.j = c.lowest.ensures.j ∙ to_z-of_z w16 c.args.j c.ranges.j in
-    subst (λ (j : ℤ). 0 < length (homological_degrees c.args.self.now j)) (sym same) (block-some c.args.self.now c.args.j c.requires.degree)
+span-requires-clause-some = grind (arith, nat_tests, to_z-of_z, block-some)
 
 pub all_columns-requires-clause-high : goal.all_columns-requires-clause-high
-all_columns-requires-clause-high c =
-    let span = c.in_ok-span.span in
-    let count = length-names c.args.self.now span.least.i span.least.j span.count c.in_ok-names.names.items c.in_ok-names.ensures in
-    omega (arith, ints, ap length c.deref-2.ensures.value, count, c.in_ok-span.ensures.below)
+all_columns-requires-clause-high = grind (arith, nat_tests, length-names, ints)
 
 pub all_columns-requires-clause-names : goal.all_columns-requires-clause-names
-all_columns-requires-clause-names c =
-    let code = c.args.self.now in
-    let span = c.in_ok-span.span in
-    let names = c.in_ok-names.names.items in
-    let count : span.count ≡ length c.deref-2.result.now =
-    sym (ap length c.deref-2.ensures.value ∙ length-names code span.least.i span.least.j span.count names c.in_ok-names.ensures) in
-    ap lists_in c.deref-2.ensures.value ∙ c.in_ok-names.ensures ∙ ap (generators_from code span.least.i span.least.j) count
+all_columns-requires-clause-names = grind (arith, nat_tests, length-names)
 
 pub returns : goal.returns
 returns c =

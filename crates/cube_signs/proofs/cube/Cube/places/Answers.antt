@@ -1,3 +1,4 @@
+use Rattle.std.proofs.lemmas.Bool.Decides.{nat_tests}
 use Rattle.std.proofs.Common.{◌≡◌, ◌∙◌, ◌^◌, ◌<◌, ◌≤◌, ◌+◌, ℤ, get_or, length, map, ap, ap₂, arith, w16, to_z, of_z}
 use Rattle.std.specs.List.{range_with_len}
 use Rattle.circle_smoothing.specs.declared.limits.TheConstants.{GENERATORS}
@@ -53,10 +54,4 @@ states-preserved c =
     }
 
 pub returns-clause-small : goal.returns-clause-small
-returns-clause-small c =
-    let code = c.args.self.now in
-    let j = to_z w16 (of_z w16 c.args.j) in
-    let all : c.states.state ≡ 2 ^ length code.crossings =
-    omega (arith, c.states-test.false, c.states.auto.state-end, c.state_count-count.ensures.count) in
-    own_bases-small code j c.states.bases.items c.state_count-count.ensures.size
-    (c.states.invariant.bases ∙ ap (λ n. map (own_base code j) (range_with_len 0 n)) all)
+returns-clause-small = grind (arith, nat_tests, own_bases-small)

@@ -1,3 +1,4 @@
+use Rattle.std.proofs.lemmas.Bool.Decides.{nat_tests}
 use Rattle.std.proofs.Common.{◌≡◌, ◌≤◌, ap, arith, map}
 use Rattle.kh_types.specs.Generators.{states}
 use Rattle.circle_smoothing.specs.GeneratorCounts.{generator_count}
@@ -7,16 +8,10 @@ use Rattle.cube_signs.proofs.TableLemmas.{circles-few, length-shapes, shape-at}
 use Rattle.cube_signs.proofs.cube.Cube.shape.Goals as goal
 
 pub index-requires : goal.index-requires
-index-requires c =
-    let shapes = c.self.inside.shapes in
-    let are : shapes.items ≡ map (shape_of c.args.self.now) (states c.args.self.now) = rw (← c.self.view_is) c.self.invariant.are_shapes in
-    omega (arith, shapes.ok.0, length-shapes c.args.self.now shapes.items are, c.requires)
+index-requires = grind (arith, nat_tests, length-shapes)
 
 pub returns-clause-shape : goal.returns-clause-shape
-returns-clause-shape c =
-    let shapes = c.self.inside.shapes in
-    let are : shapes.items ≡ map (shape_of c.args.self.now) (states c.args.self.now) = rw (← c.self.view_is) c.self.invariant.are_shapes in
-    shape-at c.args.self.now shapes.items c.args.state c.index.result.now are c.requires c.index.ensures
+returns-clause-shape = grind (arith, nat_tests, shape-at)
 
 pub returns-clause-few : goal.returns-clause-few
 returns-clause-few c =

@@ -1,3 +1,4 @@
+use Rattle.std.proofs.lemmas.Bool.Decides.{nat_tests}
 use Rattle.std.proofs.Common.{◌≡◌, ◌≤◌, ◌∙◌, arith, length}
 use Rattle.std.proofs.lemmas.Int.{ints}
 use Rattle.kh_types.specs.Directions.{minus_count}
@@ -9,19 +10,7 @@ use Rattle.cube_signs.proofs.cube.Cube.states_at.Goals as goal
 use Rattle.cube_signs.proofs.cube.Cube.states_at.Goals.{else-ones-ge0-via-then-ones-ge0+else-ones, else-ones-ge0-via-else-ones-ge0}
 
 pub index-requires : goal.index-requires
-index-requires c =
-    let levels = c.self.inside.levels in
-    let are : lists_in levels.items ≡ all_levels c.args.self.now = rw (← c.self.view_is) c.self.invariant.are_levels in
-    omega (
-      arith,
-      ints,
-      levels.ok.0,
-      levels-length c.args.self.now levels.items are,
-      c.from.ensures,
-      c.from-2.ensures,
-      c.if-ones-ge0.true,
-      c.if-ones.true,
-    )
+index-requires = grind (arith, nat_tests, ints, levels-length)
 
 pub returns-then-ones : goal.returns-then-ones
 returns-then-ones c =
