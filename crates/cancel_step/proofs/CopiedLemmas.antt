@@ -1,4 +1,9 @@
--- Lines across a pivot's row or column: copies of them, and what the cancellation makes of them.
+-- Lines across a pivot's row or column: copies of them, and what the cancellation makes of them. On either side of a matrix the
+-- copied lines are those that have an entry in the pivot's line across. Copied from a complex, their entries ascend below its
+-- size, and the pivot's own line is among them, since its entry there is the pivot, which is not 0: so a search by place finds
+-- it. Each line less the multiple of the pivot's line that clears the place of the pivot is that line after the cancellation. So
+-- the cleared copies are the lines across as the cancelled complex has them. The last part says this of parts that are known to
+-- be copied from some complex.
 use Rattle.std.proofs.lemmas.Bool.Decides.{nat_tests}
 use Rattle.std.proofs.Common.{◌≡◌, ◌≢◌, ℕ, zero, suc, ◌<◌, ◌∙◌, inl, inr, List, [], ◌∷◌, length, map, get_or, ap, ap₂, sym, subst, refl, arith, Bool}
 use Rattle.std.specs.Prelude.{nat_eq}

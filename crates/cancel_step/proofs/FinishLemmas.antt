@@ -1,4 +1,10 @@
--- What stays as cancellations go on: the degrees, the places, and that empty columns are empty.
+-- What stays as cancellations go on: the degrees, the places, and that empty columns are empty. A complex that comes by
+-- cancelling is the end of a legal history of another: of none, of one pivot, or of two histories put together. The greatest
+-- degree, the number of degrees and that of places stay, as they do along a history. A column of zeros stays one, by cases on its
+-- degree: at the pivot's degree it has no entry in the pivot's row, so nothing is taken from it; in the degree after or before, a
+-- column or a row is cleared; elsewhere nothing changes. The pivot's own column is empty afterwards. So degrees that are empty
+-- from the greatest down stay empty, and the result is a complex again. In the end comes a cancellation that may lack memory, and
+-- then changes nothing: either way the result comes by cancelling.
 use Rattle.std.proofs.lemmas.Bool.Decides.{nat_tests}
 use Rattle.std.proofs.Common.{arith}
 use Rattle.std.proofs.Common.{◌≡◌, ℕ, ◌∙◌, inl, List, [], ◌∷◌, ◌++◌, ℤ, pos, ◌+ℤ◌, ◌-ℤ◌, length, ap, sym, subst, refl, Bool, true, false, Result, Ok, Err}

@@ -1,4 +1,9 @@
--- The least number at which a difference shows, and lists of entries that are the same or not.
+-- The least number at which a difference shows, and lists of entries that are the same or not. Equality of entries, of their
+-- lists and of numbers can be decided, so what can not differ is the same. If something shows exactly where one of two things
+-- does, its least number is the lesser of the least numbers of both, or the only one that was found. So the least number of the
+-- first lines and that of one line more give that of all these lines, which is the step of a loop. A copied row with the entries
+-- of the complex's row shows no difference, and any copied row shows it where the values of both lists differ. Columns and rows
+-- together give the least column that shows a difference.
 use Rattle.std.proofs.lemmas.Bool.Decides.{nat_tests}
 use Rattle.std.proofs.Common.{◌≡◌, ◌≢◌, ℕ, ◌+◌, ◌<◌, ◌∙◌, ◌⊎◌, inl, inr, List, [], ◌∷◌, ◌++◌, length, get_or, take, ap, ap₂, sym, subst, refl, arith, ◌-◌, Bool, ◌&&◌, None, Some, Option}
 use Rattle.std.specs.Prelude.{nat_eq, slice_index, ℤ}

@@ -1,4 +1,9 @@
--- Two lists of entries that are read side by side, place by place: what is left of them.
+-- Two lists of entries that are read side by side, place by place: what is left of them. The first place of both is the lesser of
+-- their two first places. What is left of a list from a bound on ascends, and has the values of the whole list at all places from
+-- the bound on. This holds of the whole list at first; it stays as the bound goes up to the first place of both lists, and as it
+-- goes on by one and an entry at it is read. So the value in front is that of the whole list at the bound, and in between all
+-- values are 0. While one of the lists has an entry left, a step leaves fewer entries in both together, also by the indices of
+-- both lists: so the loops end.
 use Rattle.std.proofs.Common.{◌≡◌, ℕ, ◌+◌, ◌<◌, ◌≤◌, ◌∙◌, ◌⊎◌, inl, inr, List, [], ◌∷◌, length, drop, min, refl, ap, sym, subst, arith, Bool, ◌-◌}
 use Rattle.std.specs.Prelude.{if◌then◌else◌}
 use Rattle.std.proofs.lemmas.Bool.Decides.{eqb_tells, leb_tells, nat_tests}

@@ -1,4 +1,9 @@
--- The block over chosen generators is a complex, and it is made of its names and its columns.
+-- The block over chosen generators is a complex, and it is made of its names and its columns. The differential is taken to lead
+-- from chosen generators to chosen ones alone: so in a product the middle generators that are not chosen add 0, and the
+-- coefficients square to zero as they do in the whole cube. Beyond the degrees from -n to n there are no generators. So the lists
+-- of chosen generators make a complex. Next come the steps of the loops: the names, the places and the columns of one homological
+-- degree more. In the end the matrices that the columns denote are those of the coefficients, degree by degree; so the complex
+-- that names and columns make is the block, with the sizes and entries that it needs.
 use Rattle.std.proofs.lemmas.Bool.Decides.{nat_tests}
 use Rattle.std.proofs.Common.{◌≡◌, ℕ, inl, inr, ◌+◌, ◌*◌, ◌%◌, ◌^◌, ◌<◌, ◌≤◌, ◌∙◌, ℤ, pos, neg_ℤ, ◌+ℤ◌, ◌-ℤ◌, List, [], ◌∷◌, ◌++◌, length, get_or, map, refl, sym, ap, ap₂, subst, arith, Bool, true, cond, IsTrue}
 use Rattle.std.specs.Prelude.{slice_index_or}

@@ -1,4 +1,9 @@
--- The columns between chosen generators: those of all generators, with the rows numbered anew.
+-- The columns between chosen generators: those of all generators, with the rows numbered anew. The new number of a row is how
+-- many chosen generators stand before it. The entries of a chosen generator's column stand at chosen generators, since they are
+-- not 0 and the differential is taken to lead to no others. For such rows the new numbers rise, so the moved entries still
+-- ascend, and no two rows get one number, so the value at a new row is that at the old one. Each row among the chosen comes from
+-- a row among all: so a moved column has the coefficients to the chosen generators, and this holds of all columns of the chosen
+-- generators of two degrees.
 use Rattle.std.proofs.Common.{◌≡◌, ℕ, zero, suc, inl, inr, ◌+◌, ◌<◌, ◌∙◌, ℤ, pos, ◌+ℤ◌, List, [], ◌∷◌, length, get_or, map, refl, sym, ap, subst, arith, Bool, true, ◌-ℤ◌}
 use Rattle.std.specs.Prelude.{slice_index, slice_index_or}
 use Rattle.std.specs.List.{All, filter}

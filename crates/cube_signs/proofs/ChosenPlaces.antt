@@ -1,4 +1,7 @@
--- The places of the elements of a list that are chosen, among all and among these.
+-- The places of the elements of a list that are chosen, among all and among these. The place of a chosen element among the chosen
+-- is how many chosen ones stand before it. Along the list this count never falls, and behind a chosen element it is one more: so
+-- no two chosen elements have one place, and at the end it is the number of all that are chosen. By induction on the list, the
+-- chosen list has the element there, and each of its places is that of a chosen element of the whole list.
 use Rattle.std.proofs.lemmas.Bool.Decides.{nat_tests}
 use Rattle.std.proofs.Common.{◌≡◌, ℕ, zero, suc, inl, inr, ◌+◌, ◌-◌, ◌<◌, ◌≤◌, ◌∙◌, List, [], ◌∷◌, length, get_or, take, ap, ap₂, arith, Bool, true, false, cond, refl}
 use Rattle.std.specs.List.{filter}

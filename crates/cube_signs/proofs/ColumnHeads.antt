@@ -1,4 +1,9 @@
--- What the entries of a column denote: the coefficients of the differential.
+-- What the entries of a column denote: the coefficients of the differential. Along each edge out of a generator's state there is
+-- an entry for each label behind it, at the place of the state's first generator plus the rank of the label. The generator of
+-- such a label has the next degrees, as the coefficient to it is the sign of the edge and not 0; so it stands at this place, and
+-- its entry is right. The entries along an edge ascend and stay among the places of the state behind it, and a later crossing
+-- leads to a greater state: so all entries ascend. A coefficient other than 0 goes along some edge to a label behind it, so it
+-- has an entry. Together: the entries are the column.
 use Rattle.std.proofs.lemmas.Bool.Decides.{nat_tests}
 use Rattle.std.proofs.Common.{◌≡◌, ◌≢◌, ℕ, zero, suc, ◌+◌, ◌^◌, ◌<◌, ◌≤◌, ◌∙◌, ℤ, pos, ◌+ℤ◌, List, ◌++◌, length, map, refl, sym, ap, ap₂, subst, arith, Bool, true, false, cond, Option, None, Some, IsTrue}
 use Rattle.std.specs.Prelude.{nat_eq, slice_index, slice_index_or, ◌&&◌}

@@ -1,4 +1,9 @@
--- The labels behind an edge are its heads, and the coefficients along an edge.
+-- The labels behind an edge are its heads, and the coefficients along an edge. What an edge does gives the numbers of the two
+-- circles that become one, forwards in a merge and backwards in a split. By these numbers the differential's test of two labels
+-- is a rule for their bits, and the list of labels behind has just the numbers whose bits follow the rule: so labels fit along
+-- the edge exactly where they are in the list. The list has labels of the circles behind the edge, ascending; they have as many
+-- v- in a merge, and one more in a split. Hence the coefficient along an edge is its sign where the label is in the list and else
+-- 0, and a coefficient other than 0 goes along an edge.
 use Rattle.std.proofs.lemmas.Bool.Decides.{nat_tests}
 use Rattle.std.proofs.Common.{◌≡◌, ◌≢◌, ℕ, ◌+◌, ◌^◌, ◌<◌, ◌∙◌, inl, inr, List, get_or, length, map, refl, sym, ap, subst, arith, All, Bool, true, false, cond, IsTrue}
 use Rattle.std.specs.Prelude.{nat_eq}

@@ -1,4 +1,9 @@
--- Where the generators of two degrees stand: those of a state stand together, after those of the states before it.
+-- Where the generators of two degrees stand: those of a state stand together, after those of the states before it. The list of
+-- all is that of each state, one after another; so the first place of a state is how many generators the states before it have,
+-- which grows with the state and is within the limit. Each place belongs to one state, by induction on the states. Among the
+-- numbers that pass a test, one stands at the place that counts the lesser ones, and each place is that of such a number. With
+-- the labels of a state for numbers: a generator stands at the first place of its state plus the count of lesser labels, and each
+-- place is that of one generator.
 use Rattle.std.proofs.lemmas.Bool.Decides.{nat_tests}
 use Rattle.std.proofs.Common.{◌≡◌, ℕ, zero, suc, ◌+◌, ◌-◌, ◌^◌, ◌<◌, ◌≤◌, ◌∙◌, inl, inr, ℤ, List, [], ◌∷◌, ◌++◌, length, get_or, map, refl, sym, ap, subst, arith, Bool, true, false, cond}
 use Rattle.std.specs.List.{filter, flat_map, range_with_len}

@@ -1,4 +1,9 @@
--- The labels behind an edge are the numbers whose bits a merge or a split makes of those before it.
+-- The labels behind an edge are the numbers whose bits a merge or a split makes of those before it. The circles a and b, a below
+-- b, are the two that become one; the bits of all others go with their circles. In a merge the bit at a becomes the sum of both
+-- bits: with two ones there is no such label, else one, made by taking the bit at b out and adding it at a. In a split the two
+-- bits add up to one more than the bit before: if that was 1, both are 1; if it was 0, one of the two is. What the lists hold has
+-- such bits, and what has such bits is in the lists, since bits that agree off a and b and on them are those of one number. The
+-- lists ascend.
 use Rattle.std.proofs.lemmas.Bool.Decides.{nat_tests}
 use Rattle.std.proofs.Common.{◌≡◌, ◌≢◌, ℕ, zero, suc, ◌+◌, ◌*◌, ◌^◌, ◌<◌, ◌≤◌, ◌∙◌, ◌⊎◌, inl, inr, List, [], ◌∷◌, length, refl, sym, ap, subst, arith}
 use Rattle.std.specs.Prelude.{nat_eq, ◌&&◌, if◌then◌else◌}

@@ -1,4 +1,9 @@
--- The heads of an edge: labels go along it where their bits do.
+-- The heads of an edge: labels go along it where their bits do. The numbers a and b of the two circles that become one are the
+-- lesser and the greater of the numbers at the slots 0 and 2 of the crossing. An arc is off these two circles exactly where its
+-- circle has another number, since no two circles have one number. So two labels are the same off the two circles exactly where
+-- their bits agree at all other numbers, each number being that of some arc or loop; on the two circles the labels are the bits
+-- at a and b, and on the one circle the bit at a. Hence the differential's test of labels is the rule for bits: that of a merge,
+-- or that of a split.
 use Rattle.std.proofs.Common.{◌≡◌, ◌≢◌, ℕ, ◌+◌, ◌^◌, ◌<◌, ◌≤◌, ◌∙◌, [], ◌∷◌, map, sym, ap, subst, arith, true, false, IsTrue}
 use Rattle.std.specs.Prelude.{min, max, slice_index}
 use Rattle.std.specs.Bool.{Decides}

@@ -1,4 +1,9 @@
--- The bits of a label without a bit and with a gap, and the numbers that have the bits of the labels behind an edge.
+-- The bits of a label without a bit and with a gap, and the numbers that have the bits of the labels behind an edge. Both are the
+-- low bits of the label, and its high bits moved down or up by one place: so the bits below the place stay, those above are found
+-- one place lower or higher, the gap has a 0, and the number has one bit less or more. If the circles a and b become one, a below
+-- b, the circles above b go down by one, just as the bits do: so off b a label without the bit at b, or with a gap there, has the
+-- bits of the circles under their other numbers. Each number but a comes from a circle that is neither; so bits that agree off a
+-- and b, together with the bit at a, or with those at a and b, say which number it is.
 use Rattle.std.proofs.Common.{◌≡◌, ◌≢◌, ℕ, ◌+◌, ◌-◌, ◌*◌, ◌/◌, ◌%◌, ◌^◌, ◌<◌, ◌≤◌, ◌∙◌, inl, inr, sym, ap, subst, arith}
 use Rattle.std.proofs.lemmas.Bool.{cases_eq, cases_lt}
 use Rattle.std.proofs.lemmas.Bool.Decides.{nat_tests}

@@ -1,4 +1,9 @@
--- The labels of a state that have two degrees, by their numbers of v-.
+-- The labels of a state that have two degrees, by their numbers of v-. A label has both degrees where its state has the
+-- homological one and its number of v- gives the quantum one; so beside such a label, just those with as many v- have the
+-- degrees. The table of weights has the number of v- of each label, for any number of circles up to its width, since the bits
+-- past a label's own circles are 0. So the labels with the weight that gives a degree are those that have it, and the rank of a
+-- label among those with its degrees is how many lesser labels have its weight. This is what the table of ranks has, and its
+-- numbers are small.
 use Rattle.std.proofs.lemmas.Bool.Decides.{nat_tests}
 use Rattle.std.proofs.Common.{◌≡◌, ℕ, zero, suc, ◌+◌, ◌-◌, ◌*◌, ◌^◌, ◌<◌, ◌≤◌, ◌∙◌, ℤ, pos, ◌-ℤ◌, List, [], ◌∷◌, ◌++◌, length, get_or, map, take, refl, sym, ap, ap₂, subst, arith, Bool, true, false, cond, Option}
 use Rattle.std.specs.Prelude.{nat_eq, slice_index, ◌&&◌}

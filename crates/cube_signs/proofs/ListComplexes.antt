@@ -1,4 +1,8 @@
--- Complexes whose places are lists of generators, one for each degree from -n to n, with the coefficients of the cube.
+-- Complexes whose places are lists of generators, one for each degree from -n to n, with the coefficients of the cube. Each
+-- degree is that of its list, or it is empty beyond n, where the lists are empty too. So in all degrees the places are as many as
+-- the list has generators and all alive, the entries are the coefficients from one list to the next, and the rank and the
+-- dimension are those of the lists. If the coefficients square to zero over the lists, this is a complex: its rows and columns
+-- have the lengths of the lists, its entries are below p, no place is dead, and its products, sums over the middle list, are 0.
 use Rattle.std.proofs.lemmas.Bool.Decides.{nat_tests}
 use Rattle.std.proofs.Common.{◌≡◌, ℕ, ◌+◌, ◌-◌, ◌*◌, ◌%◌, ◌<◌, ◌≤◌, ◌∙◌, ◌⊎◌, inl, inr, ℤ, pos, negsuc, ◌+ℤ◌, ◌-ℤ◌, List, [], ◌∷◌, length, map, refl, sym, ap, ap₂, arith, true, false}
 use Rattle.std.specs.Prelude.{slice_index_or}

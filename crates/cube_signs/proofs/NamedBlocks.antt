@@ -1,4 +1,9 @@
--- The block from its names and its columns.
+-- The block from its names and its columns. Lists are compared place by place: two are the same if they have one length and the
+-- same at each place. So the matrix that the columns of all generators of two degrees denote is the differential. The degrees of
+-- a block follow one another from the least on, and behind the last there is no generator. Hence the complex that names and
+-- columns make is the block with its names, degree by degree; the sizes and entries are as they need to be, and products are 0 as
+-- in the block of the cube. A quantum degree that has a block has a generator, and so some homological degree. In the end the
+-- same is said of names and columns in memory.
 use Rattle.std.proofs.lemmas.Bool.Decides.{nat_tests}
 use Rattle.std.proofs.Common.{◌≡◌, ℕ, zero, suc, ◌+◌, ◌^◌, ◌<◌, ◌≤◌, ◌∙◌, inl, inr, ℤ, pos, neg_ℤ, ◌+ℤ◌, ◌≤ℤ◌, List, [], ◌∷◌, ◌++◌, length, get_or, map, take, refl, sym, ap, ap₂, subst, arith, Bool, true, IsTrue}
 use Rattle.std.specs.Prelude.{slice_index_or, ◌&&◌}

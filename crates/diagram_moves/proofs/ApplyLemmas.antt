@@ -1,4 +1,8 @@
--- What moves keep, and when they leave the sphere.
+-- What moves keep, and when they leave the sphere. The answer is the first fault or the code that the move leaves, so what holds
+-- of this code where no fault comes holds of the answer. With what is known of each of the five moves, all of them keep the state
+-- sum, and the number of components and loops together. A number of faces is the fault of no test but the last one of a finger
+-- that is added: so a move leaves the sphere exactly where it adds a finger, its arcs can be taken, and the code that results has
+-- other than the faces of a drawing on the sphere. A finger that joins two pieces never does, as the result has these faces.
 use Rattle.std.proofs.Common.{◌≡◌, ◌≢◌, ℕ, ◌+◌, ◌∙◌, ℤ, sym, ap, arith, Bool, not, IsTrue}
 use Rattle.std.specs.Prelude.{◌↔◌, nat_eq, is_none, Option, Some, None, Err, IfOk}
 use Rattle.std.specs.Option.{option_or}

@@ -1,4 +1,8 @@
--- Crossings as they are dropped.
+-- Crossings as they are dropped. First come the steps of the loops: one place more brings its passes, if its crossing goes, or
+-- the crossing under other names and its sign, if it stays. To drop two crossings that are one is to drop one. Where no fault
+-- comes, the tests find the slot of a kink, or the slots of a bigon. So what is left can be numbered: its names have a head and a
+-- tail each, and its code is accepted. The state sum stays, and so does the number of components and loops together, as is known
+-- of kinks and bigons at given slots. What the loops made, with a loop for each ring, is the code without these crossings.
 use Rattle.std.proofs.lemmas.Bool.Decides.{nat_tests}
 use Rattle.std.proofs.Common.{◌≡◌, ℕ, ◌+◌, ◌∙◌, ℤ, List, [], ◌∷◌, ◌++◌, length, map, refl, ap, ap₂, subst, sym, arith, Bool, true, false, IsTrue}
 use Rattle.std.specs.Prelude.{None, nat_eq, if◌then◌else◌}

@@ -1,4 +1,9 @@
--- Where drops are refused, and what they leave.
+-- Where drops are refused, and what they leave. A crossing has a kink, an arc at two slots in a row, exactly where one of its
+-- passes leaves on the arc on which the other enters: two slots where arcs enter, or two where they leave, never have one arc,
+-- and the rest is by cases on slots and sign. The faults are tested in order, and the first test that fails is the answer. So the
+-- drop of a crossing is refused exactly where it has no kink, the drop of two where they meet in no bigon, and otherwise made;
+-- where there is no such crossing, the fault names it, of two the first. What is left by a drop that is made is what the rule of
+-- drops says, numbered anew.
 use Rattle.std.proofs.Common.{◌≡◌, ◌↔◌, ℕ, ◌⊎◌, inl, inr, ◌+◌, ◌*◌, ◌%◌, ◌<◌, ◌∙◌, List, refl, sym, ap, arith, Bool, true, false, not, ◌&&◌, IsTrue, eq-eqb, eqb-true}
 use Rattle.std.specs.Prelude.{nat_eq, Option, Some, None, Ok, Err, if◌then◌else◌}
 use Rattle.std.specs.List.{list_any, range_with_len}

@@ -1,4 +1,9 @@
--- Crossings over names, with two ends each and on the sphere, become an accepted code, with their components, signs and state sum.
+-- Crossings over names, each name with two ends, and on the sphere, become an accepted code, with their components, signs and
+-- state sum. Numbered anew, two slots have one arc exactly where they had one name: so each dart has the partner that it had, and
+-- as faces, pieces and open darts depend on partners alone, the code is on the sphere. Hence it has a checkerboard colouring, and
+-- no arc is its own next. Passes and smoothings join arcs as they join names, and as many names stand at crossings as there are
+-- arcs: so components and circles are as many as those of the names. The two arcs of an over pass differ, so each crossing keeps
+-- its sign. With ones, signs and circles the same in each state, so is the state sum.
 use Rattle.std.proofs.lemmas.Bool.Decides.{nat_tests}
 use Rattle.std.proofs.Common.{◌≡◌, ◌≢◌, ℕ, suc, ◌+◌, ◌-◌, ◌*◌, ◌/◌, ◌%◌, ◌^◌, ◌<◌, ◌≤◌, ◌∙◌, ℤ, List, [], ◌∷◌, length, map, refl, sym, ap, ap₂, arith, Bool, false, cond, IsTrue}
 use Rattle.std.specs.Prelude.{slice_index_or}

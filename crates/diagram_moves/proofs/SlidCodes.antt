@@ -1,4 +1,9 @@
--- The crossings after a slide become an accepted code.
+-- The crossings after a slide become an accepted code. If each arc has one head and one tail by some signs, and the faces are
+-- those of a drawing on the sphere, then the crossings, taken as crossings over names, can be numbered anew; and over their own
+-- arcs they have the components, the circles and the state sum that they have as a code. All this applies after a slide: each arc
+-- still has a head and a tail by the old signs, and there are as many faces as on the sphere. So at a triangle whose three slots
+-- do not have one parity, the code that results is accepted, with the old number of components and loops together, the old signs
+-- and the old state sum.
 use Rattle.std.proofs.lemmas.Bool.Decides.{nat_tests}
 use Rattle.std.proofs.Common.{◌≡◌, ℕ, ◌+◌, ◌-◌, ◌*◌, ◌/◌, ◌%◌, ◌^◌, ◌<◌, ◌∙◌, ℤ, List, length, map, sym, ap, ap₂, subst, arith, Bool, true, false, not, IsTrue}
 use Rattle.std.specs.List.{count_by, flat_map, range_with_len}

@@ -1,4 +1,9 @@
--- The numbers that a slide leaves: each component keeps its numbers, and begins with its least arc, unless it is over at both its crossings.
+-- The numbers that a slide leaves: each component keeps its numbers, and begins with its least arc, unless it is over at both its
+-- crossings. A slide brings to each dart the arc of a dart that is its source; what is the same at the two darts of an arc and at
+-- opposite slots is the same at a dart and its source. So each dart has an arc of the component that it had before, and passes
+-- still go from an arc to the next one. Hence the arcs follow one another as before, and each component gets its old numbers,
+-- beginning with its least arc; the exception is a component of two arcs that is over at both its crossings after the slide. It
+-- was so before: if an arc of it came in below, then the arc at that slot now would be of it too, and come in below.
 use Rattle.std.proofs.Common.{◌≡◌, ℕ, inl, inr, ◌+◌, ◌-◌, ◌*◌, ◌/◌, ◌%◌, ◌<◌, ◌≤◌, ◌∙◌, List, [], length, refl, sym, ap, ap₂, subst, arith, Bool, true, false, ◌||◌, pos, neg_ℤ, eqb-true, IsTrue}
 use Rattle.std.specs.Prelude.{nat_eq, if◌then◌else◌, slice_index_or, MatchBool}
 use Rattle.std.specs.List.{AllByRecursion}

@@ -1,4 +1,9 @@
--- A slide, and one at the triangle that it leaves, give the code that was.
+-- A slide, and one at the triangle that it leaves, give the code that was. The slide leaves a triangle of the darts across the
+-- three corners. The second slide takes each dart's arc back to where it came from, so it gives the old crossings under other
+-- names; as the names keep the order of the components, renumbering gives the old code itself. Then the same by slots of the
+-- first crossing: the triangle is that of the slot across, and it can be slid, since a slot and the one across have one parity.
+-- Where that is the only triangle, the search for a slot finds it. Last the moves: the move back is taken and gives the first
+-- code where that slot is found, and so wherever the slide left no other triangle.
 use Rattle.std.proofs.lemmas.Bool.Decides.{nat_tests}
 use Rattle.std.proofs.Common.{◌≡◌, ℕ, zero, suc, inl, inr, ◌+◌, ◌-◌, ◌*◌, ◌/◌, ◌%◌, ◌<◌, ◌≤◌, ◌∙◌, List, [], length, sym, ap, ap₂, subst, arith, Bool, true, false, cond, IsTrue}
 use Rattle.std.specs.Prelude.{slice_index_or, is_none, Option, Some, None, Result, Ok, unwrap_or}

@@ -1,4 +1,8 @@
--- What moves do to the writhe.
+-- What moves do to the writhe: an added kink brings its sign, a dropped one takes its sign away, and fingers and slides keep the
+-- writhe. Of a drop or a slide it is known which crossings stay, and that they keep their signs: so the positive ones are counted
+-- among those that stay. Then come the differences of the counts, and with them the dropped kink, the dropped finger, whose
+-- crossings have one sign each way, and the slide, which keeps all crossings. Added kinks and fingers have their counts of signs
+-- from elsewhere. Last the five moves, case by case, and the statement for a move that was made.
 use Rattle.std.proofs.lemmas.Bool.Decides.{nat_tests}
 use Rattle.std.proofs.Common.{◌≡◌, ℕ, ◌+◌, ◌-◌, ◌≤◌, ◌∙◌, ◌%◌, ℤ, pos, neg_ℤ, ◌+ℤ◌, ◌-ℤ◌, List, length, map, sym, ap, subst, arith, Bool, not, cond, ◌||◌, IsTrue}
 use Rattle.std.specs.Prelude.{if◌then◌else◌, nat_eq, Option, None, Result, Ok, IfOk, unwrap_or}

@@ -1,4 +1,9 @@
--- Each text has a reading, and one only.
+-- Each text has a reading, and one only. A reading is computed: the text is cut into tokens, the machine of the grammar reads
+-- these, and what they list gives its code or the first fault against it. That this is a reading is shown from the last step to
+-- the first: for what is listed, for symbols by where they lead the machine, and for the text by its tokens or the fault in their
+-- place. And each reading is of one of three cases: a fault of the bytes, a fault of the grammar, or what the listing comes to.
+-- No two of them hold of one text, and in each of them the reading is one: a text is cut in one way, and the machine reads one
+-- listing alone off a spelling.
 use Rattle.std.proofs.Common.{◌≡◌, ℕ, ◌+◌, length, nat_eq, not, slice_index, ℤ, Bool, true, false, inl, inr, List, Result, Ok, Err, Option, None, Some, IfSome, refl, sym, ◌∙◌, ap, subst, arith}
 use Rattle.std.specs.Option.{option_map, option_or}
 use Rattle.kh_types.specs.Code.{Code}

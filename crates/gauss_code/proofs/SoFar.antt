@@ -1,4 +1,9 @@
--- What is read is spelled: the state, the body and the numbers tell which symbols led to them.
+-- What is read is spelled: the state, the body and the numbers tell which symbols led to them. For each state there are the
+-- symbols so far, and what is proper of the body and the numbers there: no number where a list begins, one at least behind a
+-- number, a group behind one that has ended. Then one more number, and one more group, at the end of what is spelled. A step of
+-- the machine keeps what is proper, and adds its symbol to those so far: this is gone through state by state. By induction on the
+-- symbols a run keeps it too. At an end the symbols so far are the spelling of what is listed, so symbols that lead from the
+-- start to an end are that spelling.
 use Rattle.std.proofs.Common.{◌≡◌, ◌<◌, true, List, [], ◌∷◌, ◌++◌, length, Option, None, Some, IfSome, sym, ◌∙◌, ap, refl, arith, append_assoc, length-append, subst, ℤ}
 use Rattle.std.specs.List.{flat_map}
 use Rattle.std.specs.Option.{option_and_then, option_map}

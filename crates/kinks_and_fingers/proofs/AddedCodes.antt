@@ -1,5 +1,9 @@
--- Codes to which crossings were added on arcs of a directed code: an old crossing is entered on the last number of an arc and left on
--- its first, and the new crossings pass from each number of an arc to the next. Their arcs stand twice.
+-- Codes to which crossings were added on arcs of a directed code: an old crossing is entered on the last number of an arc and
+-- left on its first, and the new crossings pass from each number of an arc to the next. Their arcs stand twice. First what is
+-- asked of such a code and its numbers. Its slots hold arcs, since each number belongs to an old arc. The ends of old arcs keep
+-- the first and the last number. A number that is not the last of its arc enters a new crossing, and one that is not the first
+-- leaves one; the last enters the crossing at the old head, and the first leaves that at the old tail. So each number has two
+-- darts, one by which it enters and one by which it leaves, and these differ.
 use Rattle.std.proofs.Common.{◌≡◌, ◌≢◌, ℕ, ◌⊎◌, inl, inr, ◌+◌, ◌-◌, ◌<◌, ◌≤◌, ◌∙◌, List, length, refl, sym, ap, subst, arith, Bool, true, false}
 use Rattle.std.specs.Prelude.{nat_lt, if◌then◌else◌}
 use Rattle.std.proofs.lemmas.Bool.{cases_eq, cases_lt, cases_Bool, false_from_ne_true}

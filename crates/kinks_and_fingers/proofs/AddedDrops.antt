@@ -1,4 +1,9 @@
--- Where added crossings are dropped the old code is left, each arc under the first of its numbers: so both codes have one state sum.
+-- Where added crossings are dropped the old code is left, each arc under the first of its numbers: so both codes have one state
+-- sum. Classes of arcs that are joined straight through are named by a function, if it has one value on each class, in the class
+-- and not above the arc. Here this is the first number of the old arc: the new crossings join each number of an arc with the
+-- next, and no others. So the old crossings stay, in their order, under these names. Each old arc's name stands at some crossing,
+-- and no other name does; so there are no rings. The smoothings of a state are the old ones under these names, and so have the
+-- old circles. With the old signs, each state has its old term.
 use Rattle.std.proofs.lemmas.Bool.Decides.{nat_tests}
 use Rattle.std.proofs.Common.{◌≡◌, ℕ, zero, suc, inl, inr, ◌+◌, ◌-◌, ◌^◌, ◌<◌, ◌≤◌, ◌∙◌, ℤ, List, ◌++◌, length, map, refl, sym, ap, ap₂, subst, arith, Bool, true, false, not, ◌&&◌, count_by, eqb-true}
 use Rattle.std.specs.Prelude.{slice_index}

@@ -1,4 +1,9 @@
--- A code to which crossings were added has runs: each old component is a run on the new numbers.
+-- A code to which crossings were added has runs: each old component is a run on the new numbers. The run of a number begins with
+-- the first number of the least arc of its old component. An old pass steps from the last number of an arc to the first of the
+-- next arc, and a new one from a number of an arc to the next; so both passes of each crossing are steps. Where a number is not
+-- the first of its run, the number before it is of the same arc, or it is the last of an old arc that has a next in its
+-- component; so both are of one run, and a pass joins them: that of a new crossing, or that across the old head. The other facts
+-- of runs come from the old components.
 use Rattle.std.proofs.Common.{◌≡◌, ◌≢◌, ℕ, ◌⊎◌, inl, inr, ◌+◌, ◌-◌, ◌<◌, ◌≤◌, ◌∙◌, List, refl, sym, ap, subst, arith, Bool, true, false, not}
 use Rattle.std.specs.Prelude.{nat_eq, min, if◌then◌else◌}
 use Rattle.std.specs.List.{flat_map}

@@ -1,4 +1,9 @@
--- The signs of crossings after crossings were added: the old ones keep theirs, and the new ones have the named signs.
+-- The signs of crossings after crossings were added: the old ones keep theirs, and the new ones have the named signs. In a
+-- component of three arcs or more two steps do not lead back, and so the direction of the over pass alone tells the sign; in the
+-- new code an old over pass still goes its way. In a component of two arcs there is no new crossing, and each arc has one number:
+-- there the searches for the first under pass and the first over pass find what they found, and numbers compare as the old arcs
+-- did. A new crossing lies in components of three arcs at least, and its over pass goes as its sign says. So the positive
+-- crossings are the old ones, and those of the new ones that are so named.
 use Rattle.std.proofs.Common.{◌≡◌, ◌≢◌, ℕ, zero, suc, inl, inr, ◌+◌, ◌<◌, ◌≤◌, ◌∙◌, List, length, refl, sym, ap, ap₂, subst, arith, Bool, true, false, cond, eq-eqb, eqb-true}
 use Rattle.std.specs.Prelude.{nat_eq, nat_lt, if◌then◌else◌, Option, Some, None}
 use Rattle.std.specs.List.{count_by, find, range_with_len}

@@ -1,4 +1,9 @@
--- The sizes of components after crossings were added: so the code is directed, and has as many components.
+-- The sizes of components after crossings were added: so the code is directed, and has as many components. As the code has runs,
+-- the component of a number is the first number of its run. A component has no fewer arcs than before, since old arcs have
+-- different first numbers; and one with a new crossing on it has three at least: a number, the next, and the first of the next
+-- arc, which is another arc. So two under passes in one direction in a component of two arcs would be two of the old code: the
+-- new one is directed too. The least arcs of old components and of new ones match by their first numbers, which counts the
+-- components; and no component has one arc alone, since a next number is of the same arc, or it is the first of the next one.
 use Rattle.std.proofs.Common.{◌≡◌, ◌≢◌, ℕ, ◌⊎◌, inl, inr, ◌+◌, ◌<◌, ◌≤◌, ◌∙◌, List, length, map, refl, sym, ap, subst, arith, Bool, true, eq-eqb, eqb-true}
 use Rattle.std.specs.Prelude.{nat_eq, slice_index, if◌then◌else◌}
 use Rattle.std.specs.List.{count_by, range_with_len}

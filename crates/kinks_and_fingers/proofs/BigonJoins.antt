@@ -1,4 +1,9 @@
 -- What the smoothings of a crossing and its passes join, by its slots from one on; those of two crossings apart from all others.
+-- An arc's name stands at two darts alone. For each slot of the four: the smoothing that closes there joins it with the next
+-- slot, the other one joins the next two and the last with it, and passes join opposite slots; each is shown in both directions.
+-- Then, a pair more whose name no other pair joins with anything makes one class fewer, and two such pairs two. At last, the
+-- classes of all smoothings are those of any pairs that are respected by the same functions, with two crossings looked at apart;
+-- and so where these are passed straight.
 use Rattle.std.proofs.lemmas.Bool.Decides.{nat_tests}
 use Rattle.std.proofs.Common.{◌≡◌, ◌≢◌, ℕ, ◌⊎◌, inl, inr, ◌+◌, ◌*◌, ◌%◌, ◌<◌, ◌≤◌, ◌∙◌, List, [], ◌∷◌, ◌++◌, sym, ap, subst, arith, refl, Bool, true, false, cond, ◌||◌, length, eq-eqb, eqb-true}
 use Rattle.std.specs.Prelude.{nat_eq}

@@ -1,4 +1,9 @@
--- The circles of the four states at two crossings that meet in a bigon.
+-- The circles of the four states at two crossings that meet in a bigon. Its sides have the names a and b, which stand nowhere
+-- else, and four more arcs lead away, two from each crossing. All is compared with what is joined without a and b. Where one
+-- crossing closes and the other is gone through, the outer arcs of each crossing are joined, and a and b hang on them; both these
+-- states so have equally many circles. Where both close, the outer arcs are joined alike, but a and b are a circle of their own:
+-- one more. Where both are gone through, the outer arcs of one crossing are joined with those of the other, as they are where
+-- both crossings are passed straight, and again a and b hang on them. All other smoothings depend on their bits alone.
 use Rattle.std.proofs.lemmas.Bool.Decides.{nat_tests}
 use Rattle.std.proofs.Common.{◌≡◌, ◌≢◌, ℕ, zero, suc, ◌⊎◌, inl, inr, ◌+◌, ◌*◌, ◌%◌, ◌<◌, ◌≤◌, ◌∙◌, List, [], ◌∷◌, ◌++◌, sym, ap, arith, refl, Bool, false, cond, not, length, eq-eqb}
 use Rattle.std.specs.Prelude.{nat_eq}

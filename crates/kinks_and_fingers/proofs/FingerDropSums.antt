@@ -1,4 +1,9 @@
--- Dropping two crossings that meet in a bigon keeps the state sum.
+-- Dropping two crossings that meet in a bigon keeps the state sum. One of the two is positive and the other is not, as each side
+-- leads from a tail to a head, over at both ends or under; so one positive and one negative crossing are gone. Each state of what
+-- is left becomes four by two more bits. Of these, the two in which one crossing closes and the other is gone through have
+-- equally many circles, that in which both close has one more, and the fourth has the circles of what is left. So three of the
+-- terms cancel, and the fourth is the term of what is left; which bits close depends on the parity of the slots, two cases. The
+-- state sum is split by both bits and added up; first for slots below 4, then for all, and for accepted codes.
 use Rattle.std.proofs.Common.{◌≡◌, ◌≢◌, ℕ, suc, ◌⊎◌, inl, inr, ◌+◌, ◌-◌, ◌%◌, ◌^◌, ◌<◌, ◌≤◌, ◌∙◌, ℤ, ◌+ℤ◌, List, sym, refl, map, ap, ap₂, arith, Bool, true, cond, not, ◌&&◌, ◌||◌, count_by, length, IsTrue, eqb-true}
 use Rattle.std.specs.Prelude.{nat_eq}
 use Rattle.std.specs.List.{filter, range_with_len}

@@ -1,4 +1,9 @@
--- Two crossings that meet in a bigon are dropped.
+-- Two crossings that meet in a bigon are dropped: what is left has the partners that are left where one of them is smoothed away,
+-- and then the other. This keeps it on the sphere. But dropping joins arcs straight through, and a smoothing turns at the
+-- crossing: both agree where the values at the ends of the bigon's sides are exchanged. So exchanged, the names of classes and
+-- the heads of darts fit the joints of both smoothings, and what both smoothings keep has one value across each pass. Then the
+-- places that stay, first without the one crossing and then without the other. At last all together: the partners keep the names
+-- of classes, lead from heads to tails and from one colour to the other, and each name is of two darts alone.
 use Rattle.std.proofs.Common.{◌≡◌, ◌≢◌, ℕ, ◌⊎◌, inl, inr, ◌+◌, ◌*◌, ◌/◌, ◌%◌, ◌<◌, ◌≤◌, ◌∙◌, List, [], ◌∷◌, sym, ap, subst, arith, refl, Bool, true, not, ◌||◌, length, map, IsTrue, eqb-true}
 use Rattle.std.specs.Prelude.{nat_eq, slice_index}
 use Rattle.std.specs.List.{filter, range_with_len}

@@ -1,4 +1,8 @@
--- The pieces of a code with a finger: those of the old code, or two of them joined.
+-- The pieces of a code with a finger: those of the old code, or two of them joined. Both new crossings and the crossings at the
+-- ends of the two arcs are in one piece; so an old arc that was cut has both ends in one piece, and crossings of one old piece
+-- stay together. The least crossing of each piece is an old one, since the new ones come last. Of different pieces these are in
+-- different old pieces, so there are no more pieces than before. Where the two arcs were of different pieces there is one fewer:
+-- of the two old pieces, one has no such least crossing.
 use Rattle.std.proofs.Common.{◌≡◌, ◌≢◌, ℕ, ◌⊎◌, inl, inr, ◌+◌, ◌*◌, ◌/◌, ◌<◌, ◌≤◌, ◌∙◌, map, refl, sym, ap, arith, Bool, true, false, eq-eqb, eqb-true}
 use Rattle.std.specs.Prelude.{nat_eq, slice_index, if◌then◌else◌}
 use Rattle.std.specs.List.{range_with_len}

@@ -1,4 +1,11 @@
--- Where the named sides are of one face, or the two arcs of two pieces, a code with a finger has the faces of a drawing on the sphere.
+-- Where the named sides of two arcs are of one face, or the arcs are of two pieces, a code with a finger has as many faces as a
+-- drawing on the sphere; and it is accepted exactly where it has. First come the partners of all darts with the finger, read off
+-- the arc numbers; the under arc passes the two new crossings in one order or in the other. The new faces are at least those of
+-- the old face steps with the images of two darts exchanged, and one more between the new crossings. If the two darts were in one
+-- face, the exchange splits it: so there are at least two faces more, and no more pieces. If they were in two pieces, it joins
+-- two faces: so there are at least as many faces, and a piece fewer. As there are never more faces than on the sphere, there are
+-- exactly as many. Last come the same by the names of sides, and acceptance: a code with the faces of the sphere has checkerboard
+-- colours, and the finger keeps the components.
 use Rattle.std.proofs.lemmas.Bool.Decides.{nat_tests}
 use Rattle.std.proofs.Common.{◌≡◌, ◌≢◌, ℕ, ◌⊎◌, inl, inr, ◌+◌, ◌-◌, ◌*◌, ◌/◌, ◌<◌, ◌≤◌, ◌∙◌, List, length, refl, sym, ap, subst, arith, Bool, true, false, not}
 use Rattle.std.specs.Prelude.{◌↔◌, slice_index, if◌then◌else◌, IsTrue}

@@ -1,4 +1,10 @@
--- A code with a finger meets what the law on state sums asks.
+-- A code with a finger meets what the law on state sums asks: its old crossings stand on the new arcs, its last two crossings
+-- show the finger, the loops stay, and there is one crossing more of each sign. The names inside the finger stand for numbers:
+-- tail, middle and head of each of the two arcs for three numbers that follow one another, and one name for a spare number above
+-- all arcs. Another function leads each new number back to its old arc, and the middles and the spare number to 0. The rest
+-- compares numbers. The parts of the two arcs do not meet. The new crossings show those of the finger slot by slot, in four
+-- cases. An old slot holds the number of its arc's tail or head: so it is no middle, and it leads back to its arc. And two
+-- numbers of one old arc are equal, or they are tail and head of one of the two arcs.
 use Rattle.std.proofs.Common.{◌≡◌, ◌≢◌, ℕ, ◌⊎◌, inl, inr, ◌+◌, ◌-◌, ◌*◌, ◌/◌, ◌%◌, ◌<◌, ◌≤◌, ◌∙◌, List, [], ◌∷◌, length, refl, sym, ap, subst, arith, Bool, true, false, ◌||◌}
 use Rattle.std.specs.Prelude.{nat_eq, slice_index_or, if◌then◌else◌}
 use Rattle.std.proofs.lemmas.Bool.Decides.{nat_tests}

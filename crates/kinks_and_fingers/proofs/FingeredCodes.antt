@@ -1,4 +1,9 @@
--- A code with a finger is its code with two crossings added: so it is directed, keeps components and signs, and has one more of each sign.
+-- A code with a finger is its code with two crossings added: so it is directed, keeps the components and the signs of the old
+-- crossings, and has one crossing more of each sign; and each of its two arcs is followed by the next two numbers. All this comes
+-- from the lemmas on added crossings, once what they ask is shown: numbers rise by two above each of the two arcs, so that each
+-- of these has three parts. The first two parts are inner numbers, those whose next number is of the same old arc. The passes of
+-- the new crossings go from an inner number to the next one, and each inner number is entered by one of the two crossings,
+-- whichever of them the under arc passes first. Any two different arcs of an accepted code can have a finger.
 use Rattle.std.proofs.Common.{◌≡◌, ◌≢◌, ℕ, ◌⊎◌, inl, inr, ◌+◌, ◌<◌, ◌≤◌, ◌∙◌, List, length, refl, sym, ap, subst, arith, Bool, true, false, not}
 use Rattle.std.specs.Prelude.{nat_eq, if◌then◌else◌, IsTrue}
 use Rattle.std.proofs.lemmas.Bool.Decides.{nat_tests}

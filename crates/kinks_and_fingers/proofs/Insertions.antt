@@ -1,4 +1,9 @@
--- Sums over states with one bit more.
+-- Sums over states with one bit more. Each state of one crossing more is a state of the others with a bit put in at a given
+-- place: so the sum over all states is the sum over the states of the others, each once with the bit 0 and once with the bit 1.
+-- The proof is by induction over the number of the others. If the new bit is the highest, the states fall into two halves; else
+-- the highest bit of the old state is the highest of the new one, and both sums are split by it. In the second half the same
+-- induction gives the bits of such a state: it is within range, the new bit stands at its place, the other bits are the old ones
+-- in their order, and the ones are those of the old state and the new bit.
 use Rattle.std.proofs.Common.{◌≡◌, ℕ, zero, suc, ◌⊎◌, inl, inr, ◌+◌, ◌-◌, ◌*◌, ◌^◌, ◌<◌, ◌≤◌, ◌∙◌, ℤ, ◌+ℤ◌, sym, refl, map, ap, ap₂, arith, cond}
 use Rattle.std.specs.Prelude.{nat_eq, nat_lt}
 use Rattle.std.specs.List.{range_with_len}

@@ -1,4 +1,9 @@
--- The crossings that stay where some are dropped.
+-- The crossings that stay where some are dropped. Where one is dropped, they are those before it and, moved by one place, those
+-- after it. Where a function lists the places that stay, it tells how many there are, and the slots, the names and the sign of
+-- each by those in the code before. Then come the straight pairs, the two arcs of each pass of a dropped crossing: what holds of
+-- all passes of dropped crossings holds of the straight pairs, and back, by induction over the places. So straight pairs are
+-- pairs of arcs, and the two arcs of a dropped pass have one name. Names are the finest classes: what has one value at both arcs
+-- of each dropped pass has one value at any two arcs of one name.
 use Rattle.std.proofs.Common.{◌≡◌, ℕ, zero, suc, inl, inr, ◌+◌, ◌-◌, ◌*◌, ◌/◌, ◌%◌, ◌<◌, ◌≤◌, ◌∙◌, List, [], ◌∷◌, ◌++◌, sym, ap, subst, arith, refl, Bool, true, false, cond, not, length, map, eq-eqb}
 use Rattle.std.specs.Prelude.{slice_index, nat_eq}
 use Rattle.std.specs.List.{filter, flat_map, range_with_len, AllByRecursion}

@@ -1,4 +1,9 @@
--- A kink on an arc leaves crossings on the sphere.
+-- A kink on an arc leaves crossings on the sphere. A bare crossing is added, which keeps them planar, and the arc is cut, which
+-- does so too, as part of the arcs of a planar whole is planar. Then three arcs are added, and each is shown to join two pieces
+-- or two darts of one face. The bare crossing is a piece of its own, and its four darts are on one face. So the first arc, from
+-- one end of the cut arc to a new dart, joins two pieces. If the ends of the second arc are in one piece then, the ends of the
+-- cut arc were in one piece, hence on one face, since the whole is planar; and so are the ends of the second arc. The third arc
+-- joins the last two darts of the new crossing, which are neighbours, so one face step apart. Then no dart is open.
 use Rattle.std.proofs.Common.{◌≡◌, ◌≢◌, ℕ, ◌⊎◌, inl, inr, ◌+◌, ◌*◌, ◌/◌, ◌<◌, ◌≤◌, ◌∙◌, List, sym, ap, arith, refl, map, suc, cond}
 use Rattle.std.specs.Prelude.{slice_index, nat_lt}
 use Rattle.std.specs.List.{range_with_len}

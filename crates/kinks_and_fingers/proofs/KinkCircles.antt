@@ -1,4 +1,10 @@
--- The circles of states at a kink: those that go through it have as many as without it, and those that close it one more.
+-- The circles of states at a kink: a state that goes through the kink has as many as the same state without that crossing, and a
+-- state that closes the kink has one more. Without the crossing, circles are the classes of the straight pairs there and of the
+-- smoothings of the other crossings. A state that goes through has these same classes: as one arc stands at both slots of the
+-- kink, its smoothing there and the straight pairs join the same arcs. A state that closes the kink joins the two arcs at the
+-- other two slots, and the straight pairs tie the kink's arc to them besides. That arc stands at no other slot, so a mark on it
+-- alone shows that it was in a class of its own: with the straight pairs there is one class fewer. Last, the circles of a code
+-- are its classes, but for that of the number 0, and its loops; so the two statements follow.
 use Rattle.std.proofs.Common.{◌≡◌, ◌≢◌, ℕ, ◌⊎◌, inl, inr, ◌+◌, ◌*◌, ◌/◌, ◌%◌, ◌<◌, ◌≤◌, ◌∙◌, List, [], ◌∷◌, ◌++◌, sym, ap, subst, arith, refl, false, cond, not, length, map, eq-eqb, eqb-true, IsTrue}
 use Rattle.std.specs.Prelude.{slice_index, nat_eq}
 use Rattle.std.specs.List.{filter, range_with_len}

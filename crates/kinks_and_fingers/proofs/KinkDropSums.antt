@@ -1,4 +1,10 @@
--- Dropping a crossing with a kink keeps the state sum.
+-- Dropping a crossing with a kink keeps the state sum. The kink's arc has its head at one of two neighbouring slots and its tail
+-- at the other: so the crossing is positive exactly where the first of these slots is even. Then come counts: the positive
+-- crossings are those that stay, and this one if it is positive. The state sum is a sum over the states of the other crossings,
+-- each once with the bit 0 and once with the bit 1 at the kink. One of these two states goes through the kink and has the circles
+-- of the state without it; the other closes the kink and has one circle more. At a positive kink it is the bit 0 that closes, at
+-- a negative one the bit 1. In both cases the two terms come to the term of the state without the kink, and so the sums agree.
+-- The lemmas on counts and on sums of terms serve other files too.
 use Rattle.std.proofs.Common.{◌≡◌, ℕ, zero, suc, inl, inr, ◌+◌, ◌-◌, ◌*◌, ◌%◌, ◌^◌, ◌<◌, ◌≤◌, ◌∙◌, ℤ, pos, ◌+ℤ◌, ◌-ℤ◌, List, [], ◌∷◌, sym, refl, map, ap, ap₂, arith, Bool, true, false, cond, not, ◌&&◌, count_by, length, IsTrue, eq-eqb, eqb-true}
 use Rattle.std.specs.Prelude.{nat_eq}
 use Rattle.std.specs.List.{filter, range_with_len}

@@ -1,4 +1,10 @@
--- A crossing with a kink is dropped.
+-- Where a crossing with a kink is dropped, the others get the partners that are left when it is smoothed through the kink. These
+-- leave them on the sphere; partners have one name, which no other dart has; one is a head and one a tail, and their colours
+-- differ. The kink's arc joins two neighbouring darts. Names: each dropped pass has one name at both ends, and the kink's arc
+-- ties the two passes. Heads: the smoothed strand runs along the kink's arc backwards, so the test for heads is turned at its two
+-- darts. Colours change from slot to slot round a crossing. No others: the pair of a dart that is left, taken back to all darts,
+-- has one value at all four darts of the crossing, hence at all arcs of one name; so two darts of one name are one or partners.
+-- The lemmas at the top serve bigons too.
 use Rattle.std.proofs.Common.{◌≡◌, ◌≢◌, ℕ, ◌⊎◌, inl, inr, ◌+◌, ◌*◌, ◌/◌, ◌%◌, ◌<◌, ◌≤◌, ◌∙◌, List, sym, ap, subst, arith, refl, Bool, true, not, ◌||◌, length, IsTrue, cond, eqb-true, eq-eqb}
 use Rattle.std.specs.Prelude.{nat_eq, slice_index, min}
 use Rattle.std.specs.List.{filter, range_with_len}

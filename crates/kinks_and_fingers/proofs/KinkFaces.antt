@@ -1,4 +1,9 @@
--- The partners in a code with a kink are those that the law on planar kinks speaks of; so it has the faces of a drawing on the sphere.
+-- The partners in a code with a kink are those that the law on planar kinks speaks of; so the code has the faces of a drawing on
+-- the sphere, and is accepted. Two darts of one arc are partners, which is said first by places. So the tail of the kinked arc is
+-- now the partner of the dart at which the new crossing is entered, the head that of the dart at which it is left, and the two
+-- inner darts of the crossing are partners; all other darts keep their partners, as their arcs have only got other numbers. These
+-- facts fix a partner function at each dart, so it is that of the law; and faces, pieces and open darts depend on partners alone.
+-- Acceptance follows: the code is directed, a planar code has checkerboard colours, and the components are as many as before.
 use Rattle.std.proofs.Common.{◌≡◌, ◌≢◌, ℕ, ◌⊎◌, inl, inr, ◌+◌, ◌*◌, ◌/◌, ◌<◌, ◌∙◌, List, length, refl, sym, ap, subst, arith, Bool, true, false}
 use Rattle.std.specs.Prelude.{IsTrue, nat_eq}
 use Rattle.std.proofs.lemmas.Bool.{cases_Bool, cases_lt}

@@ -1,4 +1,9 @@
--- The slots of a code with a kink.
+-- The slots of a code with a kink on an arc. The old crossings come first, at their places. A slot of theirs holds its old
+-- number, which has risen by two if it is above the kinked arc; only the head of that arc holds the last of its three parts
+-- instead. This is said of slots by places, then of darts: heads, tails, and darts of other arcs. The new crossing is the last.
+-- Its two passes go from the first part of the arc to the middle one and from there to the last, over or under first. So one slot
+-- has the first part, one the last, and two slots have the middle part. Which slots these are is told in the four cases of a
+-- kink: over or under first, positive or negative.
 use Rattle.std.proofs.Common.{◌≡◌, ℕ, zero, suc, ◌+◌, ◌-◌, ◌<◌, ◌≢◌, ◌∙◌, List, [], ◌∷◌, ◌++◌, length, refl, sym, ap, subst, arith, Bool, true, false}
 use Rattle.std.specs.Prelude.{slice_index_or, nat_eq, ◌&&◌, if◌then◌else◌}
 use Rattle.std.specs.List.{range_with_len}

@@ -1,4 +1,9 @@
--- A code with a kink is its code with a crossing added: so it is directed, keeps components and signs, and has one sign more.
+-- A code with a kink is its code with a crossing added: so it is directed, keeps the components and the signs of the old
+-- crossings, and has one crossing more, of the kink's sign; and the kinked arc is followed by the next two numbers. All this
+-- comes from the lemmas on added crossings, once what they ask is shown: numbers above the arc rise by two, so that the arc has
+-- three parts. The first two parts are inner numbers, those whose next number is of the same old arc. The two passes of the new
+-- crossing enter on these two, one on each, and each leaves on the next number, whichever pass comes first. Any arc of an
+-- accepted code can have a kink.
 use Rattle.std.proofs.Common.{◌≡◌, ℕ, ◌⊎◌, inl, inr, ◌+◌, ◌<◌, ◌≤◌, ◌∙◌, List, length, sym, ap, subst, arith, Bool, true, false, not}
 use Rattle.std.specs.Prelude.{if◌then◌else◌, IsTrue}
 use Rattle.std.proofs.lemmas.Bool.Decides.{nat_tests}

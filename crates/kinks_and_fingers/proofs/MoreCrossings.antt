@@ -1,4 +1,9 @@
--- Darts under other names, and one more bare crossing.
+-- What keeps crossings planar, by counts of faces, pieces and open darts. A permutation under other names has as many cycles: so
+-- there are as many faces where darts get other names that keep the order round each crossing, and as many pieces where these
+-- names give names of crossings. Numbers behind all others that are joined with each other and with no others are one class more.
+-- So a bare crossing, put last, is one more piece; it is one more face, as the face steps turn round it; and its four darts are
+-- open. So crossings are planar with it exactly where they are without it. An arc keeps them planar if it joins two pieces, where
+-- two faces become one and two pieces too, or if it joins two darts of one face, which it splits.
 use Rattle.std.proofs.Common.{◌≡◌, ◌≢◌, ℕ, zero, suc, ◌⊎◌, inl, inr, ◌+◌, ◌*◌, ◌/◌, ◌<◌, ◌≤◌, ◌∙◌, List, [], ◌∷◌, ◌++◌, refl, sym, ap, subst, length, map, arith, Bool, true, false, cond}
 use Rattle.std.specs.Prelude.{slice_index, nat_eq, nat_lt}
 use Rattle.std.specs.List.{filter, count_by, range_with_len}

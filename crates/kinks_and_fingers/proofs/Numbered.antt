@@ -1,4 +1,9 @@
--- Components that are numbered one after another, each along its direction.
+-- Components that are numbered one after another, each along its direction. Given is a function that leads each number to the
+-- first of its run: both arcs of a pass have the same first number, and each number but the first of a run is in one component
+-- with the number before it. Then each number is in one component with the first of its run, by induction downwards; and numbers
+-- of different runs are not joined, as passes keep the function. So the components are the runs, each named by its first number.
+-- A component is an interval: if some number of the interval were of another run, the whole run would stand before that number,
+-- and so be too short. And the next arc is the next number, or after the last of a run its first.
 use Rattle.std.proofs.lemmas.Bool.Decides.{nat_tests}
 use Rattle.std.proofs.Common.{◌≡◌, ℕ, zero, suc, inl, inr, ◌+◌, ◌-◌, ◌<◌, ◌≤◌, ◌∙◌, List, [], ◌∷◌, length, map, refl, sym, ap, subst, arith, true, eqb-true}
 use Rattle.std.specs.Prelude.{nat_eq, if◌then◌else◌}

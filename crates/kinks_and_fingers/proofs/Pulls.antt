@@ -1,4 +1,11 @@
--- Where two darts at neighbouring slots are pulled off their arcs, crossings stay planar.
+-- Where two darts at neighbouring slots are pulled off their arcs, and the other ends of these arcs are joined instead, crossings
+-- stay planar. If the two darts are partners, one arc is lost, and part of a planar whole is planar. Else the two arcs are cut,
+-- which leaves a part too, and an arc is added between their other ends. This keeps crossings planar if the other ends are in two
+-- pieces; so let them be in one, then they have to be on one face. The two pulled darts are open neighbours, so on one face. Ends
+-- of a cut arc that are in one piece are on one face, as the whole is planar: so all four are on one face if the other ends are
+-- in the piece of the pulled darts. If not, the first arc is put back: that joins two pieces and two faces, and the ends of the
+-- second arc are then in one piece, so on one face. So its other end was on the face of the first arc's other end, or on that of
+-- the pulled darts; but these are in another piece.
 use Rattle.std.proofs.Common.{◌≡◌, ◌≢◌, ℕ, ◌⊎◌, inl, inr, ◌*◌, ◌/◌, ◌<◌, ◌∙◌, List, sym, ap, arith, refl}
 use Rattle.std.specs.Prelude.{slice_index}
 use Rattle.std.proofs.lemmas.Bool.{cases_eq}

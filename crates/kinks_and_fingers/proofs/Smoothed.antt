@@ -1,4 +1,9 @@
--- A crossing that is smoothed away leaves the others on the sphere.
+-- A crossing that is smoothed away leaves the others on the sphere. Its four darts are pulled off their arcs in two pairs of
+-- neighbours, and each of the two steps keeps crossings planar; then the crossing is bare, and all other darts still have arcs.
+-- Now it is put last, by a permutation of the crossings, and of their darts, that keeps the order round each crossing. So faces
+-- and pieces are as many as before, and the four open darts are those of the last crossing; a bare last crossing can be left out.
+-- Beside this goes a lemma on values of darts: what partners share, and what the darts share that are joined at the crossing, is
+-- shared by the partners that are left. Other files use the facts on the four darts of a crossing too, and the permutation.
 use Rattle.std.proofs.Common.{◌≡◌, ◌≢◌, ℕ, ◌⊎◌, inl, inr, ◌+◌, ◌*◌, ◌/◌, ◌%◌, ◌<◌, ◌≤◌, ◌∙◌, sym, ap, arith, refl, Bool, true, false, ◌||◌, count_by, eq-eqb, zero, suc}
 use Rattle.std.specs.Prelude.{nat_eq}
 use Rattle.std.specs.List.{range_with_len}

@@ -1,4 +1,9 @@
--- The classes of names at crossings: those of names that stand, which dropped crossings leave, and the others, which are alone.
+-- The classes of names at crossings are those of names that stand at some crossing, and the others, each alone in its class. For
+-- if all pairs are of names that stand, a mark on a name that stands nowhere is kept by the pairs; so that name is joined with no
+-- other, and the classes are as many as the standing ones and the names that do not stand. Where crossings are dropped, arcs are
+-- contracted along the straight pairs. So pairs at the crossings that stay make as many standing classes, with the rings and one
+-- for the number 0, as the same pairs make with the straight pairs in the arcs before. Counts in lists come first; at the end
+-- stands that passes and smoothings are pairs of standing names.
 use Rattle.std.proofs.Common.{◌≡◌, ◌≢◌, ℕ, zero, suc, ◌⊎◌, inl, inr, ◌+◌, ◌-◌, ◌<◌, ◌≤◌, ◌∙◌, List, [], ◌∷◌, ◌++◌, sym, ap, subst, arith, refl, Bool, true, false, cond, not, ◌&&◌, ◌||◌, length, map, eq-eqb, count_by}
 use Rattle.std.specs.Prelude.{slice_index, nat_eq, min}
 use Rattle.std.specs.List.{flat_map, range_with_len, AllByRecursion}

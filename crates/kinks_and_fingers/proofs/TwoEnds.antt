@@ -1,4 +1,9 @@
--- Arcs are paired, said by darts: each name that stands at all has one head and one tail.
+-- Arcs are paired, said by darts: each name that stands at all has one head and one tail. Arcs are paired by counts of passes,
+-- where each name is entered at most once and left as often. The two passes of a crossing enter at those of its four darts that
+-- are heads, and leave at the tails: so by induction over the crossings, the passes that enter on a name are as many as the heads
+-- of that name among all darts, and those that leave on it as many as its tails. A count is at most one if no two darts pass the
+-- test, and a count above zero gives a dart. So one head and one tail for each name make arcs paired, and paired arcs give each
+-- head its one tail, and back.
 use Rattle.std.proofs.lemmas.Bool.Decides.{nat_tests}
 use Rattle.std.proofs.Common.{◌≡◌, ℕ, zero, suc, ◌⊎◌, inl, inr, ◌+◌, ◌*◌, ◌/◌, ◌%◌, ◌<◌, ◌≤◌, ◌∙◌, List, ◌∷◌, length, refl, sym, ap, ap₂, arith, Bool, true, false, cond, not, ◌&&◌, eq-eqb, eqb-true}
 use Rattle.std.specs.Prelude.{nat_eq, if◌then◌else◌}

@@ -1,4 +1,9 @@
--- A code's own numbers stay, where it is directed and has no single arcs.
+-- A code's own numbers stay, where it is directed and has no single arcs: to renumber its parts gives back the code. First for
+-- any parts over its arcs in which each walk from the least arc of a component is that of the component's numbers: the order of
+-- all arcs is put together component by component, so it is 1, 2, 3 and so on, and the new number of an arc is its own. Then for
+-- the code's own parts: a pass goes from an arc to the next and has the arc's label, so the arc that follows is the next one, and
+-- a walk goes over a component in the order of the numbers. No component of two arcs is turned: its labels stand in the right
+-- order already, and no two arcs have one label. So each slot of each crossing keeps its number.
 use Rattle.std.proofs.Common.{◌≡◌, ℕ, zero, suc, inl, inr, ◌+◌, ◌-◌, ◌*◌, ◌<◌, ◌≤◌, ◌∙◌, List, [], ◌∷◌, ◌++◌, length, map, get_or, refl, sym, ap, ap₂, subst, arith, Bool, true, false, ℤ, pos}
 use Rattle.std.specs.Prelude.{nat_eq, if◌then◌else◌, slice_index_or, MatchBool}
 use Rattle.std.specs.List.{position_or_len, range_with_len, AllByRecursion}

@@ -1,4 +1,8 @@
--- The arcs of a directed code without single arcs are paired by its own directions.
+-- The arcs of a directed code without single arcs are paired by its own directions: of all passes one enters on each arc and one
+-- leaves on it, and no other name is the end of a pass. Each slot of a crossing is one end of one pass, so the passes that enter
+-- on an arc and those that leave on it are together as many as its slots, which are two. The names at the ends of passes are
+-- arcs. An arc has one dart where it enters a crossing and one where it leaves one, and each is the end of a pass; so at least
+-- one pass enters and at least one leaves, and as there are two in all there is one of each.
 use Rattle.std.proofs.lemmas.Bool.Decides.{nat_tests}
 use Rattle.std.proofs.Common.{◌≡◌, ℕ, zero, suc, ◌⊎◌, inl, inr, ◌+◌, ◌-◌, ◌<◌, ◌≤◌, ◌∙◌, List, length, map, refl, sym, ap, subst, arith, Bool, true, false, cond, ◌||◌}
 use Rattle.std.specs.Prelude.{nat_eq, if◌then◌else◌, IsTrue}

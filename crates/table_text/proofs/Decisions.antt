@@ -1,4 +1,8 @@
--- Whether a line is that of a field, or of a row that can follow others.
+-- Whether a line is that of a field, or of a row that can follow others: one of the two answers is right. Two texts are the same
+-- or not, and what can be decided of each number can be decided of all numbers below a bound. The degrees and the dimension of a
+-- row within the limits are three such numbers, so it is decided whether a line is that of some row. Then it is decided, by the
+-- signs of differences, whether this row is in the ranges of the version and comes behind each row so far. No other row has the
+-- same line, so if this one cannot follow none can. The line of a field is one of four texts.
 use Rattle.std.proofs.Common.{◌≡◌, ℕ, zero, suc, ◌+◌, ◌-◌, ◌*◌, ◌<◌, ◌∙◌, List, [], ◌∷◌, ap, sym, refl, subst, inl, inr, arith, ℤ, pos, negsuc, neg_ℤ, ◌-ℤ◌, ◌≤ℤ◌}
 use Rattle.std.specs.Prelude.{◌⊎◌, None, Some, ◌<ℤ◌}
 use Rattle.std.specs.List.{All}

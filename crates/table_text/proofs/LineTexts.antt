@@ -1,4 +1,9 @@
--- The lines of fields and of rows, and the words in them.
+-- The lines of fields and of rows, and the words in them. The lines of the four fields are written out, and a field is told by
+-- its line. A text is a line where it is the first line of all that begins with it: so are the lines of fields and of rows, since
+-- the numbers in them are digits and signs, which are bytes above the space, and so no line feeds. For the same reason a number
+-- in a row's line is a word, which ends at the next space or line feed: the second, fourth and sixth words are the quantum
+-- degree, the homological degree and the dimension as they are printed. They are not large, so each is read from its word, and a
+-- row is told by its line.
 use Rattle.std.proofs.Common.{◌≡◌, ◌≢◌, ℕ, suc, ◌+◌, ◌^◌, ◌<◌, ◌≤◌, ◌∙◌, List, [], ◌∷◌, ◌++◌, length, take, drop, ap, sym, refl, subst, inl, inr, arith, true, false, cond, not, codes, ℤ, pos, negsuc, neg_ℤ, ◌+ℤ◌, ◌≤ℤ◌}
 use Rattle.std.specs.Prelude.{None, Some, unsigned_abs}
 use Rattle.std.specs.Fmt.{decimal, signed_decimal, digits}

@@ -1,4 +1,9 @@
--- The lines of a table, one by one.
+-- The lines of a table, one by one. Texts that are the same and begin with lines begin with the same line, so where the lines of
+-- a table begin with those of another one, it has the other's field and rows, and then more rows. So behind the lines of a table
+-- a line is wrong if it is that of no row that can follow, and the first line is wrong if it is that of no field. A line that is
+-- right makes the table one row longer. Among the lines of a table, by the same argument, none is wrong, whatever stands behind
+-- them: so the lines of a table have no wrong line, and the place of the first wrong line is determined. Last, lines are those of
+-- one table only.
 use Rattle.std.proofs.Common.{◌≡◌, ℕ, ◌+◌, ◌<◌, ◌≤◌, ◌⊎◌, ◌∙◌, List, [], ◌∷◌, ◌++◌, length, take, drop, ap, sym, refl, subst, inl, inr, arith}
 use Rattle.std.specs.Prelude.{None}
 use Rattle.std.specs.List.{All, flat_map}

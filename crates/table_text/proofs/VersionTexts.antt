@@ -1,4 +1,10 @@
--- The texts of tables in both versions: what stands behind the line of the version.
+-- The texts of tables in both versions: what stands behind the line of the version. Where the first line of a text is that of
+-- version 2, its lines are what is behind it; else the whole text is taken for lines of version 1. Lines of a table do not begin
+-- with that line, as their first letter is another. For version 1 a wrong line among the lines is a wrong line of the text, and
+-- conversely. For version 2 the same holds with places moved by the eight bytes of the first line, and a wrong line never begins
+-- before them. So the readings of the lines, moved so, are the readings of the text, and there are no others. Last, how what is
+-- read prints: always as version 2, so a text of version 2 as itself, and one of version 1 with the line of the version before
+-- it.
 use Rattle.std.proofs.Common.{◌≡◌, ◌≢◌, ℕ, ◌+◌, ◌-◌, ◌≤◌, ◌⊎◌, ◌∙◌, List, [], ◌++◌, length, take, drop, get_or, ap, sym, refl, subst, inl, inr, arith}
 use Rattle.std.specs.Prelude.{Result, Ok, Err, IsTrue, codes}
 use Rattle.std.specs.Str.{bytes_eq}

@@ -1,4 +1,9 @@
--- Words spell a line of an edit exactly where it is read from them.
+-- Words spell a line of an edit exactly where it is read from them. First single words: a place is read where the word is a
+-- numeral within the limit; a side, a pass or a sign is read where the word is one of two. From reading to spelling the proof
+-- follows the reader: the first word alone is `undo` or `redo`; else it chooses `r1`, `r2` or `r3`, then the number of the words
+-- behind it and the word `add` or `drop` choose the kind of line, and its parts are read one after another. In all other cases
+-- nothing is read. From spelling to reading there is a case for each kind of line: its words are put in, and each part is read as
+-- what it was.
 use Rattle.std.proofs.Common.{◌≡◌, ℕ, ◌↔◌, Bool, true, false, cond, List, [], ◌∷◌, Option, Some, None, refl, ◌∙◌, ap, subst, codes, nat_le, sym}
 use Rattle.std.proofs.lemmas.Bool.{le-leb, leb-true}
 use Rattle.std.proofs.lemmas.Option.{cond_some, none-some, option_and_then_some}

@@ -1,4 +1,9 @@
--- What a script reads as, and what is computed of it, are the same, where the meaning of words is what they spell.
+-- What a script reads as, and what is computed of it, are the same, where the meaning of words is what they spell. A line has
+-- words exactly where cutting it gives some. Lines without words are passed over, but have their numbers. Both ways go by
+-- induction over the lines. What is computed is a reading: a line with a meaning leads the commands of the later lines, and one
+-- without is the first wrong line. And a reading is what is computed: its first command is that of the first line with words, or
+-- this line is the wrong one, or the wrong one is later. For a text, lines are counted first, and too many of them are refused.
+-- Last, a text that is read has at most as many commands as a script may have lines.
 use Rattle.std.proofs.Common.{◌≡◌, ◌≢◌, IfOk, ℕ, ◌+◌, ◌≤◌, ◌↔◌, Bool, true, false, cond, not, List, [], ◌∷◌, ◌++◌, length, filter, Option, Some, None, Result, Ok, Err, refl, sym, ◌∙◌, ap, subst, arith, length-append, nat_lt}
 use Rattle.std.proofs.lemmas.Bool.{le-ltb, lt-ltb, ltb-false, ltb-true}
 use Rattle.std.proofs.lemmas.List.FromFn.{length-enumerate_from}
