@@ -8,3 +8,6 @@ pub mod Lines
 pub mod LinePairs
 pub mod Spans
 pub mod Updates
+pub mod Reductions
+pub mod StoredColumns
+pub mod WorkedColumns

@@ -6,7 +6,7 @@
 -- has an entry. Together: the entries are the column.
 use Rattle.std.proofs.lemmas.Bool.Decides.{nat_tests}
 use Rattle.std.proofs.Common.{◌≡◌, ◌≢◌, ℕ, zero, suc, ◌+◌, ◌^◌, ◌<◌, ◌≤◌, ◌∙◌, ℤ, pos, ◌+ℤ◌, List, ◌++◌, length, map, refl, sym, ap, ap₂, subst, arith, Bool, true, false, cond, Option, None, Some, IsTrue}
-use Rattle.std.specs.Prelude.{nat_eq, slice_index, slice_index_or, ◌&&◌}
+use Rattle.std.specs.Prelude.{nat_eq, slice_index, slice_index_or}
 use Rattle.std.specs.List.{All, Contains, filter, flat_map, list_any, range_with_len}
 use Rattle.std.specs.Ordering.{int_eq}
 use Rattle.std.proofs.lemmas.Bool.{and_parts}

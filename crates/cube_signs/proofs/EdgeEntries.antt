@@ -5,7 +5,6 @@ use Rattle.std.proofs.Common.{◌≡◌, ℕ, zero, suc, ◌+◌, ◌^◌, ◌�
 use Rattle.std.specs.Prelude.{slice_index, slice_index_or}
 use Rattle.std.specs.List.{flat_map, range_with_len}
 use Rattle.std.proofs.lemmas.Grind.{flat_map-append}
-use Rattle.std.proofs.lemmas.List.{append-nil}
 use Rattle.kh_types.specs.Generators.{Generator}
 use Rattle.circle_smoothing.specs.declared.change.Edge.{Edge}
 use Rattle.sparse_block.specs.declared.entry.Entry.{Entry}

@@ -5,7 +5,7 @@
 -- v- in a merge, and one more in a split. Hence the coefficient along an edge is its sign where the label is in the list and else
 -- 0, and a coefficient other than 0 goes along an edge.
 use Rattle.std.proofs.lemmas.Bool.Decides.{nat_tests}
-use Rattle.std.proofs.Common.{◌≡◌, ◌≢◌, ℕ, ◌+◌, ◌^◌, ◌<◌, ◌∙◌, inl, inr, List, get_or, length, map, refl, sym, ap, subst, arith, All, Bool, true, false, cond, IsTrue}
+use Rattle.std.proofs.Common.{◌≡◌, ◌≢◌, ℕ, ◌+◌, ◌^◌, ◌<◌, ◌∙◌, List, get_or, refl, sym, ap, subst, arith, All, Bool, true, false, cond, IsTrue}
 use Rattle.std.specs.Prelude.{nat_eq}
 use Rattle.std.specs.Bool.{Decides}
 use Rattle.std.specs.List.{Contains, list_any}
@@ -19,9 +19,8 @@ use Rattle.kh_types.specs.Acceptance.{accepted}
 use Rattle.kh_types.specs.Bits.{bit, ones}
 use Rattle.kh_types.specs.Code.{Code, IsCrossing, place_of}
 use Rattle.kh_types.specs.Circles.{circle_count}
-use Rattle.kh_types.specs.Differential.{coefficient, coefficient_at, edge_sign}
+use Rattle.kh_types.specs.Differential.{coefficient, edge_sign}
 use Rattle.kh_types.specs.Generators.{Generator, generator_of}
-use Rattle.kh_types.specs.CircleNumbers.{number_of}
 use Rattle.circle_smoothing.specs.Edges.{AreRenumbered, HaveMerged, IsEdge}
 use Rattle.kh_types.specs.Edges.{state_behind}
 use Rattle.circle_smoothing.specs.declared.change.Edge.{Edge}
@@ -34,7 +33,7 @@ use Rattle.cube_squares.proofs.MarkedLabels.{labels-lower}
 use Rattle.cube_squares.proofs.TouchedCircles.{fits, fits-decides}
 use Rattle.cube_squares.proofs.Pairs.{edge_or_zero, coefficient-one}
 use Rattle.cube_signs.proofs.HeadBits.{Contains-merged, Contains-parted, IsMerged-contains, IsParted-contains, increasing-merged, increasing-split}
-use Rattle.cube_signs.proofs.HeadLabels.{AreNumbered, AreNumbered-edge, fits-merge, fits-split, greater-below}
+use Rattle.cube_signs.proofs.HeadLabels.{AreNumbered, fits-merge, fits-split, greater-below}
 
 -- the circles of an edge are numbered by what it does
 abbrev IsNumbered : Code → ℕ → ℕ → Edge → Type 0

@@ -4,8 +4,8 @@
 -- their bits agree at all other numbers, each number being that of some arc or loop; on the two circles the labels are the bits
 -- at a and b, and on the one circle the bit at a. Hence the differential's test of labels is the rule for bits: that of a merge,
 -- or that of a split.
-use Rattle.std.proofs.Common.{◌≡◌, ◌≢◌, ℕ, ◌+◌, ◌^◌, ◌<◌, ◌≤◌, ◌∙◌, [], ◌∷◌, map, sym, ap, subst, arith, true, false, IsTrue}
-use Rattle.std.specs.Prelude.{min, max, slice_index}
+use Rattle.std.proofs.Common.{◌≡◌, ◌≢◌, ℕ, ◌+◌, ◌^◌, ◌<◌, ◌≤◌, ◌∙◌, sym, ap, subst, arith, true, false, IsTrue}
+use Rattle.std.specs.Prelude.{min, max}
 use Rattle.std.specs.Bool.{Decides}
 use Rattle.std.proofs.lemmas.Bool.Decides.{nat_tests}
 use Rattle.kh_types.specs.Acceptance.{accepted}
@@ -16,7 +16,7 @@ use Rattle.kh_types.specs.Generators.{Generator}
 use Rattle.kh_types.specs.CircleNumbers.{IsName, circle_number, number_of}
 use Rattle.circle_smoothing.specs.Edges.{AreRenumbered, HaveMerged, renumbered}
 use Rattle.kh_types.specs.Edges.{arc_at_slot}
-use Rattle.kh_types.proofs.CircleNumbers.{IsCircle-of, number_of-below, number_of-max, number_of-min, number_of-one}
+use Rattle.kh_types.proofs.CircleNumbers.{IsCircle-of, number_of-below, number_of-one}
 use Rattle.cube_squares.specs.Squares.{circle_at_slot}
 use Rattle.cube_squares.proofs.Merges.{IsMerge, circle_in}
 use Rattle.cube_squares.proofs.Marks.{IsOff}

@@ -10,9 +10,7 @@ use Rattle.std.specs.Prelude.{nat_eq, slice_index, ◌&&◌}
 use Rattle.std.specs.List.{All, count_by, filter, range_with_len}
 use Rattle.std.specs.Ordering.{int_eq}
 use Rattle.std.proofs.Math.Pow.{pow_mono}
-use Rattle.std.proofs.lemmas.Bool.{and_parts, eqb-true, eq-eqb}
-use Rattle.std.proofs.lemmas.Bool.Decides.{Decides-int_eq}
-use Rattle.std.proofs.lemmas.Int.{ints}
+use Rattle.std.proofs.lemmas.Bool.{and_parts}
 use Rattle.std.proofs.lemmas.List.{take_more, length-take-le}
 use Rattle.std.proofs.lemmas.List.Elements.{All-map}
 use Rattle.std.proofs.lemmas.List.FromFn.{get_or-map-range_with_len, get_or-range_with_len, length-map-range_with_len, length-range_with_len}
@@ -32,7 +30,7 @@ use Rattle.cube_signs.specs.Shapes.{gives_degree, is_given, shape_of}
 use Rattle.cube_signs.specs.Tables.{state_generators, AreRanks, AreTables, AtState}
 use Rattle.cube_signs.specs.declared.shape.Shape.{Shape}
 use Rattle.cube_signs.proofs.GeneratorPlaces.{is_label, labels_at, state_generators-labels}
-use Rattle.cube_signs.proofs.ShapeLemmas.{quantum_degree-label, same-passes}
+use Rattle.cube_signs.proofs.ShapeLemmas.{quantum_degree-label}
 
 -- a label has as many v- on more circles
 ones-wider : (count more label : ℕ) → label < 2 ^ count → ones (count + more) label ≡ ones count label

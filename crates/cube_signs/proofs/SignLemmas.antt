@@ -2,7 +2,7 @@
 use Rattle.std.proofs.Common.{◌≡◌, ◌≢◌, ℕ, ◌+◌, ◌-◌, ◌%◌, ◌<◌, ◌∙◌, List, ◌++◌, sym, ap, arith, Option, None}
 use Rattle.std.specs.Prelude.{nat_eq, if◌then◌else◌, slice_index_or}
 use Rattle.std.proofs.lemmas.Bool.Decides.{nat_tests}
-use Rattle.kh_types.specs.Bits.{bit, ones}
+use Rattle.kh_types.specs.Bits.{bit}
 use Rattle.kh_types.proofs.BitLemmas.{ones-more}
 use Rattle.kh_types.proofs.Ranges.{flat_map-range_more}
 use Rattle.circle_smoothing.specs.declared.change.Edge.{Edge}

@@ -5,14 +5,14 @@
 -- one more. Where both are gone through, the outer arcs of one crossing are joined with those of the other, as they are where
 -- both crossings are passed straight, and again a and b hang on them. All other smoothings depend on their bits alone.
 use Rattle.std.proofs.lemmas.Bool.Decides.{nat_tests}
-use Rattle.std.proofs.Common.{◌≡◌, ◌≢◌, ℕ, zero, suc, ◌⊎◌, inl, inr, ◌+◌, ◌*◌, ◌%◌, ◌<◌, ◌≤◌, ◌∙◌, List, [], ◌∷◌, ◌++◌, sym, ap, arith, refl, Bool, false, cond, not, length, eq-eqb}
+use Rattle.std.proofs.Common.{◌≡◌, ◌≢◌, ℕ, zero, suc, ◌⊎◌, inl, inr, ◌+◌, ◌*◌, ◌%◌, ◌<◌, ◌≤◌, ◌∙◌, List, [], ◌∷◌, ◌++◌, sym, ap, arith, refl, Bool, false, not, length, eq-eqb}
 use Rattle.std.specs.Prelude.{nat_eq}
 use Rattle.std.specs.List.{filter, flat_map, range_with_len}
 use Rattle.std.proofs.lemmas.Bool.{both_ways, cases_Bool}
 use Rattle.kh_types.specs.Bits.{bit}
 use Rattle.kh_types.specs.Classes.{classes_of, class_count, Respects, AreBelow}
 use Rattle.kh_types.specs.Code.{arc_count}
-use Rattle.kh_types.specs.Circles.{smoothing_of, smoothings_of}
+use Rattle.kh_types.specs.Circles.{smoothings_of}
 use Rattle.kh_types.specs.Darts.{HasArcsTwice}
 use Rattle.kh_types.proofs.Lists.{AllByRecursion-append}
 use Rattle.code_passes.specs.Parts.{slots_in}

@@ -16,7 +16,7 @@ use Rattle.kh_types.specs.Accepted.{IsDirected}
 use Rattle.kh_types.specs.Bits.{bit, ones, one_if}
 use Rattle.kh_types.specs.Circles.{circle_count}
 use Rattle.kh_types.specs.Code.{Code, arc_count}
-use Rattle.kh_types.specs.Darts.{HasArcsTwice, partner_at}
+use Rattle.kh_types.specs.Darts.{HasArcsTwice}
 use Rattle.kh_types.specs.Directions.{HasNoSingleArcs, is_positive, plus_count, minus_count, positive_at}
 use Rattle.kh_types.specs.StateSum.{int_sum, state_sum, state_term}
 use Rattle.kh_types.specs.StateSum as kh

@@ -4,7 +4,7 @@
 -- the heads of darts fit the joints of both smoothings, and what both smoothings keep has one value across each pass. Then the
 -- places that stay, first without the one crossing and then without the other. At last all together: the partners keep the names
 -- of classes, lead from heads to tails and from one colour to the other, and each name is of two darts alone.
-use Rattle.std.proofs.Common.{◌≡◌, ◌≢◌, ℕ, ◌⊎◌, inl, inr, ◌+◌, ◌*◌, ◌/◌, ◌%◌, ◌<◌, ◌≤◌, ◌∙◌, List, [], ◌∷◌, sym, ap, subst, arith, refl, Bool, true, not, ◌||◌, length, map, IsTrue, eqb-true}
+use Rattle.std.proofs.Common.{◌≡◌, ◌≢◌, ℕ, ◌⊎◌, inl, inr, ◌+◌, ◌*◌, ◌/◌, ◌<◌, ◌≤◌, ◌∙◌, List, [], ◌∷◌, sym, ap, subst, arith, refl, Bool, true, not, ◌||◌, length, map, IsTrue}
 use Rattle.std.specs.Prelude.{nat_eq, slice_index}
 use Rattle.std.specs.List.{filter, range_with_len}
 use Rattle.std.proofs.lemmas.Bool.{cases_Bool}
@@ -23,7 +23,7 @@ use Rattle.kinks_and_fingers.specs.Dropping.{HasBigonAt}
 use Rattle.kinks_and_fingers.proofs.DroppedDarts.{is_code_head, is_colour, dartwise, class_name, IsDropped}
 use Rattle.kinks_and_fingers.proofs.OldDarts.{IsClosedPlanar-accepted, arc_of_dart-partner, heads-partner, colours-partner, on_arcs, on_arcs-at, arc_of_dart-below, heads-across, colours-next, dart_in-next}
 use Rattle.kinks_and_fingers.proofs.KeptCodes.{block_place, block_slot, places-but, straight-finest}
-use Rattle.kinks_and_fingers.proofs.Smoothed.{IsClosedPlanar-smoothed, smoothed-named, dart_in-below, dart_in-place, dart_cases, IsPermutation-late, IsPermutation-dartwise, dart_in-apart}
+use Rattle.kinks_and_fingers.proofs.Smoothed.{IsClosedPlanar-smoothed, smoothed-named, dart_in-below, IsPermutation-late, IsPermutation-dartwise}
 use Rattle.kinks_and_fingers.proofs.SmoothedValues.{smoothed-flipped, IsTakenBack, IsTakenBack-smoothed}
 use Rattle.kinks_and_fingers.proofs.KinkDrops.{class_name-across, on_arcs-across, pair_of, pair_of-partner, pair_of-same, twice_not, early-away}
 use Rattle.kinks_and_fingers.proofs.CrossedSides.{eq_self, AreSides, crossed, crossed-a, crossed-b, crossed-c, crossed-d, crossed-else, crossed-partner}

@@ -4,7 +4,7 @@
 -- crossing that of the old dart from which its face comes, or a label of its own in the face between. A face step keeps labels:
 -- at the new darts, in four cases of sign and order; at the ends of the two arcs; and at all others. So darts with different
 -- labels are of different faces, and there are at least as many faces as the exchange leaves cycles, and one.
-use Rattle.std.proofs.Common.{◌≡◌, ◌≢◌, ℕ, zero, suc, inl, inr, ◌+◌, ◌-◌, ◌*◌, ◌<◌, ◌≤◌, ◌∙◌, List, [], ◌∷◌, map, refl, sym, ap, arith, Bool, true, false, not, ◌&&◌, eq-eqb, eqb-true}
+use Rattle.std.proofs.Common.{◌≡◌, ◌≢◌, ℕ, inl, inr, ◌+◌, ◌-◌, ◌*◌, ◌<◌, ◌≤◌, ◌∙◌, List, [], ◌∷◌, map, refl, sym, ap, arith, Bool, true, false, not, ◌&&◌, eq-eqb, eqb-true}
 use Rattle.std.specs.Prelude.{nat_eq, nat_lt, slice_index, if◌then◌else◌}
 use Rattle.std.specs.List.{range_with_len}
 use Rattle.std.proofs.lemmas.Bool.{cases_eq, cases_lt}

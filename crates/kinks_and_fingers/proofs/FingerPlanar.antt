@@ -17,7 +17,7 @@ use Rattle.kh_types.specs.Directions.{is_head, head_of, tail_of, HasEnds}
 use Rattle.kh_types.specs.Faces.{face_count, piece_count, planar_face_count, faces_of, pieces_of}
 use Rattle.kh_types.specs.Acceptance.{accepted}
 use Rattle.kh_types.proofs.AcceptedLemmas.{IsAccepted-is, HasArcsTwice-directed}
-use Rattle.kh_types.proofs.DartPairs.{dart_at-place, dart_place-at, dart_place-below, IsDart-at, IsOtherPlace-partner_at, partner_at-only, IsPairing-partner_at}
+use Rattle.kh_types.proofs.DartPairs.{dart_place-at, dart_place-below, IsDart-at, IsOtherPlace-partner_at, partner_at-only, IsPairing-partner_at}
 use Rattle.kh_types.proofs.Heads.{HasEnds-directed}
 use Rattle.face_walk.specs.AddedArcs.{open_face_count, open_piece_count}
 use Rattle.face_walk.proofs.Board.{IsCheckerboard-planar}

@@ -8,7 +8,7 @@ use Rattle.kh_types.specs.declared.dart.Dart.{Dart}
 use Rattle.kh_types.specs.Code.{arc_in, slots_of, crossing_numbers, IsCrossing}
 use Rattle.kh_types.specs.Darts.{arc_of, IsDart}
 use Rattle.kh_types.specs.Directions.{is_head}
-use Rattle.kinks_and_fingers.specs.FingerAdd.{opened, head_number, moved_arc, dart_with, moved_slots, moved_crossings, crossing_with, first_crossing, second_crossing, fingered_crossings}
+use Rattle.kinks_and_fingers.specs.FingerAdd.{opened, head_number, moved_arc, dart_with, moved_slots, moved_crossings, first_crossing, second_crossing, fingered_crossings}
 use Rattle.kinks_and_fingers.proofs.PassEnds.{HasPasses, HasPasses-crossing_with}
 
 pub length-moved : (crossings : List (List ℕ)) (a b : ℕ) → length (moved_crossings crossings a b) ≡ length crossings

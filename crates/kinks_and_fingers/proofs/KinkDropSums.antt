@@ -5,7 +5,7 @@
 -- of the state without it; the other closes the kink and has one circle more. At a positive kink it is the bit 0 that closes, at
 -- a negative one the bit 1. In both cases the two terms come to the term of the state without the kink, and so the sums agree.
 -- The lemmas on counts and on sums of terms serve other files too.
-use Rattle.std.proofs.Common.{◌≡◌, ℕ, zero, suc, inl, inr, ◌+◌, ◌-◌, ◌*◌, ◌%◌, ◌^◌, ◌<◌, ◌≤◌, ◌∙◌, ℤ, pos, ◌+ℤ◌, ◌-ℤ◌, List, [], ◌∷◌, sym, refl, map, ap, ap₂, arith, Bool, true, false, cond, not, ◌&&◌, count_by, length, IsTrue, eq-eqb, eqb-true}
+use Rattle.std.proofs.Common.{◌≡◌, ℕ, zero, suc, inl, inr, ◌+◌, ◌-◌, ◌%◌, ◌^◌, ◌<◌, ◌≤◌, ◌∙◌, ℤ, ◌+ℤ◌, List, [], ◌∷◌, sym, refl, map, ap, ap₂, arith, Bool, true, false, cond, not, ◌&&◌, count_by, length, IsTrue, eq-eqb, eqb-true}
 use Rattle.std.specs.Prelude.{nat_eq}
 use Rattle.std.specs.List.{filter, range_with_len}
 use Rattle.std.proofs.lemmas.Bool.{cases_Bool, ne_eqb}
@@ -39,7 +39,6 @@ use Rattle.kinks_and_fingers.proofs.StandingNames.{count-parts, count_by-cons}
 use Rattle.kinks_and_fingers.proofs.KinkCircles.{kept_are, circles-through, circles-closing}
 use Rattle.gluing.proofs.KinkSums.{term_of-positive_kink, term_of-negative_kink}
 use Rattle.kinks_and_fingers.proofs.Insertions.{int_sum-with_bit, HasBit-with_bit}
-use Rattle.gluing.proofs.SlidSums.{signed_by-difference}
 
 -- the sign of a kink
 

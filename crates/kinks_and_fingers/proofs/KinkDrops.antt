@@ -5,7 +5,7 @@
 -- darts. Colours change from slot to slot round a crossing. No others: the pair of a dart that is left, taken back to all darts,
 -- has one value at all four darts of the crossing, hence at all arcs of one name; so two darts of one name are one or partners.
 -- The lemmas at the top serve bigons too.
-use Rattle.std.proofs.Common.{◌≡◌, ◌≢◌, ℕ, ◌⊎◌, inl, inr, ◌+◌, ◌*◌, ◌/◌, ◌%◌, ◌<◌, ◌≤◌, ◌∙◌, List, sym, ap, subst, arith, refl, Bool, true, not, ◌||◌, length, IsTrue, cond, eqb-true, eq-eqb}
+use Rattle.std.proofs.Common.{◌≡◌, ◌≢◌, ℕ, ◌⊎◌, inl, inr, ◌+◌, ◌*◌, ◌%◌, ◌<◌, ◌≤◌, ◌∙◌, List, sym, ap, subst, arith, refl, Bool, true, not, ◌||◌, length, IsTrue, cond, eqb-true, eq-eqb}
 use Rattle.std.specs.Prelude.{nat_eq, slice_index, min}
 use Rattle.std.specs.List.{filter, range_with_len}
 use Rattle.std.proofs.lemmas.Bool.Decides.{nat_tests}
@@ -22,7 +22,7 @@ use Rattle.kinks_and_fingers.specs.Pulls.{dart_in, late, early, early_dart, smoo
 use Rattle.kinks_and_fingers.specs.Dropping.{HasKinkAt}
 use Rattle.kinks_and_fingers.proofs.DroppedDarts.{is_code_head, is_colour, class_name, IsDropped}
 use Rattle.kinks_and_fingers.proofs.OldDarts.{IsClosedPlanar-accepted, arc_of_dart-partner, partner-named, heads-partner, colours-partner, on_arcs, on_arcs-at, arc_of_dart-below, arc_of_dart-in, across_cases, heads-across, colours-next, dart_in-next}
-use Rattle.kinks_and_fingers.proofs.KeptCodes.{block_place, places-but, straight-joined, straight-finest}
+use Rattle.kinks_and_fingers.proofs.KeptCodes.{places-but, straight-joined, straight-finest}
 use Rattle.kinks_and_fingers.proofs.Smoothed.{IsClosedPlanar-smoothed, smoothed-named, dart_in-below, dart_in-place, dart_cases, IsPermutation-late, IsPermutation-dartwise, dart_in-apart}
 use Rattle.kinks_and_fingers.proofs.SmoothedValues.{smoothed-flipped, IsTakenBack, IsTakenBack-smoothed}
 

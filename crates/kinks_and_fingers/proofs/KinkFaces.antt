@@ -4,9 +4,9 @@
 -- inner darts of the crossing are partners; all other darts keep their partners, as their arcs have only got other numbers. These
 -- facts fix a partner function at each dart, so it is that of the law; and faces, pieces and open darts depend on partners alone.
 -- Acceptance follows: the code is directed, a planar code has checkerboard colours, and the components are as many as before.
-use Rattle.std.proofs.Common.{◌≡◌, ◌≢◌, ℕ, ◌⊎◌, inl, inr, ◌+◌, ◌*◌, ◌/◌, ◌<◌, ◌∙◌, List, length, refl, sym, ap, subst, arith, Bool, true, false}
+use Rattle.std.proofs.Common.{◌≡◌, ◌≢◌, ℕ, inl, inr, ◌+◌, ◌*◌, ◌/◌, ◌<◌, ◌∙◌, List, length, refl, sym, ap, subst, arith, Bool, true, false}
 use Rattle.std.specs.Prelude.{IsTrue, nat_eq}
-use Rattle.std.proofs.lemmas.Bool.{cases_Bool, cases_lt}
+use Rattle.std.proofs.lemmas.Bool.{cases_Bool}
 use Rattle.std.proofs.lemmas.Bool.Decides.{nat_tests}
 use Rattle.kh_types.specs.declared.dart.Dart.{Dart}
 use Rattle.kh_types.specs.Code.{Code, IsArc}

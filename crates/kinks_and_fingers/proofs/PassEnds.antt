@@ -1,6 +1,6 @@
 -- Where the passes of a crossing begin and end.
 use Rattle.std.proofs.lemmas.Bool.Decides.{nat_tests}
-use Rattle.std.proofs.Common.{◌≡◌, ℕ, zero, suc, ◌<◌, List, sym, subst, arith, Bool, true, false}
+use Rattle.std.proofs.Common.{◌≡◌, ℕ, ◌<◌, List, arith, Bool}
 use Rattle.std.specs.Prelude.{if◌then◌else◌}
 use Rattle.kh_types.specs.Code.{arc_in}
 use Rattle.kinks_and_fingers.specs.FingerAdd.{crossing_with}

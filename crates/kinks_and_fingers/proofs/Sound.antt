@@ -6,11 +6,11 @@ use Rattle.std.proofs.lemmas.Bool.{and_parts, both_ways, cases_Bool}
 use Rattle.std.specs.List.{list_any, range_with_len}
 use Rattle.kh_types.specs.Acceptance.{accepted}
 use Rattle.kh_types.specs.Bits.{bit}
-use Rattle.kh_types.specs.Code.{Code, arc_in}
+use Rattle.kh_types.specs.Code.{Code}
 use Rattle.kh_types.specs.Darts.{partner_at}
 use Rattle.kh_types.proofs.DartColours.{IsColoured-accepted}
 use Rattle.code_passes.specs.Parts.{slots_in}
-use Rattle.kinks_and_fingers.specs.Drops.{after, is_kink, is_kink_at, is_bigon, is_bigon_at, is_of_two, without_kink, without_finger}
+use Rattle.kinks_and_fingers.specs.Drops.{after, is_kink, is_bigon, is_bigon_at, is_of_two, without_kink, without_finger}
 use Rattle.kinks_and_fingers.specs.Pulls.{early, late, smoothed}
 use Rattle.kinks_and_fingers.specs.Dropping.{HasKinkAt, HasBigonAt, IsPlanarRest}
 use Rattle.kinks_and_fingers.proofs.TwoEnds.{ArePaired-ends}

@@ -11,7 +11,7 @@ ghost use Rattle.reduced_cube.specs.Reduced.{reduced_table};
 
 use crate::degrees::reduced_degrees;
 use crate::marks::marked_circles;
-use column_reduction::reduce;
+use cancel_step::reduce;
 use cube_signs::Cube;
 use jones_sum::{Row, Table, push_rows};
 use kh_types::laws::diagrams::diagram_laws;

@@ -10,7 +10,7 @@ ghost use Rattle.shared_block.specs.AllBlocks.{IsFinished};
 ghost use Rattle.shared_block.specs.BlockHistories.{block_with};
 
 use crate::SharedBlock;
-use column_reduction::{Reduced, reduce};
+use cancel_step::{Reduced, reduce};
 use cube_signs::Cube;
 use kh_types::laws::diagrams::diagram_laws;
 use kh_types::{Diagram, NoMemory};

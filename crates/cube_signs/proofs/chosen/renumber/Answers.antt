@@ -1,6 +1,5 @@
 use Rattle.std.proofs.lemmas.Bool.Decides.{nat_tests}
 use Rattle.std.proofs.Common.{arith}
-use Rattle.cube_signs.specs.ChosenParts.{moved_entry}
 use Rattle.cube_signs.proofs.ChosenLoops.{mapped-more, mapped-whole}
 use Rattle.cube_signs.proofs.chosen.renumber.Goals as goal
 

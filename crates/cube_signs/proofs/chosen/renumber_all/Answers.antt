@@ -1,11 +1,7 @@
 use Rattle.std.proofs.lemmas.Bool.Decides.{nat_tests}
 use Rattle.std.proofs.Common.{arith}
-use Rattle.std.proofs.Common.{◌≡◌, ◌∙◌, ap, get_or, length, map, sym}
 use Rattle.std.proofs.lemmas.List.{length-map}
-use Rattle.smallvec.specs.SmallVec.{SmallVec, with_items}
 use Rattle.smallvec.proofs.SmallVecLemmas.{items-with_items}
-use Rattle.sparse_block.specs.declared.entry.Entry.{Entry}
-use Rattle.cube_signs.specs.ChosenParts.{moved_entry}
 use Rattle.cube_signs.proofs.ChosenLoops.{lines-more}
 use Rattle.cube_signs.proofs.chosen.renumber_all.Goals as goal
 

@@ -1,7 +1,6 @@
 use Rattle.std.proofs.lemmas.Bool.Decides.{nat_tests}
-use Rattle.std.proofs.Common.{◌≤◌, ◌^◌, arith, length, refl}
+use Rattle.std.proofs.Common.{arith, refl}
 use Rattle.std.proofs.Math.Pow.{pow_mono}
-use Rattle.kh_types.specs.declared.limits.TheConstants.{CROSSINGS}
 use Rattle.cube_signs.proofs.LevelLemmas.{level-all, level-more}
 use Rattle.cube_signs.proofs.TableLemmas.{length-shapes}
 use Rattle.cube_signs.proofs.levels.level.Goals as goal

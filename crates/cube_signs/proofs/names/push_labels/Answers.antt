@@ -1,7 +1,5 @@
 use Rattle.std.proofs.lemmas.Bool.Decides.{nat_tests}
 use Rattle.std.proofs.Common.{arith}
-use Rattle.std.proofs.Common.{ap}
-use Rattle.std.specs.Prelude.{nat_eq}
 use Rattle.cube_signs.proofs.NameLemmas.{names-more}
 use Rattle.cube_signs.proofs.names.push_labels.Goals as goal
 

@@ -1,7 +1,5 @@
 use Rattle.std.proofs.lemmas.Bool.Decides.{nat_tests}
 use Rattle.std.proofs.Common.{arith}
-use Rattle.std.proofs.Common.{◌∙◌, ap}
-use Rattle.kh_types.specs.Bits.{bit}
 use Rattle.cube_signs.proofs.SignLemmas.{sign-same, sign-turned}
 use Rattle.cube_signs.proofs.outs.next_sign.Goals as goal
 

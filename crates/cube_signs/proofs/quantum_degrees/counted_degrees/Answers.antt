@@ -1,10 +1,6 @@
 use Rattle.std.proofs.lemmas.Bool.Decides.{nat_tests}
 use Rattle.std.proofs.Common.{arith}
-use Rattle.std.proofs.Common.{◌≡◌, ◌∙◌, ℤ}
-use Rattle.std.specs.Global.{Vec}
 use Rattle.std.proofs.lemmas.Result.{IfOk-weaker}
-use Rattle.cube_signs.specs.Blocks.{block_degrees}
-use Rattle.cube_signs.specs.Shapes.{degrees_of}
 use Rattle.cube_signs.proofs.KindDegrees.{degrees-kinds}
 use Rattle.cube_signs.proofs.quantum_degrees.counted_degrees.Goals as goal
 

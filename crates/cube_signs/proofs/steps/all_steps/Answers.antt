@@ -1,6 +1,5 @@
 use Rattle.std.proofs.lemmas.Bool.Decides.{nat_tests}
-use Rattle.std.proofs.Common.{◌≡◌, ℕ, ◌^◌, length, arith, ap, subst}
-use Rattle.cube_signs.specs.Steps.{HaveSteps, steps_in}
+use Rattle.std.proofs.Common.{arith}
 use Rattle.cube_signs.proofs.StateLists.{length-resolutions}
 use Rattle.cube_signs.proofs.steps.all_steps.Goals as goal
 

@@ -1,10 +1,8 @@
 use Rattle.std.proofs.lemmas.Bool.Decides.{nat_tests}
-use Rattle.std.proofs.Common.{◌≡◌, ◌≢◌, ℕ, ◌+◌, ◌^◌, ◌∙◌, ◌<◌, length, get_or, List, arith, ap, sym, subst}
+use Rattle.std.proofs.Common.{◌≡◌, ◌≢◌, ℕ, ◌+◌, ◌^◌, ◌<◌, length, get_or, List, arith, ap}
 use Rattle.kh_types.specs.Bits.{bit}
-use Rattle.kh_types.specs.Code.{Code, IsCrossing}
+use Rattle.kh_types.specs.Code.{Code}
 use Rattle.circle_smoothing.specs.CircleNumbers.{Resolution}
-use Rattle.circle_smoothing.specs.Edges.{IsEdge}
-use Rattle.kh_types.specs.Edges.{state_behind}
 use Rattle.kh_types.proofs.EdgeBits.{set-within}
 use Rattle.cube_signs.specs.Shapes.{resolution_of, resolutions}
 use Rattle.cube_signs.proofs.StateLists.{length-resolutions, resolution-at}

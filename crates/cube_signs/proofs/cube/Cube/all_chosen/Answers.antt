@@ -1,12 +1,6 @@
 use Rattle.std.proofs.lemmas.Bool.Decides.{nat_tests}
-use Rattle.std.proofs.Common.{◌∙◌, ℕ, ap, arith, length}
-use Rattle.std.specs.Global.{Vec}
-use Rattle.std.specs.List.{filter}
+use Rattle.std.proofs.Common.{arith}
 use Rattle.std.proofs.lemmas.List.{map_push}
-use Rattle.kh_types.specs.Generators.{Generator}
-use Rattle.sparse_block.specs.Inside.{lists_in}
-use Rattle.cube_signs.specs.Chosen.{has_minus}
-use Rattle.cube_signs.specs.ChosenParts.{all_places}
 use Rattle.cube_signs.proofs.ChosenBlocks.{chosen-more, places-more}
 use Rattle.cube_signs.proofs.GeneratorPlaces.{length-generators_at}
 use Rattle.cube_signs.proofs.cube.Cube.all_chosen.Goals as goal

@@ -1,10 +1,6 @@
 use Rattle.std.proofs.lemmas.Bool.Decides.{nat_tests}
 use Rattle.std.proofs.Common.{arith}
-use Rattle.std.proofs.Common.{◌∙◌, ap}
-use Rattle.std.specs.Global.{Vec}
 use Rattle.std.proofs.lemmas.List.{map_push}
-use Rattle.kh_types.specs.Generators.{Generator}
-use Rattle.sparse_block.specs.Inside.{lists_in}
 use Rattle.cube_signs.proofs.BlockLemmas.{all_names-more}
 use Rattle.cube_signs.proofs.cube.Cube.all_names.Goals as goal
 

@@ -1,7 +1,5 @@
 use Rattle.std.proofs.lemmas.Bool.Decides.{nat_tests}
-use Rattle.std.proofs.Common.{◌≡◌, ◌+◌, ◌*◌, ◌∙◌, ap, arith, length, refl, ℤ, pos, ◌+ℤ◌, not}
-use Rattle.std.specs.Prelude.{nat_eq}
-use Rattle.kh_types.specs.Generators.{generators_at}
+use Rattle.std.proofs.Common.{◌≡◌, ◌+◌, ◌*◌, arith, length}
 use Rattle.cube_signs.proofs.SpanLemmas.{flags-all, flags-more}
 use Rattle.cube_signs.proofs.cube.Cube.flags.Goals as goal
 

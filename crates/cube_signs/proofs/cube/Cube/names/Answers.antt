@@ -1,5 +1,5 @@
 use Rattle.std.proofs.lemmas.Bool.Decides.{nat_tests}
-use Rattle.std.proofs.Common.{arith, refl}
+use Rattle.std.proofs.Common.{arith}
 use Rattle.cube_signs.proofs.LevelLemmas.{names-all_states, names-more_states, states_at-below}
 use Rattle.cube_signs.proofs.cube.Cube.names.Goals as goal
 

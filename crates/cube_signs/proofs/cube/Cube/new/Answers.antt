@@ -1,8 +1,7 @@
 use Rattle.std.proofs.lemmas.Bool.Decides.{nat_tests}
-use Rattle.std.proofs.Common.{◌∙◌, ◌≤◌, ◌^◌, ap, arith, length}
+use Rattle.std.proofs.Common.{◌∙◌, ap, arith, length}
 use Rattle.std.proofs.Math.Pow.{pow_mono}
 use Rattle.std.proofs.lemmas.List.FromFn.{length-map-range_with_len}
-use Rattle.kh_types.specs.Bits.{ones}
 use Rattle.cube_signs.specs.LabelRanks.{ranks_of}
 use Rattle.cube_signs.proofs.TableLemmas.{circles-most, shapes-few}
 use Rattle.cube_signs.proofs.cube.Cube.new.Goals as goal

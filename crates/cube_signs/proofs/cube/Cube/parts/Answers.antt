@@ -2,8 +2,7 @@ use Rattle.std.proofs.lemmas.Bool.Decides.{nat_tests}
 use Rattle.std.proofs.Common.{◌≡◌, ◌∙◌, ◌<◌, ℤ, length, ap, subst, sym, arith, w16}
 use Rattle.std.proofs.lemmas.Int.{ints, to_z-of_z}
 use Rattle.kh_types.specs.History.{first_or_zero, homological_degrees}
-use Rattle.sparse_block.specs.Inside.{lines_in, lists_in}
-use Rattle.cube_signs.specs.Columns.{generators_from}
+use Rattle.sparse_block.specs.Inside.{lines_in}
 use Rattle.cube_signs.proofs.NamedBlocks.{block-built, block-some, length-names}
 use Rattle.cube_signs.proofs.cube.Cube.parts.Goals as goal
 

@@ -1,6 +1,5 @@
 use Rattle.std.proofs.lemmas.Bool.Decides.{nat_tests}
-use Rattle.std.proofs.Common.{◌≡◌, ◌∙◌, ◌^◌, ◌<◌, ◌≤◌, ◌+◌, ℤ, get_or, length, map, ap, ap₂, arith, w16, to_z, of_z}
-use Rattle.std.specs.List.{range_with_len}
+use Rattle.std.proofs.Common.{◌≡◌, ◌∙◌, ◌^◌, ◌<◌, ◌≤◌, ◌+◌, ℤ, get_or, length, ap₂, arith, w16, to_z, of_z}
 use Rattle.circle_smoothing.specs.declared.limits.TheConstants.{GENERATORS}
 use Rattle.cube_signs.specs.Tables.{own_base, own_degree, state_generators}
 use Rattle.cube_signs.proofs.PlaceLemmas.{HaveSizes-more, base-kept, own_base-room, own_base-small, own_bases-small}

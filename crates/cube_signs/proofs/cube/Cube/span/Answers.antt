@@ -1,8 +1,6 @@
 use Rattle.std.proofs.lemmas.Bool.Decides.{nat_tests}
-use Rattle.std.specs.Prelude.{reverse}
-use Rattle.std.specs.List.{position_or_len}
 use Rattle.std.proofs.lemmas.List.{length-reverse}
-use Rattle.std.proofs.Common.{◌≡◌, ◌-◌, ◌∙◌, ap, sym, arith, length, ℤ, pos, ◌+ℤ◌}
+use Rattle.std.proofs.Common.{arith}
 use Rattle.std.proofs.lemmas.Int.{ints}
 use Rattle.cube_signs.proofs.SpanLemmas.{length-flags, span-count, span-low}
 use Rattle.cube_signs.proofs.cube.Cube.span.Goals as goal

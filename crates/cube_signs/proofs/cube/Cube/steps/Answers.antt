@@ -1,7 +1,5 @@
 use Rattle.std.proofs.lemmas.Bool.Decides.{nat_tests}
 use Rattle.std.proofs.Common.{arith}
-use Rattle.std.proofs.Common.{◌^◌, length}
-use Rattle.cube_signs.specs.Steps.{steps_in, HaveSteps}
 use Rattle.cube_signs.proofs.StepLemmas.{AreSmall-steps, row-steps}
 use Rattle.cube_signs.proofs.cube.Cube.steps.Goals as goal
 

@@ -1,0 +1,12 @@
+use Rattle.std.proofs.Common.{◌≡◌, ◌++◌, take}
+use Rattle.sparse_block.specs.Inside.{lists_in}
+use Rattle.cancel_step.specs.StoredColumns.{stored_pivots, with_pairs}
+use Rattle.cancel_step.proofs.reducing.note_pivots.Given as goal
+
+-- the pivots of the columns so far are noted, and their places are dead
+abbrev pub invariant-columns : goal.invariant-columns
+invariant-columns l =
+    record {
+      pivots : l.made.pivots.items ≡ l.fn.made.pivots.items ++ stored_pivots l.degree (take l.line-index l.stored);
+      alive : lists_in l.made.alive.items ≡ with_pairs l.k (lists_in l.fn.made.alive.items) (take l.line-index l.stored);
+    }

@@ -1,0 +1,66 @@
+use Rattle.std.proofs.Common.{◌≡◌, ◌∙◌, List, ℤ, ap, arith, sym, subst, subst₂, to_z, of_z, w16, true}
+use Rattle.std.specs.Global.{Vec}
+use Rattle.std.proofs.lemmas.Int.{ints}
+use Rattle.kh_types.specs.Complex.{Complex, is_zero}
+use Rattle.kh_types.specs.Generators.{Generator}
+use Rattle.kh_types.specs.History.{IsLegal, replay}
+use Rattle.sparse_block.specs.Complexes.{NamedComplex, sparse_complex, zero_complex}
+use Rattle.sparse_block.specs.Inside.{lines_in, lists_in}
+use Rattle.cancel_step.specs.StoredColumns.{alive_in}
+use Rattle.cancel_step.proofs.ZeroLeft.{complex-left, sizes-left}
+use Rattle.cancel_step.proofs.reducing.reduce.Goals as goal
+
+pub zero-requires-clause-sizes : goal.zero-requires-clause-sizes
+zero-requires-clause-sizes g c =
+    let p = g.F.PrimeField.P in
+    let low = c.args.complex.complex.low in
+    let parts = c.into_parts-names.result in
+    let columns = lines_in parts.columns.items in
+    let pivots = c.in_ok-alive.field-0.pivots.items in
+    let alive = lists_in c.in_ok-alive.field-0.alive.items in
+    let fits : to_z w16 (of_z w16 c.low-low.result) ≡ c.low-low.result = omega (arith, ints, c.low-low.type_inv) in
+    let same : to_z w16 (of_z w16 c.low-low.result) ≡ low = fits ∙ c.low-low.ensures in
+    sizes-left p low (lists_in parts.names.items) columns alive pivots c.element_laws.ensures.field c.into_parts-names.ensures.make
+    (subst₂ (λ (low : ℤ) (names : List (Vec Generator)). IsLegal p (sparse_complex low (lists_in names) columns).complex pivots)
+    same c.deref.ensures.value c.in_ok-alive.ensures.legal)
+    (subst₂
+    (λ (low : ℤ) (names : List (Vec Generator)). alive ≡ alive_in (replay p (sparse_complex low (lists_in names) columns).complex pivots))
+    same c.deref.ensures.value c.in_ok-alive.ensures.alive)
+
+pub returns-clause-left : goal.returns-clause-left
+returns-clause-left g c =
+    let p = g.F.PrimeField.P in
+    let low = c.args.complex.complex.low in
+    let parts = c.into_parts-names.result in
+    let columns = lines_in parts.columns.items in
+    let pivots = c.in_ok-alive.field-0.pivots.items in
+    let alive = lists_in c.in_ok-alive.field-0.alive.items in
+    let fits : to_z w16 (of_z w16 c.low-low.result) ≡ c.low-low.result = omega (arith, ints, c.low-low.type_inv) in
+    let same : to_z w16 (of_z w16 c.low-low.result) ≡ low = fits ∙ c.low-low.ensures in
+    ap (λ (made : NamedComplex). made.complex) c.in_ok-complex.ensures
+    ∙ ap (λ (low : ℤ). (zero_complex low (lists_in parts.names.items) alive).complex) same
+    ∙ complex-left p low (lists_in parts.names.items) columns alive pivots c.element_laws.ensures.field c.into_parts-names.ensures.make
+    (subst₂ (λ (low : ℤ) (names : List (Vec Generator)). IsLegal p (sparse_complex low (lists_in names) columns).complex pivots)
+    same c.deref.ensures.value c.in_ok-alive.ensures.legal)
+    (subst₂
+    (λ (low : ℤ) (names : List (Vec Generator)). alive ≡ alive_in (replay p (sparse_complex low (lists_in names) columns).complex pivots))
+    same c.deref.ensures.value c.in_ok-alive.ensures.alive)
+    (subst₂
+    (λ (low : ℤ) (names : List (Vec Generator)). is_zero (replay p (sparse_complex low (lists_in names) columns).complex pivots) ≡ true)
+    same c.deref.ensures.value c.in_ok-alive.ensures.zero)
+    ∙ ap (λ (complex : NamedComplex). replay p complex.complex pivots) c.into_parts-names.ensures.complex
+
+pub returns-clause-zero : goal.returns-clause-zero
+returns-clause-zero g c =
+    let p = g.F.PrimeField.P in
+    let low = c.args.complex.complex.low in
+    let parts = c.into_parts-names.result in
+    let columns = lines_in parts.columns.items in
+    let pivots = c.in_ok-alive.field-0.pivots.items in
+    let fits : to_z w16 (of_z w16 c.low-low.result) ≡ c.low-low.result = omega (arith, ints, c.low-low.type_inv) in
+    let same : to_z w16 (of_z w16 c.low-low.result) ≡ low = fits ∙ c.low-low.ensures in
+    subst (λ (complex : Complex). is_zero complex ≡ true)
+    (ap (λ (complex : NamedComplex). replay p complex.complex pivots) c.into_parts-names.ensures.complex ∙ sym (returns-clause-left g c))
+    (subst₂
+    (λ (low : ℤ) (names : List (Vec Generator)). is_zero (replay p (sparse_complex low (lists_in names) columns).complex pivots) ≡ true)
+    same c.deref.ensures.value c.in_ok-alive.ensures.zero)

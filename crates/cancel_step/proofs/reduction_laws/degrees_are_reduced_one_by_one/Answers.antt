@@ -1,0 +1,12 @@
+use Rattle.std.proofs.Common.{refl}
+use Rattle.cancel_step.proofs.Chains.{degree-below, reduced-longer}
+use Rattle.cancel_step.proofs.reduction_laws.degrees_are_reduced_one_by_one.Goals as goal
+
+pub returns-clause-none : goal.returns-clause-none
+returns-clause-none c = λ p complex i. refl
+
+pub returns-clause-longer : goal.returns-clause-longer
+returns-clause-longer c = reduced-longer
+
+pub returns-clause-below : goal.returns-clause-below
+returns-clause-below c = degree-below

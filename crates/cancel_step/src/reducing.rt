@@ -1,0 +1,158 @@
+//! Column reduction of a whole complex: degrees from the greatest down, the columns of each in
+//! order, and of each column the last entry.
+
+ghost use Rattle.std.specs.Prelude.{◌≡◌, ◌<◌, ◌^◌, [], ◌++◌, true, pos, ◌+ℤ◌, ◌≤ℤ◌, IfOk, OnOk};
+ghost use Rattle.std.specs.Prelude.{slice_index_or};
+ghost use Rattle.kh_types.specs.Complex.{is_zero};
+ghost use Rattle.kh_types.specs.History.{IsLegal, replay};
+ghost use Rattle.sparse_block.specs.Clearing.{with_dead};
+ghost use Rattle.sparse_block.specs.Complexes.{MakeComplex, all_alive, sparse_complex};
+ghost use Rattle.sparse_block.specs.Inside.{lines_in, lists_in};
+ghost use Rattle.cancel_step.specs.StoredColumns.{alive_in, stored_pivots, with_pairs};
+
+use crate::Pivot;
+use crate::reduced_column::Scratch;
+use crate::reduced_degree::reduce_degree;
+use crate::stored_column::StoredColumn;
+use kh_types::NoMemory;
+use prime_field::PrimeField;
+use prime_field::laws::element_laws;
+use smallvec::SmallVec;
+use sparse_block::{ColumnComplex, ColumnParts, Complex, Entry, Generator, INLINE_ENTRIES};
+use std::alloc::Global;
+
+/// A complex after column reduction: it has no entry, and it is what the pivots leave of the
+/// complex before, a legal history.
+#[derive(Drop)]
+pub struct Reduced<F: PrimeField> {
+    pub complex: Complex<F>,
+    pub pivots: Vec<Pivot>,
+}
+
+/// Reduces the columns of a complex until it is zero: degrees from the greatest down, the columns
+/// of each in order, and of each the last entry.
+pub fn reduce<F: PrimeField>(
+    alloc: Global,
+    complex: ColumnComplex<F>,
+) -> Result<Reduced<F>, NoMemory>
+    ensures legal { IfOk result (λ made. IsLegal F.P complex.complex made.pivots.items) }
+    ensures left { IfOk result (λ made.
+        made.complex.complex ≡ replay F.P complex.complex made.pivots.items) }
+    ensures zero { IfOk result (λ made. is_zero made.complex.complex ≡ true) }
+    ensures names { IfOk result (λ made. made.complex.names ≡ complex.names) }
+{
+    element_laws::<F>();
+    let low = complex.low();
+    let ColumnParts { names, columns } = complex.into_parts();
+    let Reduction { alive, pivots } = reduce_columns::<F>(alloc, low, &names, columns)?;
+    let complex = Complex::zero(alloc, low, names, alive)?;
+    Ok(Reduced { complex, pivots })
+}
+
+/// What column reduction leaves of a complex: which places of each degree are alive, and the
+/// pivots.
+#[derive(Drop)]
+struct Reduction {
+    alive: Vec<Vec<bool>>,
+    pivots: Vec<Pivot>,
+}
+
+/// Reduces the columns of a complex, which has these names and places.
+fn reduce_columns<F: PrimeField>(
+    alloc: Global,
+    low: i16,
+    names: &[Vec<Generator>],
+    columns: Vec<Vec<SmallVec<Entry, INLINE_ENTRIES>>>,
+) -> Result<Reduction, NoMemory>
+    requires { MakeComplex F.P low (lists_in names.now) (lines_in columns.items) }
+    ensures legal { IfOk result (λ made. IsLegal F.P
+        (sparse_complex low (lists_in names.now) (lines_in columns.items)).complex
+        made.pivots.items) }
+    ensures alive { IfOk result (λ made. lists_in made.alive.items ≡ alive_in (replay F.P
+        (sparse_complex low (lists_in names.now) (lines_in columns.items)).complex
+        made.pivots.items)) }
+    ensures zero { IfOk result (λ made. is_zero (replay F.P
+        (sparse_complex low (lists_in names.now) (lines_in columns.items)).complex
+        made.pivots.items) ≡ true) }
+{
+    element_laws::<F>();
+    let mut made = Reduction {
+        alive: all_alive(alloc, names)?,
+        pivots: Vec::new(alloc),
+    };
+    let mut scratch = Scratch {
+        left: Vec::new(alloc),
+        spare: Vec::new(alloc),
+    };
+    let mut rest = columns;
+    'degrees: while let Some(degree) = rest.pop() {
+        let k = rest.len();
+        let stored = reduce_degree::<F>(&mut scratch, alive_at(&made.alive, k + 1), &degree)?;
+        note_pivots(&mut made, degree_at(low, k), k, &stored)?;
+    }
+    Ok(made)
+}
+
+/// Marks every place alive.
+fn all_alive(alloc: Global, names: &[Vec<Generator>]) -> Result<Vec<Vec<bool>>, NoMemory>
+    ensures { IfOk result (λ made. lists_in made.items ≡ all_alive (lists_in names.now)) }
+{
+    let mut made = Vec::with_capacity(alloc, names.len())?;
+    'degrees: for degree in names {
+        made.push(vec![in alloc; true; degree.len()]?)?;
+    }
+    Ok(made)
+}
+
+/// The degree of number `k` from the least one on.
+fn degree_at(low: i16, k: usize) -> i16
+    requires { (low +ℤ pos k) ≤ℤ pos 32767 }
+    ensures { result ≡ low +ℤ pos k }
+{
+    (i32::from(low) + k as i32) as i16
+}
+
+/// Which places of degree number `k` are alive; none is past the last degree.
+fn alive_at(alive: &[Vec<bool>], k: usize) -> &[bool]
+    ensures { result.now ≡ slice_index_or (lists_in alive.now) k [] }
+{
+    match alive.get(k) {
+        Some(degree) => degree.as_slice(),
+        None => &[],
+    }
+}
+
+/// Notes the pivots of the reduced columns of degree number `k`, and marks their places dead.
+fn note_pivots(
+    made: &mut Reduction,
+    degree: i16,
+    k: usize,
+    stored: &[StoredColumn],
+) -> Result<(), NoMemory>
+    requires { k < 2 ^ 16 }
+    ensures pivots { OnOk result (made.new.pivots.items
+        ≡ made.old.pivots.items ++ stored_pivots degree stored.now) }
+    ensures alive { OnOk result (lists_in made.new.alive.items
+        ≡ with_pairs k (lists_in made.old.alive.items) stored.now) }
+{
+    'columns: for line in stored {
+        made.pivots.push(Pivot {
+            degree,
+            column: line.column,
+            row: line.row,
+        })?;
+        kill(&mut made.alive, k, line.column);
+        kill(&mut made.alive, k + 1, line.row);
+    }
+    Ok(())
+}
+
+/// Marks a place of degree number `k` dead, where there is one.
+fn kill(alive: &mut [Vec<bool>], k: usize, place: u32)
+    ensures { lists_in alive.new ≡ with_dead k place (lists_in alive.old) }
+{
+    if k >= alive.len() || place as usize >= alive[k].len() {
+        return;
+    }
+    alive[k][place as usize] = false;
+}

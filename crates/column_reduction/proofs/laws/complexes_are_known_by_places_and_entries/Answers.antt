@@ -1,5 +1,0 @@
-use Rattle.column_reduction.proofs.Alike.{complex-alike}
-use Rattle.column_reduction.proofs.laws.complexes_are_known_by_places_and_entries.Goals as goal
-
-pub returns : goal.returns
-returns c = complex-alike

@@ -1,5 +1,0 @@
-use Rattle.column_reduction.proofs.Steps.{reduced-none}
-use Rattle.column_reduction.proofs.laws.no_column_is_reduced_at_first.Goals as goal
-
-pub returns : goal.returns
-returns c = reduced-none
