@@ -7,7 +7,7 @@
 -- then changes nothing: either way the result comes by cancelling.
 use Rattle.std.proofs.lemmas.Bool.Decides.{nat_tests}
 use Rattle.std.proofs.Common.{arith}
-use Rattle.std.proofs.Common.{◌≡◌, ℕ, ◌∙◌, inl, List, [], ◌∷◌, ◌++◌, ℤ, pos, ◌+ℤ◌, ◌-ℤ◌, length, ap, sym, subst, refl, Bool, true, false, Result, Ok, Err}
+use Rattle.std.proofs.Common.{◌≡◌, ℕ, ◌∙◌, inl, List, [], ◌∷◌, ℤ, length, ap, sym, refl, Bool, Result}
 use Rattle.std.specs.Prelude.{nat_eq, if◌then◌else◌, OnErr, OnOk}
 use Rattle.kh_types.specs.Complex.{Complex, Degree, IsComplex, IsPivot, Pivot, cancel, degree_of, entry_in, entry_of}
 use Rattle.kh_types.specs.History.{IsLegal, replay}

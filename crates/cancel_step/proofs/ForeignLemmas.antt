@@ -5,13 +5,13 @@
 -- of the complex's row shows no difference, and any copied row shows it where the values of both lists differ. Columns and rows
 -- together give the least column that shows a difference.
 use Rattle.std.proofs.lemmas.Bool.Decides.{nat_tests}
-use Rattle.std.proofs.Common.{◌≡◌, ◌≢◌, ℕ, ◌+◌, ◌<◌, ◌∙◌, ◌⊎◌, inl, inr, List, [], ◌∷◌, ◌++◌, length, get_or, take, ap, ap₂, sym, subst, refl, arith, ◌-◌, Bool, ◌&&◌, None, Some, Option}
-use Rattle.std.specs.Prelude.{nat_eq, slice_index, ℤ}
+use Rattle.std.proofs.Common.{◌≡◌, ◌≢◌, ℕ, ◌+◌, ◌<◌, ◌∙◌, ◌⊎◌, inl, inr, List, [], ◌∷◌, ◌++◌, length, get_or, take, ap, sym, subst, refl, arith, Bool, ◌&&◌, None, Option}
+use Rattle.std.specs.Prelude.{nat_eq, ℤ}
 use Rattle.std.specs.Bool.{Decides}
 use Rattle.std.specs.Cmp.Lexicographic.{pointwise}
 use Rattle.std.specs.List.{Any}
 use Rattle.std.proofs.lemmas.Bool.{cases_Bool}
-use Rattle.std.proofs.lemmas.Bool.Decides.{Decides-and, Decides-eqb, Decides-like, eqb_tells, leb_tells, not_from_Decides}
+use Rattle.std.proofs.lemmas.Bool.Decides.{eqb_tells, leb_tells, not_from_Decides}
 use Rattle.std.proofs.lemmas.List.{get_or_append_left, get_or-append_right, get_or_default, length-append, take_more}
 use Rattle.std.proofs.lemmas.List.Quantifiers.{Any-push}
 use Rattle.std.proofs.lemmas.Slice.Eq.{slice_eq-Decides}
@@ -21,7 +21,6 @@ use Rattle.sparse_block.specs.Changes.{PlacedLine}
 use Rattle.sparse_block.specs.Complexes.{row_of}
 use Rattle.sparse_block.specs.Entries.{entries_of, value_at}
 use Rattle.sparse_block.proofs.EntryLemmas.{value_at-entries_of}
-use Rattle.cancel_step.proofs.RestLemmas.{min-either, min-left, min-right}
 use Rattle.cancel_step.specs.Foreign.{FindsLeast, IsOtherColumn, IsOtherRowAt, ShowsBetween, ShowsIn, lesser_of}
 
 -- entries are compared by both parts, and lists of them one by one

@@ -1,6 +1,6 @@
 -- Which legal histories end at zero: those with as many pivots as all ranks together. There is one, and so ranks fit into places.
 use Rattle.std.proofs.lemmas.Bool.Decides.{nat_tests}
-use Rattle.std.proofs.Common.{◌≡◌, ℕ, zero, suc, ◌+◌, ◌*◌, ◌≤◌, ◌∙◌, inl, inr, List, [], ◌∷◌, ℤ, pos, ◌-ℤ◌, length, sym, refl, arith, true}
+use Rattle.std.proofs.Common.{◌≡◌, ℕ, zero, suc, ◌+◌, ◌*◌, ◌≤◌, inl, inr, List, [], ◌∷◌, ℤ, pos, ◌-ℤ◌, length, refl, arith, true}
 use Rattle.kh_types.specs.Complex.{Complex, Pivot, IsComplex, alive_count, dimension_of, is_zero, cancel}
 use Rattle.kh_types.specs.History.{IsLegal, replay}
 use Rattle.prime_field.specs.Residues.{IsField}

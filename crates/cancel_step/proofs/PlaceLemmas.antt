@@ -4,7 +4,7 @@ use Rattle.std.proofs.Common.{◌≡◌, ℕ, zero, suc, ◌+◌, ◌<◌, ◌�
 use Rattle.std.specs.Prelude.{◌≢◌, nat_eq, slice_index_or, if◌then◌else◌}
 use Rattle.std.proofs.lemmas.Bool.{cond-true, cond-false, eq-eqb, ne_eqb, true_from_ne_false}
 use Rattle.std.proofs.lemmas.List.Sums.{sum_by-cons}
-use Rattle.kh_types.specs.Complex.{Complex, Pivot, IsComplex, IsPivot, degree_of, alive_count, without_place, cancel}
+use Rattle.kh_types.specs.Complex.{Complex, Pivot, IsComplex, IsPivot, alive_count, without_place, cancel}
 use Rattle.sparse_block.proofs.ComplexMatrices.{entry-stands}
 use Rattle.sparse_block.proofs.CancelledDegrees.{Where, where_is, degree-at_pivot, degree-after_pivot, degree-before_pivot, degree-elsewhere}
 use Rattle.kh_types.proofs.CancelLemmas.{places_from}

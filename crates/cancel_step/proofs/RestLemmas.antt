@@ -4,9 +4,8 @@
 -- goes on by one and an entry at it is read. So the value in front is that of the whole list at the bound, and in between all
 -- values are 0. While one of the lists has an entry left, a step leaves fewer entries in both together, also by the indices of
 -- both lists: so the loops end.
-use Rattle.std.proofs.Common.{◌≡◌, ℕ, ◌+◌, ◌<◌, ◌≤◌, ◌∙◌, ◌⊎◌, inl, inr, List, [], ◌∷◌, length, drop, min, refl, ap, sym, subst, arith, Bool, ◌-◌}
-use Rattle.std.specs.Prelude.{if◌then◌else◌}
-use Rattle.std.proofs.lemmas.Bool.Decides.{eqb_tells, leb_tells, nat_tests}
+use Rattle.std.proofs.Common.{◌≡◌, ℕ, ◌+◌, ◌<◌, ◌≤◌, ◌∙◌, ◌⊎◌, List, ◌∷◌, length, drop, min, refl, ap, sym, subst, arith, ◌-◌}
+use Rattle.std.proofs.lemmas.Bool.Decides.{eqb_tells, nat_tests}
 use Rattle.std.proofs.lemmas.List.{length-drop}
 use Rattle.sparse_block.specs.declared.entry.Entry.{Entry}
 use Rattle.sparse_block.specs.Entries.{AreEntries, value_at}

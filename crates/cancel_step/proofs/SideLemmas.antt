@@ -1,7 +1,7 @@
 -- A column and a row are one thing seen from two sides: what is said here of a line of a side holds of both.
 use Rattle.std.proofs.lemmas.Bool.Decides.{nat_tests}
 use Rattle.std.proofs.Common.{arith}
-use Rattle.std.proofs.Common.{◌≡◌, ℕ, ◌*◌, ◌∙◌, List, ℤ, pos, ◌+ℤ◌, ap, refl, sym}
+use Rattle.std.proofs.Common.{◌≡◌, ℕ, ◌*◌, ◌∙◌, List, ℤ, pos, ◌+ℤ◌, ap, sym}
 use Rattle.std.specs.Prelude.{slice_index}
 use Rattle.kh_types.specs.Complex.{Complex, IsComplex, IsPivot, Pivot, cancel, entry_of}
 use Rattle.kh_types.specs.Rank.{minus_mod}

@@ -1,6 +1,6 @@
 -- Lines whose entries stand behind those of others in one list.
 use Rattle.std.proofs.lemmas.Bool.Decides.{nat_tests}
-use Rattle.std.proofs.Common.{◌≡◌, ℕ, ◌+◌, ◌-◌, ◌≤◌, ◌∙◌, inl, inr, List, [], ◌∷◌, ◌++◌, length, take, drop, ap, ap₂, refl, sym, arith}
+use Rattle.std.proofs.Common.{◌≡◌, ℕ, ◌+◌, ◌≤◌, List, [], ◌∷◌, ◌++◌, length, take, drop, ap, ap₂, refl, arith}
 use Rattle.std.specs.Prelude.{min, slice_range}
 use Rattle.std.proofs.Math.Seq.{drop-append_seam, take-append_seam}
 use Rattle.std.proofs.lemmas.Bool.Decides.{leb_tells}
@@ -11,7 +11,7 @@ use Rattle.sparse_block.specs.declared.entry.Entry.{Entry}
 use Rattle.sparse_block.specs.Changes.{PlacedLine, placed}
 use Rattle.cancel_step.specs.Copies.{copied_parts, split_parts}
 use Rattle.cancel_step.specs.declared.copied_lines.Span.{Span}
-use Rattle.cancel_step.specs.Spans.{AreSpans, line_in, spanned_lines}
+use Rattle.cancel_step.specs.Spans.{AreSpans, spanned_lines}
 
 range-before : (xs ys : List Entry) (a b : ℕ) → a ≤ b → b ≤ length xs → slice_range (xs ++ ys) a b ≡ slice_range xs a b
 range-before xs ys a b order within = grind (arith, nat_tests, drop-append-le, take-append-le, length-drop)

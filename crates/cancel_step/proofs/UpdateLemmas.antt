@@ -2,7 +2,7 @@
 use Rattle.std.proofs.lemmas.Bool.Decides.{nat_tests}
 use Rattle.std.proofs.Common.{◌≡◌, ◌≢◌, ℕ, ◌+◌, ◌-◌, ◌*◌, ◌%◌, ◌<◌, ◌∙◌, inl, inr, List, length, refl, ap, sym, subst, arith, Bool, false, ◌||◌}
 use Rattle.std.specs.Prelude.{nat_eq, slice_index, if◌then◌else◌}
-use Rattle.std.proofs.Math.Nat.{mod-eq_of_lt, mod-mod, mod_self}
+use Rattle.std.proofs.Math.Nat.{mod-mod}
 use Rattle.std.proofs.lemmas.Bool.Decides.{eqb_tells, leb_tells}
 use Rattle.std.proofs.lemmas.List.{get_or_past}
 use Rattle.std.proofs.lemmas.List.FromFn.{length-map-range_with_len, get_or-map-range_with_len}

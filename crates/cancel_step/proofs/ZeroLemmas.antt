@@ -1,5 +1,5 @@
 -- A complex is zero, and then all its ranks are 0, or it has a pivot.
-use Rattle.std.proofs.Common.{◌≡◌, ℕ, zero, suc, ◌∙◌, ◌⊎◌, inl, inr, List, [], ◌∷◌, ℤ, pos, negsuc, ◌+ℤ◌, ◌-ℤ◌, length, ap, sym, subst, refl, arith, Bool, true, false}
+use Rattle.std.proofs.Common.{◌≡◌, ℕ, zero, suc, ◌∙◌, ◌⊎◌, inl, inr, List, [], ◌∷◌, ℤ, pos, ◌+ℤ◌, sym, subst, refl, arith, Bool, true, false}
 use Rattle.std.specs.Prelude.{◌≢◌, nat_eq, slice_index, slice_index_or}
 use Rattle.std.specs.List.{list_all}
 use Rattle.std.proofs.lemmas.Bool.{and_from, and_parts}
@@ -7,7 +7,7 @@ use Rattle.std.proofs.lemmas.Bool.Decides.{nat_tests, leb_tells}
 use Rattle.std.proofs.lemmas.List.{get_or_past}
 use Rattle.std.proofs.lemmas.List.Sums.{AllPass-from_list_all}
 use Rattle.kh_types.specs.Rank.{has_entry, rank}
-use Rattle.kh_types.specs.Complex.{Complex, Degree, Pivot, IsPivot, empty_degree, degree_from, degree_of, entry_in, alive_count, dimension_of, is_zero}
+use Rattle.kh_types.specs.Complex.{Complex, Degree, Pivot, IsPivot, empty_degree, degree_from, entry_in, alive_count, dimension_of, is_zero}
 use Rattle.kh_types.proofs.RankLemmas.{rank-none}
 use Rattle.kh_types.proofs.ComplexLemmas.{degree_of-number}
 use Rattle.cancel_step.specs.RankSums.{rank_out}

@@ -1,10 +1,6 @@
 use Rattle.std.proofs.lemmas.Bool.Decides.{nat_tests}
 use Rattle.std.proofs.Common.{arith}
-use Rattle.std.proofs.Common.{◌∙◌, ◌++◌, List, ap, map}
 use Rattle.std.proofs.lemmas.List.{take_all}
-use Rattle.sparse_block.specs.declared.entry.Entry.{Entry}
-use Rattle.cancel_step.specs.Copies.{line_across}
-use Rattle.cancel_step.specs.Sides.{line_on}
 use Rattle.cancel_step.proofs.copying.copy_lines.Goals as goal
 
 pub returns : goal.returns

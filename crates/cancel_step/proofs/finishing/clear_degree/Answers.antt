@@ -1,5 +1,5 @@
 use Rattle.std.proofs.lemmas.Bool.Decides.{nat_tests}
-use Rattle.std.proofs.Common.{◌≡◌, ◌∙◌, ℕ, ℤ, [], inl, inr, ap, subst, arith, to_z, of_z, w16}
+use Rattle.std.proofs.Common.{◌≡◌, ℤ, [], inl, inr, subst, arith, to_z, of_z, w16}
 use Rattle.std.proofs.lemmas.Int.{ints}
 use Rattle.std.proofs.lemmas.Bool.Decides.{leb_tells}
 use Rattle.sparse_block.specs.Complexes.{column_of, place_count}

@@ -1,9 +1,5 @@
 use Rattle.std.proofs.lemmas.Bool.Decides.{nat_tests}
-use Rattle.std.proofs.Common.{◌≡◌, ℕ, ℤ, pos, ◌-ℤ◌, ◌∙◌, inl, inr, refl, ap, arith, to_z, of_z, w16}
-use Rattle.std.proofs.lemmas.Int.{ints}
-use Rattle.std.proofs.lemmas.Bool.Decides.{leb_tells}
-use Rattle.sparse_block.specs.Complexes.{column_of, high_of}
-use Rattle.sparse_block.specs.Entries.{entries_of}
+use Rattle.std.proofs.Common.{arith}
 use Rattle.cancel_step.proofs.ReadingLemmas.{zero-from_degrees}
 use Rattle.cancel_step.proofs.search.search_from.Goals as goal
 

@@ -1,11 +1,9 @@
 use Rattle.std.proofs.lemmas.Bool.Decides.{nat_tests}
-use Rattle.std.proofs.Common.{◌∙◌, ◌<◌, List, length, map, ap, ap₂, sym, subst, arith}
+use Rattle.std.proofs.Common.{◌∙◌, ◌<◌, length, ap₂, sym, subst, arith}
 use Rattle.std.proofs.lemmas.List.{take_all}
 use Rattle.prime_field.specs.Residues.{inverse_mod, product_mod}
-use Rattle.sparse_block.specs.declared.entry.Entry.{Entry}
 use Rattle.sparse_block.specs.Changes.{PlacedLine, placed}
 use Rattle.sparse_block.specs.Entries.{AreEntries}
-use Rattle.cancel_step.specs.Lines.{line_cleared}
 use Rattle.cancel_step.proofs.AcrossLemmas.{cleared_more, entries_with-are, value-below}
 use Rattle.cancel_step.proofs.updating.lines_cleared.Goals as goal
 

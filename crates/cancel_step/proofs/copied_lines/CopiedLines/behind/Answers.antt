@@ -1,5 +1,5 @@
 use Rattle.std.proofs.lemmas.Bool.Decides.{nat_tests}
-use Rattle.std.proofs.Common.{◌∙◌, ap, arith, drop}
+use Rattle.std.proofs.Common.{arith}
 use Rattle.cancel_step.proofs.SpanLemmas.{spans-behind}
 use Rattle.cancel_step.proofs.copied_lines.CopiedLines.behind.Goals as goal
 

@@ -1,5 +1,5 @@
 use Rattle.std.proofs.lemmas.Bool.Decides.{nat_tests}
-use Rattle.std.proofs.Common.{◌∙◌, ap, arith, take}
+use Rattle.std.proofs.Common.{arith}
 use Rattle.cancel_step.proofs.SpanLemmas.{first-spans}
 use Rattle.cancel_step.proofs.copied_lines.CopiedLines.first.Goals as goal
 
