@@ -3,12 +3,13 @@
 
     tests/logs.py PROGRAM [--edits N]
 
-Thirty diagrams over each field are certified by one worker and by four, who write the same; `verify` and the plain reading accept each log,
-and its table is that of `homology`. Twenty good logs, of which `certify` writes some and the plain reading the others, are edited N times
-(5,000): a digit is another; a line is lost, doubled, exchanged with another, or moved to the next block; the field, the diagram or a row of
-the table is another; the end is cut off. Each result is accepted or refused as the plain reading says, with the line and the cause, by the
-program and by `show/verify.py`. Texts of 64 MiB that are no logs are refused within a second. `tests/program` runs all of this behind its
-rows, with fewer edits; the rows of logs are `tests/rows/log.py`. The last line is 'N passed, M failed'.
+Thirty diagrams over each field are certified by one worker and by four, who write the same; `verify` and the plain reading accept each
+log, its table is that of `homology`, and its pivots are those that a search finds. Twenty good logs, of which `certify` writes some and
+the plain reading the others, are edited N times (5,000): a digit is another; a line is lost, doubled, exchanged with another, or moved to
+the next block; the field, the diagram or a row of the table is another; the end is cut off. Each result is accepted or refused as the
+plain reading says, with the line and the cause, by the program and by `show/verify.py`. Texts of 64 MiB that are no logs are refused
+within a second. `tests/program` runs all of this behind its rows, with fewer edits; the rows of logs are `tests/rows/log.py`. The last
+line is 'N passed, M failed'.
 """
 import argparse
 import importlib.machinery
@@ -72,6 +73,8 @@ def certificate_faults(child, text, field):
     if size_of(text) <= BY_THE_DEFINITION:
         came, wanted = plain.logs.verdict(log.encode()), (0, "verified\n" + plain.cube.table(known_diagrams.diagram_of(text), field))
         yield f"{name}, by the plain reading", None if came == wanted else f"{came} of {log[:500]!r}"
+        found = plain.logs.log_of(known_diagrams.diagram_of(text), field, plain.logs.searched)
+        yield f"{name}, the pivots of a search", None if log == found else f"another log of {text}"
 
 
 def certificates(child, field):

@@ -173,14 +173,32 @@ def verdict(text):
         return LIMIT, f"limit generators {it} of {GENERATORS}\n"
 
 
-def written(diagram, field, choose=min):
-    """A log of a diagram over a field; `choose` picks each pivot from all entries of a block."""
+def chosen(block, choose):
+    """Pivots of a block until it is zero; `choose` picks each from all entries."""
+    while not block.is_zero():
+        yield choose((i, a, b) for i in block.columns for a, column in block.columns[i].items() for b in column)
+
+
+def searched(block):
+    """The pivots of a block that a search finds: degrees from the greatest down, the columns of each in order, of each the last entry."""
+    for i in sorted(block.sizes, reverse=True):
+        for a in range(block.sizes[i]):
+            if block.columns[i].get(a):
+                yield i, a, max(block.columns[i][a])
+
+
+def log_of(diagram, field, pivots):
+    """A log of a diagram over a field; `pivots` names those of a block, each of which is cancelled before the next is asked for."""
     lines = ["log 1", printed(code_of(diagram)), f"field {field}"]
     for degree in plain.cube.blocks(diagram):
         lines.append(f"block {degree}")
         block = Block(diagram, field, degree)
-        while not block.is_zero():
-            pivot = choose((i, a, b) for i in block.columns for a, column in block.columns[i].items() for b in column)
+        for pivot in pivots(block):
             lines.append("cancel {} {} {}".format(*pivot))
             block.cancel(*pivot)
     return "\n".join(lines) + "\n" + plain.cube.table(diagram, field)
+
+
+def written(diagram, field, choose=min):
+    """A log of a diagram over a field; `choose` picks each pivot from all entries of a block."""
+    return log_of(diagram, field, lambda block: chosen(block, choose))
