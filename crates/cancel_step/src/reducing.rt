@@ -21,8 +21,8 @@ use smallvec::SmallVec;
 use sparse_block::{ColumnComplex, ColumnParts, Complex, Entry, Generator, INLINE_ENTRIES};
 use std::alloc::Global;
 
-/// A complex after column reduction: it has no entry, and it is what the pivots leave of the
-/// complex before, a legal history.
+/// What `reduce` makes of a complex: the complex that is left, and the pivots that leave it, the
+/// first at place 0.
 #[derive(Drop)]
 pub struct Reduced<F: PrimeField> {
     pub complex: Complex<F>,
@@ -57,7 +57,7 @@ struct Reduction {
     pivots: Vec<Pivot>,
 }
 
-/// Reduces the columns of a complex, which has these names and places.
+/// Reduces the complex of these names and columns: which places are alive then, and the pivots.
 fn reduce_columns<F: PrimeField>(
     alloc: Global,
     low: i16,

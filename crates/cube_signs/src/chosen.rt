@@ -20,7 +20,7 @@ use crate::names::Degrees;
 use kh_types::{NoMemory, bit};
 use prime_field::PrimeField;
 use prime_field::laws::element_laws;
-use sparse_block::{ColumnComplex, Complex, Entry, Generator};
+use sparse_block::{ColumnComplex, Entry, Generator};
 use std::alloc::Global;
 
 /// The chosen generators of two degrees, and for each generator of these degrees how many before it
@@ -47,21 +47,7 @@ struct ChosenParts {
 
 impl Cube {
     /// The block at a quantum degree over the generators with v- on a circle, whose number is given
-    /// for each state. The differential leads from these to such alone.
-    pub fn chosen_block<F: PrimeField>(
-        &self,
-        alloc: Global,
-        circles: &[u8],
-        j: i16,
-    ) -> Result<Complex<F>, NoMemory>
-        requires { IsClosed (has_minus circles.now) F.P self.now }
-        ensures { IfOk result (λ made.
-            made ≡ chosen_block (has_minus circles.now) F.P self.now j) }
-    {
-        self.chosen_opening_block(alloc, circles, j)?.build(alloc)
-    }
-
-    /// The same block by its columns alone.
+    /// for each state, by its columns alone. The differential leads from these to such alone.
     pub fn chosen_opening_block<F: PrimeField>(
         &self,
         alloc: Global,

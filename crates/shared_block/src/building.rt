@@ -1,4 +1,4 @@
-//! How a block is made: it is that of the cube, with room for its history.
+//! How a block is made: that of the cube with room for its history, or cancelled at once.
 
 ghost use Rattle.std.specs.Prelude.{◌≡◌, ◌+◌, ◌*◌, ◌<◌, ◌≤◌, ◌^◌, [], pos, ◌+ℤ◌, length, IfOk};
 ghost use Rattle.std.specs.List.{Contains};

@@ -1,8 +1,8 @@
--- The complex that names and columns make, with all places alive, and that it is kept in memory as it should be. The columns in
--- memory are the entries of the columns of the matrices, since entries that ascend are those of the line that they denote. It is
--- a complex: the matrices have the sizes of their degrees, as the columns have entries at places of the next degree; the entries
--- are below p; no place is dead; and the products are 0, which is asked for. Then the steps of building: one degree more of the
--- lists of living places and of the rows, and the lines of one degree in memory, which are as many as its names.
+-- The complex that names and columns make, and that it is kept in memory as it should be. For any places alive: columns in memory
+-- are the entries of the columns of the matrices, since entries that ascend are those of the line that they denote; matrices have
+-- the sizes of their degrees, with entries below p; so it is a complex, if dead places have no entry and products are 0. With all
+-- places alive no place is dead, and products are asked for. Then the steps of building: one degree more of the lists of living
+-- places and of the rows, and the lines of one degree in memory, which are as many as its names.
 use Rattle.std.proofs.lemmas.Bool.Decides.{nat_tests}
 use Rattle.std.proofs.Common.{◌≡◌, ℕ, zero, suc, ◌+◌, ◌<◌, ◌^◌, ◌∙◌, inl, inr, List, [], ◌∷◌, ◌++◌, ℤ, pos, negsuc, ◌+ℤ◌, ◌-ℤ◌, ◌≤ℤ◌, length, map, get_or, take, replicate, ap, sym, subst, arith, refl, Bool, true, false}
 use Rattle.std.specs.Prelude.{slice_index_or, All}

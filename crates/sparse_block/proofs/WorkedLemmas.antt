@@ -1,9 +1,9 @@
 -- The worked complexes are what the tests take them for. The first is a complex over three elements and over five, and its
--- columns are entries; vectors in memory that hold its lists are those lists. Then what `build` asks: it holds for this complex,
--- for one with a single place, and for one with a middle. Then what `exchange` asks of a change: the pivot is an entry other than
--- 0, the two columns and two rows that are named have the entries after, and all others stay. Then what `drop_pair` asks of a
--- pivot: to be alone in its column, as in the first complex, or in its row, as in the one with a middle. All of it is found by
--- computing with the numbers given.
+-- columns are entries; vectors in memory that hold its lists are those lists. Then what `ColumnComplex::new` asks, but for the
+-- bound on degrees: it holds for this complex, for one with a single place, and for one with a middle. Then what `exchange` asks
+-- of a change: the pivot is an entry other than 0, the two columns and two rows that are named have the entries after, and all
+-- others stay. Then what `drop_pair` asks of a pivot: to be alone in its column, as in the first complex, or in its row, as in
+-- the one with a middle. All of it is found by computing with the numbers given.
 use Rattle.std.proofs.lemmas.Bool.Decides.{nat_tests}
 use Rattle.std.proofs.Common.{◌≡◌, ◌≢◌, ℕ, zero, suc, ◌+◌, ◌<◌, ◌^◌, ◌∙◌, ◌⊎◌, List, [], ◌∷◌, inl, inr, ℤ, pos, ◌+ℤ◌, neg_ℤ, refl, ap, sym, subst, subst₂, length, map, arith}
 use Rattle.std.specs.Prelude.{slice_index_or, All}
@@ -60,7 +60,7 @@ pub columns-made : (a b c d : List (List Entry)) (first second third fourth : Ve
     → lines_in made ≡ a ∷ b ∷ c ∷ d ∷ []
 columns-made a b c d first second third fourth made are firsts seconds thirds fourths = grind (arith, nat_tests)
 
--- and what `build` asks of it
+-- and what `ColumnComplex::new` asks of it
 
 -- each list has fewer names than can be counted
 few-names : (names : List (List Generator)) → AllByRecursion (λ degree. length degree < 2 ^ 32) names

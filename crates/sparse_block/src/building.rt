@@ -1,4 +1,4 @@
-//! How a complex comes from its columns.
+//! How a complex is made: from its columns, or without entries.
 
 ghost use Rattle.std.specs.Prelude.{◌≡◌, ℕ, ◌<◌, ◌^◌, pos, ◌+ℤ◌, ◌≤ℤ◌, length, map, IfOk, All};
 ghost use Rattle.sparse_block.specs.Complexes.{all_alive, degree_from_lists, degrees_from};
@@ -90,7 +90,7 @@ fn empty_columns(alloc: Global, alive: &[Vec<bool>]) -> Result<Vec<HeldLines>, N
     Ok(made)
 }
 
-/// For each place a row without entries, in the degree before its own.
+/// For each place past the least degree a row without entries, in the degree before its own.
 fn empty_rows(alloc: Global, alive: &[Vec<bool>]) -> Result<Vec<HeldLines>, NoMemory>
     ensures { IfOk result (λ made. made.items
         ≡ map row_entries (degrees_from (lists_in alive.now) (no_columns (lists_in alive.now)))) }
