@@ -81,11 +81,7 @@ impl Cube {
     {
         element_laws::<F>();
         let parts = self.parts(alloc, F::P, j)?;
-        Ok(ColumnComplex::new(
-            parts.least.i,
-            parts.names,
-            parts.columns,
-        ))
+        Ok(ColumnComplex::new(parts.least.i, parts.names, parts.columns))
     }
 
     /// The parts of the block at a quantum degree.

@@ -9,8 +9,8 @@ ghost use Rattle.cube_signs.specs.KindShapes.{all_kind_shapes, shapes_of_kind};
 
 use crate::shape::{Shape, Signs, top};
 use circle_smoothing::{COLUMNS, CountedDiagram, KINDS};
-use kh_types::laws::diagrams::diagram_laws;
 use kh_types::NoMemory;
+use kh_types::laws::diagrams::diagram_laws;
 use std::alloc::Global;
 
 /// The shapes that the states of a diagram have, one for each kind that has states.

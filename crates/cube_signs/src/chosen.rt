@@ -62,11 +62,7 @@ impl Cube {
         // (the number of crossings is small)
         let _ = self.crossing_count();
         let parts = self.chosen_parts(alloc, F::P, circles, j)?;
-        Ok(ColumnComplex::new(
-            self.lowest(j).i,
-            parts.names,
-            parts.columns,
-        ))
+        Ok(ColumnComplex::new(self.lowest(j).i, parts.names, parts.columns))
     }
 
     /// The parts of this block.

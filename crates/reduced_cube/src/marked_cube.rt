@@ -82,8 +82,7 @@ impl MarkedCube {
     {
         element_laws::<F>();
         diagram_laws(self.cube.diagram());
-        self.cube
-            .chosen_opening_block(alloc, &self.circles, j - 1)
+        self.cube.chosen_opening_block(alloc, &self.circles, j - 1)
     }
 
     /// Adds the rows of the block at a reduced quantum degree, which is made, cancelled to zero and
