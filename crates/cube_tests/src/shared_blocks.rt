@@ -1,7 +1,7 @@
 //! Blocks with histories: that the calls succeed where there is memory, and worked blocks.
 
 use cancel_step::Pivot;
-use cube_signs::{Cube, block_degrees, check_size};
+use cube_signs::{block_degrees, check_size};
 use kh_types::NoMemory;
 use known_links::{FIGURE_EIGHT, HOPF, TREFOIL, diagram_of};
 use prime_field::{F2, F3, F5, F7, PrimeField};
@@ -61,8 +61,7 @@ fn turns_and_finishing_lead_to_the_dimensions(rt: HostRuntime) -> Result<(), Fai
     Ok(())
 }
 
-/// Cancels each block by turns, another one in place, and one more by column reduction, which takes
-/// the same pivots as the one in place.
+/// Cancels each block by turns, and another one in place.
 fn check_blocks<F: PrimeField>(
     rt: &impl Abort,
     alloc: Global,
@@ -71,16 +70,13 @@ fn check_blocks<F: PrimeField>(
     let diagram = diagram_of(worked.crossings, 0)?;
     check_size(&diagram)?;
     let degrees = block_degrees(alloc, &diagram)?;
-    let cube = Cube::new(alloc, &diagram)?;
     assert!(rt; degrees.len() == worked.blocks.len());
     for k in 0..degrees.len() {
         let mut turned = SharedBlock::<F>::build(alloc, &diagram, degrees[k])?;
         let mut finished = SharedBlock::<F>::build(alloc, &diagram, degrees[k])?;
         let turns = take_turns(rt, alloc, &mut turned)?;
         finished.finish(alloc)?;
-        let reduced = SharedBlock::<F>::finished(alloc, &cube, degrees[k])?;
-        assert!(rt; reduced.history() == finished.history());
-        for block in [&turned, &finished, &reduced] {
+        for block in [&turned, &finished] {
             let (degree, turns, dimensions) = worked.blocks[k];
             assert!(rt; block.degree() == degree);
             assert!(rt; block.version() == turns);

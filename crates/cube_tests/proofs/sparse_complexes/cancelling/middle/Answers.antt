@@ -1,8 +1,8 @@
-use Rattle.std.proofs.Common.{◌≡◌, List, pos, neg_ℤ, subst₂}
+use Rattle.std.proofs.Common.{◌≡◌, List, pos, neg_ℤ, subst, subst₂}
 use Rattle.std.specs.Prelude.{IfOk}
 use Rattle.kh_types.specs.Generators.{Generator}
 use Rattle.sparse_block.specs.declared.entry.Entry.{Entry}
-use Rattle.sparse_block.specs.Complexes.{sparse_complex}
+use Rattle.sparse_block.specs.Complexes.{NamedComplex, sparse_complex}
 use Rattle.sparse_block.specs.Inside.{lists_in, lines_in}
 use Rattle.sparse_block.proofs.WorkedLemmas.{middle-build}
 use Rattle.cube_tests.proofs.sparse_complexes.cancelling.middle.Goals as goal
@@ -40,4 +40,5 @@ returns c =
     subst₂
     (λ (names : List (List Generator)) (columns : List (List (List Entry))).
     IfOk c.build.result (λ made. made ≡ sparse_complex (neg_ℤ (pos 1)) names columns))
-    c.in_ok-names.ensures c.in_ok-columns.ensures c.build.ensures
+    c.in_ok-names.ensures c.in_ok-columns.ensures
+    (subst (λ (complex : NamedComplex). IfOk c.build.result (λ made. made ≡ complex)) c.new.ensures c.build.ensures)
