@@ -8,8 +8,7 @@ use Rattle.std.proofs.lemmas.List.{map_more}
 use Rattle.std.proofs.lemmas.List.Elements.{All-head, All-tail}
 use Rattle.kh_types.specs.Complex.{Complex, IsComplex, IsPivot, Pivot, cancel, entry_of}
 use Rattle.prime_field.specs.Residues.{IsField, inverse_mod, product_mod}
-use Rattle.sparse_block.specs.declared.entry.Entry.{Entry}
-use Rattle.sparse_block.specs.Entries.{AreEntries, entries_of, value_at}
+use Rattle.sparse_block.specs.Entries.{Entry, AreEntries, entries_of, value_at}
 use Rattle.sparse_block.specs.Changes.{PlacedLine}
 use Rattle.sparse_block.proofs.AscendingLemmas.{entries-ascend, entries-from_ascend}
 use Rattle.sparse_block.proofs.EntryLemmas.{value_at-below}

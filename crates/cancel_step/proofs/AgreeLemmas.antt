@@ -1,8 +1,7 @@
 -- Two lists of entries that agree up to a place, and the first place at which they differ.
 use Rattle.std.proofs.Common.{◌≡◌, ◌≢◌, ℕ, ◌+◌, ◌<◌, ◌≤◌, ◌∙◌, inl, inr, List, sym, subst, subst₂, arith}
 use Rattle.std.proofs.lemmas.Bool.Decides.{eqb_tells, leb_tells}
-use Rattle.sparse_block.specs.declared.entry.Entry.{Entry}
-use Rattle.sparse_block.specs.Entries.{AreEntries, value_at}
+use Rattle.sparse_block.specs.Entries.{Entry, AreEntries, value_at}
 use Rattle.cancel_step.specs.Foreign.{IsLeast}
 use Rattle.cancel_step.specs.LinePairs.{first_place_of, rest_after, value_first}
 use Rattle.cancel_step.proofs.RestLemmas.{HasMore, RestOf, bound-first, rest-after, rest-left, rest-right, rest-whole, value-between, value-first}

@@ -11,8 +11,7 @@ use Rattle.kh_types.specs.Complex.{Complex, IsComplex, IsPivot, Pivot, cancel, d
 use Rattle.kh_types.specs.Rank.{minus_mod}
 use Rattle.kh_types.proofs.CancelLemmas.{sizes-cancel}
 use Rattle.prime_field.specs.Residues.{IsField, inverse_mod, product_mod}
-use Rattle.sparse_block.specs.declared.entry.Entry.{Entry}
-use Rattle.sparse_block.specs.Entries.{AreEntries, entries_of}
+use Rattle.sparse_block.specs.Entries.{Entry, AreEntries, entries_of}
 use Rattle.sparse_block.specs.Changes.{AreChanged, PlacedLine, places_of}
 use Rattle.sparse_block.specs.Complexes.{column_of, row_of}
 use Rattle.cancel_step.specs.Copies.{line_across}

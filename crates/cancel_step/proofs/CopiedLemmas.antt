@@ -15,8 +15,7 @@ use Rattle.std.proofs.lemmas.Simd.{map-map}
 use Rattle.std.proofs.lemmas.List.{get_or-map, length-map}
 use Rattle.kh_types.specs.Complex.{Complex, IsComplex, IsPivot, Pivot, cancel}
 use Rattle.prime_field.specs.Residues.{IsField, inverse_mod, product_mod}
-use Rattle.sparse_block.specs.declared.entry.Entry.{Entry}
-use Rattle.sparse_block.specs.Entries.{AreEntries, entries_of, value_at}
+use Rattle.sparse_block.specs.Entries.{Entry, AreEntries, entries_of, value_at}
 use Rattle.sparse_block.specs.Changes.{PlacedLine}
 use Rattle.cancel_step.specs.Copies.{Copied, WasCopied, line_across}
 use Rattle.cancel_step.specs.Lines.{AreLines, entries_with, factor_at, line_cleared}

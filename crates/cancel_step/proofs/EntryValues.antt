@@ -3,8 +3,7 @@ use Rattle.std.proofs.lemmas.Bool.Decides.{nat_tests}
 use Rattle.std.proofs.Common.{◌≡◌, ◌≢◌, ℕ, zero, suc, ◌+◌, ◌<◌, ◌≤◌, ◌∙◌, inl, inr, List, [], ◌∷◌, length, get_or, refl, ap, sym, arith}
 use Rattle.std.specs.Prelude.{slice_index}
 use Rattle.std.proofs.lemmas.Bool.Decides.{eqb_tells}
-use Rattle.sparse_block.specs.declared.entry.Entry.{Entry}
-use Rattle.sparse_block.specs.Entries.{AreEntries, entries_from, entries_of, value_at}
+use Rattle.sparse_block.specs.Entries.{Entry, AreEntries, entries_from, entries_of, value_at}
 use Rattle.sparse_block.proofs.AscendingLemmas.{Ascend, entries-ascend, ascend-place}
 use Rattle.sparse_block.proofs.EntryLemmas.{value_at-here, value_at-later, value_at-entries_of}
 use Rattle.sparse_block.proofs.PastLemmas.{entries_from-zeros}

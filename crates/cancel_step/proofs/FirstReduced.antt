@@ -8,8 +8,7 @@ use Rattle.kh_types.specs.Complex.{Complex}
 use Rattle.kh_types.specs.History.{replay}
 use Rattle.kh_types.proofs.Residues.{same-equal}
 use Rattle.prime_field.specs.Residues.{IsField}
-use Rattle.sparse_block.specs.declared.entry.Entry.{Entry}
-use Rattle.sparse_block.specs.Entries.{value_at}
+use Rattle.sparse_block.specs.Entries.{Entry, value_at}
 use Rattle.cancel_step.specs.Reductions.{AreReduced, EndsAt, IsLeftOf, ReducedColumn, column_numbers, pivots_of}
 use Rattle.cancel_step.specs.StoredColumns.{AreFirstReduced, HasColumns, IsReducedLine, StoredColumn, last_place, live_entries, reduced_column, reduced_columns, stored_column, stored_pivots, stored_with}
 use Rattle.sparse_block.specs.Inside.{entries_in}

@@ -15,25 +15,21 @@ use Rattle.std.proofs.lemmas.Bool.Decides.{eqb_tells, leb_tells, not_from_Decide
 use Rattle.std.proofs.lemmas.List.{get_or_append_left, get_or-append_right, get_or_default, length-append, take_more}
 use Rattle.std.proofs.lemmas.List.Quantifiers.{Any-push}
 use Rattle.std.proofs.lemmas.Slice.Eq.{slice_eq-Decides}
-use Rattle.sparse_block.specs.declared.entry.Entry.{Entry}
 use Rattle.kh_types.specs.Complex.{Complex}
 use Rattle.sparse_block.specs.Changes.{PlacedLine}
 use Rattle.sparse_block.specs.Complexes.{row_of}
-use Rattle.sparse_block.specs.Entries.{entries_of, value_at}
+use Rattle.sparse_block.specs.Entries.{Entry, are_alike, entries_of, value_at}
 use Rattle.sparse_block.proofs.EntryLemmas.{value_at-entries_of}
 use Rattle.cancel_step.specs.Foreign.{FindsLeast, IsOtherColumn, IsOtherRowAt, ShowsBetween, ShowsIn, lesser_of}
 
 -- entries are compared by both parts, and lists of them one by one
 
-abbrev pub entry_eq : Entry → Entry → Bool
-entry_eq a b = nat_eq a.place b.place && nat_eq a.value b.value
-
-pub entry-decides : (a b : Entry) → Decides (entry_eq a b) (a ≡ b)
+pub entry-decides : (a b : Entry) → Decides (are_alike a b) (a ≡ b)
 entry-decides a b = grind (arith, nat_tests)
 
 pub same_or_other : (xs ys : List Entry) → (xs ≡ ys) ⊎ (xs ≢ ys)
 same_or_other xs ys =
-    let test = pointwise entry_eq xs ys in
+    let test = pointwise are_alike xs ys in
     let decides : Decides test (xs ≡ ys) = slice_eq-Decides entry-decides xs ys test refl in
     elim (cases_Bool test) [ inl alike ↦ inl (decides.0 alike) | inr unlike ↦ inr (not_from_Decides test decides unlike) ]
 

@@ -2,8 +2,7 @@
 use Rattle.std.proofs.Common.{◌≡◌, ◌≢◌, ℕ, zero, suc, ◌+◌, ◌<◌, ◌≤◌, ◌∙◌, inl, inr, List, [], ◌∷◌, length, get_or, refl, ap, sym, arith, Bool, true, false, cond}
 use Rattle.std.specs.Prelude.{slice_index_or, if◌then◌else◌}
 use Rattle.std.proofs.lemmas.Bool.Decides.{eqb_tells, leb_tells}
-use Rattle.sparse_block.specs.declared.entry.Entry.{Entry}
-use Rattle.sparse_block.specs.Entries.{AreEntries, value_at}
+use Rattle.sparse_block.specs.Entries.{Entry, AreEntries, value_at}
 use Rattle.sparse_block.proofs.AscendingLemmas.{Ascend, ascend-earlier, ascend-place, entries-ascend, entries-from_ascend}
 use Rattle.sparse_block.proofs.EntryLemmas.{value_at-here, value_at-later}
 use Rattle.cancel_step.specs.Reductions.{EndsAt}

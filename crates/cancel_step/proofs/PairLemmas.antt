@@ -8,8 +8,7 @@ use Rattle.std.proofs.lemmas.List.{get_or_past}
 use Rattle.std.proofs.lemmas.List.FromFn.{length-map-range_with_len, get_or-map-range_with_len}
 use Rattle.kh_types.specs.Rank.{minus_mod}
 use Rattle.kh_types.proofs.Ranges.{map_from_zero}
-use Rattle.sparse_block.specs.declared.entry.Entry.{Entry}
-use Rattle.sparse_block.specs.Entries.{AreEntries, entries_from, entries_of, value_at}
+use Rattle.sparse_block.specs.Entries.{Entry, AreEntries, entries_from, entries_of, value_at}
 use Rattle.sparse_block.proofs.AscendingLemmas.{entries-ascend}
 use Rattle.sparse_block.proofs.EntryLemmas.{entries_from-push}
 use Rattle.cancel_step.specs.Lines.{line_less}

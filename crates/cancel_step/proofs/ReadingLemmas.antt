@@ -5,8 +5,7 @@ use Rattle.std.proofs.lemmas.Bool.Decides.{leb_tells}
 use Rattle.std.proofs.lemmas.Int.{ints}
 use Rattle.kh_types.specs.Complex.{Complex, IsComplex, entry_of, is_zero}
 use Rattle.sparse_block.specs.Complexes.{column_of, high_of, place_count}
-use Rattle.sparse_block.specs.declared.entry.Entry.{Entry}
-use Rattle.sparse_block.specs.Entries.{entries_of}
+use Rattle.sparse_block.specs.Entries.{Entry, entries_of}
 use Rattle.sparse_block.proofs.ReadingLemmas.{column-entries, number-column_of}
 use Rattle.sparse_block.proofs.PastLemmas.{column-past, degree-from_place}
 use Rattle.cancel_step.proofs.EntryValues.{entry-of_line, number-none}

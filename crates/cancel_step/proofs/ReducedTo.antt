@@ -12,9 +12,8 @@ use Rattle.std.proofs.lemmas.List.{get_or_default}
 use Rattle.kh_types.specs.Complex.{Complex, Degree, IsComplex, Pivot, degree_of, entry_in, entry_of, is_zero}
 use Rattle.kh_types.specs.History.{replay}
 use Rattle.prime_field.specs.Residues.{IsField}
-use Rattle.sparse_block.specs.declared.entry.Entry.{Entry}
 use Rattle.sparse_block.specs.Complexes.{place_count}
-use Rattle.sparse_block.specs.Entries.{value_at}
+use Rattle.sparse_block.specs.Entries.{Entry, value_at}
 use Rattle.sparse_block.proofs.CancelledDegrees.{Where, where_is}
 use Rattle.sparse_block.proofs.ComplexMatrices.{entry-stands}
 use Rattle.cancel_step.proofs.HistoryLemmas.{complex-replay, legal-append, low-replay, places-replay, replay-append}

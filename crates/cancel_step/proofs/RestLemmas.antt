@@ -7,8 +7,7 @@
 use Rattle.std.proofs.Common.{◌≡◌, ℕ, ◌+◌, ◌<◌, ◌≤◌, ◌∙◌, ◌⊎◌, List, ◌∷◌, length, drop, min, refl, ap, sym, subst, arith, ◌-◌}
 use Rattle.std.proofs.lemmas.Bool.Decides.{eqb_tells, nat_tests}
 use Rattle.std.proofs.lemmas.List.{length-drop}
-use Rattle.sparse_block.specs.declared.entry.Entry.{Entry}
-use Rattle.sparse_block.specs.Entries.{AreEntries, value_at}
+use Rattle.sparse_block.specs.Entries.{Entry, AreEntries, value_at}
 use Rattle.sparse_block.proofs.AscendingLemmas.{Ascend, entries-ascend}
 use Rattle.sparse_block.proofs.EntryLemmas.{value_at-here, value_at-later, value_at-before}
 use Rattle.cancel_step.specs.LinePairs.{first_place_of, rest_after, value_first}

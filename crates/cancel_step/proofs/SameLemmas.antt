@@ -5,8 +5,7 @@ use Rattle.std.specs.Prelude.{IfSome, Option, Some, slice_index}
 use Rattle.std.proofs.lemmas.List.{length-map}
 use Rattle.kh_types.specs.Complex.{Complex, IsComplex, IsPivot, cancel}
 use Rattle.prime_field.specs.Residues.{IsField}
-use Rattle.sparse_block.specs.declared.entry.Entry.{Entry}
-use Rattle.sparse_block.specs.Entries.{entries_of, value_at}
+use Rattle.sparse_block.specs.Entries.{Entry, entries_of, value_at}
 use Rattle.sparse_block.specs.Changes.{PlacedLine}
 use Rattle.sparse_block.specs.Complexes.{column_of, row_of}
 use Rattle.sparse_block.proofs.EntryLemmas.{value_at-entries_of}

@@ -6,9 +6,8 @@ use Rattle.std.specs.Prelude.{slice_index}
 use Rattle.kh_types.specs.Complex.{Complex, IsComplex, IsPivot, Pivot, cancel, entry_of}
 use Rattle.kh_types.specs.Rank.{minus_mod}
 use Rattle.prime_field.specs.Residues.{IsField, inverse_mod, product_mod}
-use Rattle.sparse_block.specs.declared.entry.Entry.{Entry}
 use Rattle.sparse_block.specs.Complexes.{place_count}
-use Rattle.sparse_block.specs.Entries.{AreEntries, entries_of, value_at}
+use Rattle.sparse_block.specs.Entries.{Entry, AreEntries, entries_of, value_at}
 use Rattle.sparse_block.proofs.EntryLemmas.{value_at-entries_of}
 use Rattle.sparse_block.proofs.ReadingLemmas.{column-entries, number-column_of, row-entries}
 use Rattle.cancel_step.specs.Lines.{line_less}

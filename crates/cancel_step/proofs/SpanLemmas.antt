@@ -7,7 +7,7 @@ use Rattle.std.proofs.lemmas.Bool.Decides.{leb_tells}
 use Rattle.std.proofs.lemmas.List.{drop-append-le, drop-map, drop_all, length-drop, map-append, take-append-le, take-map, take_all}
 use Rattle.std.proofs.lemmas.List.Elements.{All-head, All-tail}
 use Rattle.kh_types.specs.Complex.{Pivot}
-use Rattle.sparse_block.specs.declared.entry.Entry.{Entry}
+use Rattle.sparse_block.specs.Entries.{Entry}
 use Rattle.sparse_block.specs.Changes.{PlacedLine, placed}
 use Rattle.cancel_step.specs.Copies.{copied_parts, split_parts}
 use Rattle.cancel_step.specs.declared.copied_lines.Span.{Span}

@@ -15,9 +15,8 @@ use Rattle.kh_types.specs.Complex.{Complex, Degree, IsComplex, Pivot, degree_of,
 use Rattle.kh_types.specs.Generators.{Generator}
 use Rattle.kh_types.specs.History.{replay}
 use Rattle.prime_field.specs.Residues.{IsField}
-use Rattle.sparse_block.specs.declared.entry.Entry.{Entry}
 use Rattle.sparse_block.specs.Complexes.{MakeComplex, all_alive, degrees_from, matrix_from, place_count, sparse_complex}
-use Rattle.sparse_block.specs.Entries.{AreEntries, value_at}
+use Rattle.sparse_block.specs.Entries.{Entry, AreEntries, value_at}
 use Rattle.sparse_block.specs.Inside.{entries_in, lines_in, row_entries}
 use Rattle.sparse_block.proofs.AscendingLemmas.{entries-ascend, entries-from_ascend}
 use Rattle.sparse_block.proofs.BuildLemmas.{kept-built, sizes-all_alive}
@@ -143,10 +142,10 @@ module _ (p : ℕ) (low : ℤ) (names : List (List Generator)) (lines : List (Li
       (subst (λ (pivots : List Pivot). IsReducedTo p complex k (with_pairs k places stored) pivots) (sym are_pivots) next)
 
   -- a degree has fewer columns than can be counted
-  pub sparse-count : (k : ℕ) → k < length lines → length (slice_index_or lines k []) < 2 ^ 32
+  pub sparse-count : (k : ℕ) → k < length lines → length (slice_index_or lines k []) < 2 ^ 29
   sparse-count k within =
-      let few : length (slice_index_or names k []) < 2 ^ 32 = can.counts k [] (omega (arith, within, line_count)) in
-      subst (λ (n : ℕ). n < 2 ^ 32) (sym (length-at lines names k can.sizes)) few
+      let few : length (slice_index_or names k []) < 2 ^ 29 = can.counts k [] (omega (arith, within, line_count)) in
+      subst (λ (n : ℕ). n < 2 ^ 29) (sym (length-at lines names k can.sizes)) few
 
   pub sparse-first : (k : ℕ) (places : List (List Bool)) → k ≡ length lines → places ≡ all_alive names
       → IsReducedTo p (sparse_complex low names lines).complex k places []

@@ -2,8 +2,7 @@
 use Rattle.std.proofs.Common.{◌≡◌, ℕ, zero, suc, ◌+◌, ◌*◌, ◌<◌, ◌≤◌, ◌∙◌, List, [], ◌∷◌, length, get_or, refl, ap, sym, arith}
 use Rattle.kh_types.specs.Rank.{minus_mod}
 use Rattle.prime_field.specs.Residues.{IsField}
-use Rattle.sparse_block.specs.declared.entry.Entry.{Entry}
-use Rattle.sparse_block.specs.Entries.{AreEntries, entries_of, value_at}
+use Rattle.sparse_block.specs.Entries.{Entry, AreEntries, entries_of, value_at}
 use Rattle.sparse_block.proofs.AscendingLemmas.{Ascend, ascend-place, entries-ascend}
 use Rattle.sparse_block.proofs.EntryLemmas.{value_at-entries_of, value_at-here, value_at-later}
 use Rattle.cancel_step.specs.Lines.{line_less}

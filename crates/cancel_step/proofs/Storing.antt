@@ -9,8 +9,7 @@ use Rattle.std.proofs.lemmas.List.{get_or-set_other, get_or-set_same, length-app
 use Rattle.std.proofs.lemmas.List.Elements.{All-push}
 use Rattle.kh_types.proofs.Lists.{AllByRecursion-append}
 use Rattle.prime_field.specs.Residues.{IsField}
-use Rattle.sparse_block.specs.declared.entry.Entry.{Entry}
-use Rattle.sparse_block.specs.Entries.{AreEntries, value_at}
+use Rattle.sparse_block.specs.Entries.{Entry, AreEntries, value_at}
 use Rattle.cancel_step.specs.Reductions.{AreReducedColumns, EndsAt, IsReducedColumn, is_last_row}
 use Rattle.cancel_step.specs.StoredColumns.{AreStored, IsFree, StoredColumn, last_place, no_column, reduced_column, reduced_columns, stored_column}
 use Rattle.cancel_step.proofs.Combinations.{apart-push, is_last_row-append}

@@ -10,8 +10,7 @@ use Rattle.std.proofs.lemmas.List.FromFn.{get_or-map-range_with_len, length-map-
 use Rattle.kh_types.specs.Rank.{minus_mod}
 use Rattle.prime_field.specs.Residues.{IsField, inverse_mod, product_mod}
 use Rattle.prime_field.proofs.FieldLemmas.{product_mod-quotient}
-use Rattle.sparse_block.specs.declared.entry.Entry.{Entry}
-use Rattle.sparse_block.specs.Entries.{AreEntries, entries_of, value_at}
+use Rattle.sparse_block.specs.Entries.{Entry, AreEntries, entries_of, value_at}
 use Rattle.sparse_block.proofs.EntryLemmas.{entries-entries_of, value_at-entries_of}
 use Rattle.cancel_step.specs.Lines.{factor_at, line_less}
 use Rattle.cancel_step.proofs.AcrossLemmas.{value-below}

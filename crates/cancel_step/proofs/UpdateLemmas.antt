@@ -15,8 +15,7 @@ use Rattle.kh_types.proofs.Reduced.{minus_mod-nothing}
 use Rattle.kh_types.proofs.PlainRank.{other-below}
 use Rattle.kh_types.proofs.MatrixEntries.{entry_cancelled, entry-cancelled_matrix}
 use Rattle.sparse_block.proofs.FieldInverses.{inverses-field}
-use Rattle.sparse_block.specs.declared.entry.Entry.{Entry}
-use Rattle.sparse_block.specs.Entries.{AreEntries, value_at}
+use Rattle.sparse_block.specs.Entries.{Entry, AreEntries, value_at}
 use Rattle.sparse_block.proofs.AscendingLemmas.{entries-ascend}
 use Rattle.sparse_block.proofs.ComplexMatrices.{matrix-of_degree, entry-stands}
 use Rattle.sparse_block.proofs.CancelledDegrees.{degree-at_pivot}

@@ -6,14 +6,13 @@ use Rattle.std.proofs.lemmas.Int.{ints}
 use Rattle.std.proofs.lemmas.List.Elements.{All-cons, All-from_recursion, All-nil}
 use Rattle.kh_types.specs.Generators.{Generator}
 use Rattle.kh_types.proofs.ComplexLemmas.{complex-from_test}
-use Rattle.sparse_block.specs.declared.entry.Entry.{Entry}
 use Rattle.sparse_block.specs.Complexes.{MakeComplex, HaveEntries, sparse_complex}
-use Rattle.sparse_block.specs.Entries.{AreEntries, entry_at}
+use Rattle.sparse_block.specs.Entries.{Entry, AreEntries, entry_at}
 use Rattle.sparse_block.proofs.AscendingLemmas.{entries-from_ascend}
 use Rattle.cancel_step.specs.WorkedColumns.{four_names, square_lines, three_lines, void_lines}
 
-few : (names : List (List Generator)) → AllByRecursion (λ degree. length degree < 2 ^ 32) names → All (λ degree. length degree < 2 ^ 32) names
-few names small = All-from_recursion (λ (degree : List Generator). length degree < 2 ^ 32) names small
+few : (names : List (List Generator)) → AllByRecursion (λ degree. length degree < 2 ^ 29) names → All (λ degree. length degree < 2 ^ 29) names
+few names small = All-from_recursion (λ (degree : List Generator). length degree < 2 ^ 29) names small
 
 none : (p size : ℕ) → AreEntries p size []
 none p size = entries-from_ascend p 0 size [] tt

@@ -11,7 +11,7 @@ use Rattle.kh_types.specs.Generators.{Generator}
 use Rattle.kh_types.specs.History.{IsLegal, replay}
 use Rattle.kh_types.proofs.ComplexLemmas.{degree_of-number}
 use Rattle.prime_field.specs.Residues.{IsField}
-use Rattle.sparse_block.specs.declared.entry.Entry.{Entry}
+use Rattle.sparse_block.specs.Entries.{Entry}
 use Rattle.sparse_block.specs.Complexes.{MakeComplex, all_alive, complex_from, no_columns, sparse_complex}
 use Rattle.sparse_block.proofs.BuildLemmas.{sizes-all_alive}
 use Rattle.sparse_block.proofs.DegreeLemmas.{degree_number-from, degree_of-at, length-at, length-degrees_from}

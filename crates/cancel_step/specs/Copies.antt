@@ -1,10 +1,9 @@
 -- The columns and rows that a cancellation changes, as they are copied out of a complex (this project's rule).
 use Rattle.std.specs.Prelude.{◌≡◌, ℕ, List, drop, map, take}
 use Rattle.kh_types.specs.Complex.{Complex, IsComplex, IsPivot, Pivot, cancel}
-use Rattle.sparse_block.specs.declared.entry.Entry.{Entry}
 use Rattle.sparse_block.specs.Changes.{PlacedLine}
 use Rattle.sparse_block.specs.Complexes.{column_of, row_of}
-use Rattle.sparse_block.specs.Entries.{entries_of}
+use Rattle.sparse_block.specs.Entries.{Entry, entries_of}
 
 -- the line that has the place of an entry, with its entries
 abbrev pub line_across : (ℕ → List ℕ) → Entry → PlacedLine

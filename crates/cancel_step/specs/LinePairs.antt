@@ -1,6 +1,6 @@
 -- Two lists of entries that ascend, read from the front.
 use Rattle.std.specs.Prelude.{ℕ, List, [], ◌∷◌, nat_eq, min, if◌then◌else◌}
-use Rattle.sparse_block.specs.declared.entry.Entry.{Entry}
+use Rattle.sparse_block.specs.Entries.{Entry}
 
 -- the first place that one of two lists has, 0 where both are empty
 abbrev pub first_place_of : List Entry → List Entry → ℕ

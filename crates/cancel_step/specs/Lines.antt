@@ -3,10 +3,9 @@ use Rattle.std.specs.Prelude.{ℕ, ◌*◌, List, [], map, nat_eq, All}
 use Rattle.std.specs.List.{find, range_with_len}
 use Rattle.std.specs.Option.{option_map_or}
 use Rattle.kh_types.specs.Rank.{minus_mod}
-use Rattle.sparse_block.specs.declared.entry.Entry.{Entry}
 use Rattle.prime_field.specs.Residues.{inverse_mod, product_mod}
 use Rattle.sparse_block.specs.Changes.{PlacedLine}
-use Rattle.sparse_block.specs.Entries.{AreEntries, entries_of, value_at}
+use Rattle.sparse_block.specs.Entries.{Entry, AreEntries, entries_of, value_at}
 
 -- the line of this size that some entries denote, less a multiple of that which others denote, modulo p
 abbrev pub line_less : ℕ → ℕ → List Entry → ℕ → List Entry → List ℕ

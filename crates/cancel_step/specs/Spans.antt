@@ -1,6 +1,6 @@
 -- Lines whose entries stand in one list (this project's rule).
 use Rattle.std.specs.Prelude.{◌≤◌, List, length, map, slice_range, All}
-use Rattle.sparse_block.specs.declared.entry.Entry.{Entry}
+use Rattle.sparse_block.specs.Entries.{Entry}
 use Rattle.sparse_block.specs.Changes.{PlacedLine, placed}
 use Rattle.cancel_step.specs.declared.copied_lines.Span.{Span}
 

@@ -3,10 +3,9 @@ use Rattle.std.specs.Prelude.{◌≡◌, ℕ, ◌+◌, ◌<◌, ℤ, pos, ◌+�
 use Rattle.std.specs.List.{filter, fold}
 use Rattle.kh_types.specs.Complex.{Complex, IsComplex, Pivot, entry_of}
 use Rattle.kh_types.specs.History.{IsLegal, replay}
-use Rattle.sparse_block.specs.declared.entry.Entry.{Entry}
 use Rattle.sparse_block.specs.Clearing.{with_dead}
 use Rattle.sparse_block.specs.Complexes.{place_count}
-use Rattle.sparse_block.specs.Entries.{AreEntries, value_at}
+use Rattle.sparse_block.specs.Entries.{Entry, AreEntries, value_at}
 use Rattle.cancel_step.specs.Reductions.{AreReduced, AreReducedColumns, EndsAt, HaveNoEntryAbove, IsLeftOf, ReducedColumn, is_last_row, is_place_alive, pivots_of}
 
 -- a reduced column as it is stored: its number in the matrix, the row of its last entry, and its entries

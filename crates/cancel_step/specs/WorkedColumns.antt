@@ -4,8 +4,7 @@ use Rattle.std.specs.List.{range_with_len}
 use Rattle.kh_types.specs.Complex.{Complex}
 use Rattle.kh_types.specs.Generators.{Generator, generator_of}
 use Rattle.kh_types.specs.History.{replay}
-use Rattle.sparse_block.specs.declared.entry.Entry.{Entry}
-use Rattle.sparse_block.specs.Entries.{entry_at}
+use Rattle.sparse_block.specs.Entries.{Entry, entry_at}
 use Rattle.cancel_step.specs.Reductions.{ReducedColumn, pivots_of}
 
 -- the columns 1 1 0, 2 0 1, 0 2 1 and 0 1 1

@@ -153,8 +153,8 @@ fn lines_after<F: PrimeField>(
     let value = F::of(value_at(own, place_on(other_side(side), pivot)));
     let mut lines = Vec::with_capacity(alloc, across.len())?;
     'entries: for entry in across {
-        let place = entry.place;
-        let factor = quotient(F::of(entry.value), value);
+        let place = entry.place();
+        let factor = quotient(F::of(entry.value()), value);
         let line = entries_beside(complex, side, pivot, place);
         subtract_into(scratch, line, factor, own)?;
         let entries = SmallVec::from_slice(alloc, scratch)?;

@@ -96,7 +96,7 @@ fn copy_lines<F: PrimeField>(
         ++ map (line_across (line_on side complex.now.complex pivot.degree)) across.now) }
 {
     'entries: for entry in across {
-        let place = entry.place;
+        let place = entry.place();
         lines.push(place, entries_beside(complex, side, pivot, place))?;
     }
     Ok(())
@@ -129,7 +129,7 @@ fn entries_across<F: PrimeField>(
 ) -> usize {
     let mut count = 0usize;
     'entries: for entry in across {
-        let line = entries_beside(complex, side, pivot, entry.place);
+        let line = entries_beside(complex, side, pivot, entry.place());
         count = count.saturating_add(line.len());
     }
     count

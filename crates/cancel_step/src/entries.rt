@@ -16,7 +16,7 @@ pub(crate) fn last_row(line: &[Entry]) -> Option<u32>
     if line.is_empty() {
         return None;
     }
-    Some(line[line.len() - 1].place)
+    Some(line[line.len() - 1].place())
 }
 
 /// The value of a line where it ends.
@@ -27,7 +27,7 @@ pub(crate) fn last_value(line: &[Entry]) -> u8
     if line.is_empty() {
         return 0;
     }
-    line[line.len() - 1].value
+    line[line.len() - 1].value()
 }
 
 /// Copies the entries of a line at places that are alive.
@@ -50,7 +50,7 @@ fn push_live(made: &mut Vec<Entry>, entry: Entry, alive: &[bool]) -> Result<(), 
     ensures { OnOk result
         (made.new.items ≡ made.old.items ++ live_entries alive.now (entry ∷ [])) }
 {
-    if is_live(alive, entry.place) {
+    if is_live(alive, entry.place()) {
         made.push(entry)?;
     }
     Ok(())

@@ -2,6 +2,7 @@
 
 ghost use Rattle.std.specs.Prelude.{◌≡◌, ◌≢◌, ℕ, ◌*◌, ◌<◌, ◌≤◌, ◌∷◌, ◌++◌, [], drop, length, OnOk};
 ghost use Rattle.kh_types.specs.Rank.{minus_mod};
+ghost use Rattle.sparse_block.specs.declared.entry.TheConstants.{MOST_PLACES, MOST_VALUES};
 ghost use Rattle.sparse_block.specs.Entries.{AreEntries, entries_from, entries_of, value_at};
 ghost use Rattle.cancel_step.specs.Foreign.{FindsLeast};
 ghost use Rattle.cancel_step.specs.Lines.{line_less};
@@ -63,12 +64,13 @@ pub(crate) fn first_difference(left: &[Entry], right: &[Entry]) -> Option<u32>
 
 /// The first place of two lists, from an index of each on.
 fn first_place(left: &[Entry], at: usize, right: &[Entry], right_at: usize) -> u32
-    ensures { result ≡ first_place_of (drop at left.now) (drop right_at right.now) }
+    ensures place { result ≡ first_place_of (drop at left.now) (drop right_at right.now) }
+    ensures below { result < MOST_PLACES }
 {
     match (left.get(at), right.get(right_at)) {
-        (Some(left), Some(right)) => left.place.min(right.place),
-        (Some(left), None) => left.place,
-        (None, Some(right)) => right.place,
+        (Some(left), Some(right)) => left.place().min(right.place()),
+        (Some(left), None) => left.place(),
+        (None, Some(right)) => right.place(),
         (None, None) => 0,
     }
 }
@@ -88,8 +90,8 @@ fn entry_here(entries: &[Entry], at: usize, place: u32) -> Here
     ensures within { result.next ≤ length entries.now }
 {
     match entries.get(at) {
-        Some(entry) if entry.place == place => Here {
-            value: entry.value,
+        Some(entry) if entry.place() == place => Here {
+            value: entry.value(),
             next: at + 1,
         },
         _ => Here { value: 0, next: at },
@@ -100,7 +102,8 @@ fn entry_here(entries: &[Entry], at: usize, place: u32) -> Here
 fn less<F: PrimeField>(value: u8, factor: F, other: u8) -> u8
     requires value { value < F.P }
     requires other { other < F.P }
-    ensures { result ≡ minus_mod F.P value (F.value_of factor * other) }
+    ensures value { result ≡ minus_mod F.P value (F.value_of factor * other) }
+    ensures below { result < F.P }
 {
     element_laws::<F>();
     if other == 0 {
@@ -111,10 +114,12 @@ fn less<F: PrimeField>(value: u8, factor: F, other: u8) -> u8
 
 /// Puts an entry at the end, if its value is not 0.
 fn push_value(made: &mut Vec<Entry>, place: u32, value: u8) -> Result<(), NoMemory>
+    requires place { place < MOST_PLACES }
+    requires value { value < MOST_VALUES }
     ensures { OnOk result (made.new.items ≡ made.old.items ++ entries_from place (value ∷ [])) }
 {
     if value != 0 {
-        made.push(Entry { place, value })?;
+        made.push(Entry::new(place, value))?;
     }
     Ok(())
 }

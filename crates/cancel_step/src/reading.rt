@@ -45,5 +45,5 @@ pub(crate) fn last_row<F: PrimeField>(complex: &Complex<F>, i: i16, column: u32)
     if entries.is_empty() {
         return None;
     }
-    Some(entries[entries.len() - 1].place)
+    Some(entries[entries.len() - 1].place())
 }

@@ -20,7 +20,7 @@ pub(crate) fn reduce_degree<F: PrimeField>(
     alive: &[bool],
     columns: &[SmallVec<Entry, INLINE_ENTRIES>],
 ) -> Result<Vec<StoredColumn>, NoMemory>
-    requires count { length columns.now < 2 ^ 32 }
+    requires count { length columns.now < 2 ^ 29 }
     requires entries { All (AreEntries F.P (length alive.now)) (entries_in columns.now) }
     ensures { IfOk result (λ made. AreFirstReduced F.P alive.now (entries_in columns.now)
         (length columns.now) made.items) }

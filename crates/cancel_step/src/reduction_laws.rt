@@ -13,7 +13,7 @@ ghost use Rattle.kh_types.specs.Rank.{minus_mod};
 ghost use Rattle.prime_field.specs.Residues.{IsField};
 ghost use Rattle.sparse_block.specs.Complexes.{high_of, place_count};
 ghost use Rattle.sparse_block.specs.Entries.{AreEntries, entries_of, value_at};
-ghost use Rattle.sparse_block.specs.declared.entry.Entry.{Entry};
+ghost use Rattle.sparse_block.specs.Entries.{Entry};
 ghost use Rattle.cancel_step.specs.Histories.{ComesByCancelling};
 ghost use Rattle.cancel_step.specs.Lines.{line_less};
 ghost use Rattle.cancel_step.specs.Reductions.{AreReduced, AreReducedColumns};

@@ -13,7 +13,7 @@ use Rattle.kh_types.specs.Circles.{circle_count}
 use Rattle.kh_types.specs.Code.{Code}
 use Rattle.kh_types.specs.Generators.{Generator, generator_of, generators_at, states}
 use Rattle.circle_smoothing.proofs.KeptNumbers.{count-within}
-use Rattle.sparse_block.specs.declared.entry.Entry.{Entry}
+use Rattle.sparse_block.specs.Entries.{Entry}
 use Rattle.sparse_block.specs.Inside.{lists_in}
 use Rattle.sparse_block.proofs.LineLemmas.{list-lists_in}
 use Rattle.cube_signs.specs.Columns.{column_along, generators_from, AreAllColumns, AreColumns, AreFound, AreOuts, AreWholeColumns, IsColumn, IsTail}

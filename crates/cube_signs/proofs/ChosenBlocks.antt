@@ -25,9 +25,8 @@ use Rattle.kh_types.proofs.Lists.{All-some}
 use Rattle.kh_types.proofs.QuantumDegrees.{generators_at-degrees, homological_degree-within, place-IsWithin}
 use Rattle.circle_smoothing.specs.GeneratorCounts.{generator_count}
 use Rattle.circle_smoothing.specs.declared.limits.TheConstants.{GENERATORS}
-use Rattle.sparse_block.specs.declared.entry.Entry.{Entry}
 use Rattle.sparse_block.specs.Complexes.{NamedComplex, all_alive, degree_from_lists, degrees_from, matrix_from, sparse_complex}
-use Rattle.sparse_block.specs.Entries.{value_at, AreEntries}
+use Rattle.sparse_block.specs.Entries.{Entry, value_at, AreEntries}
 use Rattle.sparse_block.proofs.BuildLemmas.{sizes-all_alive}
 use Rattle.sparse_block.proofs.DegreeLemmas.{length-at}
 use Rattle.cube_squares.proofs.Degrees.{product_sum-at}
@@ -195,8 +194,8 @@ pub AreChosenParts-columns : (choice : Generator → Bool) (p : ℕ) (code : Cod
 AreChosenParts-columns choice p code j count names columns prime is_code size closed is_count is_names are =
     record {
       size = length-names ∙ is_count;
-      counts = subst (λ (names : List (List Generator)). All (λ degree. length degree < 2 ^ 32) names) (sym is_names)
-          (All-map (λ (degree : List Generator). length degree < 2 ^ 32) at (range_with_len 0 count)
+      counts = subst (λ (names : List (List Generator)). All (λ degree. length degree < 2 ^ 29) names) (sym is_names)
+          (All-map (λ (degree : List Generator). length degree < 2 ^ 29) at (range_with_len 0 count)
           (λ k d within.
           let gens = generators_at code (pos (get_or (range_with_len 0 count) k d) -ℤ pos n) j in
           omega (

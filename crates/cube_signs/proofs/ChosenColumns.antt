@@ -13,8 +13,7 @@ use Rattle.std.proofs.lemmas.List.Elements.{All-filter, All-head, All-tail, filt
 use Rattle.kh_types.specs.Code.{Code}
 use Rattle.kh_types.specs.Differential.{coefficient}
 use Rattle.kh_types.specs.Generators.{Generator, generator_of, generators_at}
-use Rattle.sparse_block.specs.declared.entry.Entry.{Entry}
-use Rattle.sparse_block.specs.Entries.{value_at, AreEntries}
+use Rattle.sparse_block.specs.Entries.{Entry, value_at, AreEntries}
 use Rattle.sparse_block.proofs.AscendingLemmas.{Ascend, ascend-earlier, ascend-place, entries-ascend, entries-from_ascend}
 use Rattle.sparse_block.proofs.EntryLemmas.{value_at-here, value_at-later}
 use Rattle.cube_signs.specs.Chosen.{chosen_at, chosen_before, IsClosed}

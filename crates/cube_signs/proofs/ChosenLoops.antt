@@ -12,7 +12,7 @@ use Rattle.std.proofs.lemmas.List.FromFn.{get_or-map-range_with_len, length-map-
 use Rattle.smallvec.specs.SmallVec.{SmallVec}
 use Rattle.kh_types.specs.Code.{Code}
 use Rattle.kh_types.specs.Generators.{Generator, generators_at}
-use Rattle.sparse_block.specs.declared.entry.Entry.{Entry}
+use Rattle.sparse_block.specs.Entries.{Entry}
 use Rattle.sparse_block.specs.Inside.{entries_in, lists_in}
 use Rattle.cube_signs.specs.Chosen.{chosen_at, chosen_before}
 use Rattle.cube_signs.specs.ChosenParts.{chosen_to}

@@ -4,10 +4,11 @@
 -- chosen list has the element there, and each of its places is that of a chosen element of the whole list.
 use Rattle.std.proofs.lemmas.Bool.Decides.{nat_tests}
 use Rattle.std.proofs.Common.{◌≡◌, ℕ, zero, suc, inl, inr, ◌+◌, ◌-◌, ◌<◌, ◌≤◌, ◌∙◌, List, [], ◌∷◌, length, get_or, take, ap, ap₂, arith, Bool, true, false, cond, refl}
-use Rattle.std.specs.List.{filter}
-use Rattle.std.specs.Prelude.{slice_index}
+use Rattle.std.specs.List.{filter, range_with_len}
+use Rattle.std.specs.Prelude.{slice_index, All}
 use Rattle.std.proofs.lemmas.Bool.{cases_Bool, cases_lt}
 use Rattle.std.proofs.lemmas.List.{length-take, take_all}
+use Rattle.std.proofs.lemmas.List.Elements.{All-map}
 use Rattle.std.proofs.lemmas.List.Filters.{length-filter_more}
 use Rattle.std.proofs.lemmas.List.FromFn.{get_or-map-range_with_len}
 use Rattle.std.proofs.lemmas.List.Sums.{count_by-le-length, length-filter}
@@ -66,6 +67,11 @@ before-one q xs k m is other same = elim (cases_lt k m) [
 
 pub before-small : (q : Generator → Bool) (xs : List Generator) (k : ℕ) → chosen_before q xs k ≤ length xs
 before-small q xs k = grind (arith, nat_tests, length-filter, count_by-le-length, length-take)
+
+pub places-small : (q : Generator → Bool) (xs : List Generator) (most : ℕ) → length xs < most → All (λ n. n < most) (all_places q xs)
+places-small q xs most few =
+    All-map (λ n. n < most) (chosen_before q xs) (range_with_len 0 (length xs))
+    (λ k d within. omega (arith, few, before-small q xs (get_or (range_with_len 0 (length xs)) k d)))
 
 pub before-all : (q : Generator → Bool) (xs : List Generator) → chosen_before q xs (length xs) ≡ length (filter q xs)
 before-all q xs = ap (λ ys. length (filter q ys)) (take_all (length xs) xs (omega arith))

@@ -25,7 +25,7 @@ use Rattle.circle_smoothing.specs.Edges.{IsEdge}
 use Rattle.kh_types.specs.Edges.{state_behind}
 use Rattle.circle_smoothing.specs.declared.change.Edge.{Edge}
 use Rattle.kh_types.proofs.EdgeBits.{set-within}
-use Rattle.sparse_block.specs.declared.entry.Entry.{Entry}
+use Rattle.sparse_block.specs.Entries.{Entry}
 use Rattle.sparse_block.proofs.AscendingLemmas.{Ascend, ascend-earlier, entries-from_ascend}
 use Rattle.cube_signs.specs.Columns.{head_entry, edge_sign_at, IsColumn}
 use Rattle.cube_signs.proofs.EdgeEntries.{column_to, edge_entries, step_entries}

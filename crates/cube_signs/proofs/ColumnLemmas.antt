@@ -9,8 +9,7 @@ use Rattle.std.proofs.lemmas.List.Elements.{All-append, All-head, All-nil, All-t
 use Rattle.std.proofs.lemmas.List.FromFn.{get_or-range_with_len, length-range_with_len}
 use Rattle.std.proofs.lemmas.Map.Made.{Contains-tail}
 use Rattle.kh_types.proofs.Lists.{Contains-flat_map}
-use Rattle.sparse_block.specs.declared.entry.Entry.{Entry}
-use Rattle.sparse_block.specs.Entries.{value_at}
+use Rattle.sparse_block.specs.Entries.{Entry, value_at}
 use Rattle.sparse_block.proofs.AscendingLemmas.{Ascend, ascend-earlier, increasing-tail}
 use Rattle.sparse_block.proofs.EntryLemmas.{value_at-here, value_at-later}
 

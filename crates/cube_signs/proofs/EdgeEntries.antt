@@ -7,7 +7,7 @@ use Rattle.std.specs.List.{flat_map, range_with_len}
 use Rattle.std.proofs.lemmas.Grind.{flat_map-append}
 use Rattle.kh_types.specs.Generators.{Generator}
 use Rattle.circle_smoothing.specs.declared.change.Edge.{Edge}
-use Rattle.sparse_block.specs.declared.entry.Entry.{Entry}
+use Rattle.sparse_block.specs.Entries.{Entry}
 use Rattle.cube_signs.specs.Columns.{column_along, head_entry, out_along, out_entries, outs_at, outs_to, edge_sign_at}
 use Rattle.cube_signs.specs.Heads.{labels_behind}
 

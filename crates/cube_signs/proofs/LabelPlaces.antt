@@ -172,10 +172,10 @@ AreRanks-tables code minus shapes rows weights ranks levels are =
     }
 
 pub small-ranks : (code : Code) (minus : ℕ) (shapes : List Shape) (rows : List (ArrayVec (Option Edge))) (weights ranks : List ℕ)
-    (levels : List (List ℕ)) → AreTables code minus shapes rows weights ranks levels → All (λ rank. rank < 2 ^ 31) ranks
+    (levels : List (List ℕ)) → AreTables code minus shapes rows weights ranks levels → All (λ rank. rank < 2 ^ 28) ranks
 small-ranks code minus shapes rows weights ranks levels are =
-    subst (λ (ranks : List ℕ). All (λ rank. rank < 2 ^ 31) ranks) (sym are.are_ranks)
-    (All-map (λ rank. rank < 2 ^ 31) (same_before weights) (range_with_len 0 (length weights))
+    subst (λ (ranks : List ℕ). All (λ rank. rank < 2 ^ 28) ranks) (sym are.are_ranks)
+    (All-map (λ rank. rank < 2 ^ 28) (same_before weights) (range_with_len 0 (length weights))
     (λ k d within.
     let power : 2 ^ are.width ≤ 2 ^ 22 = pow_mono are.narrow in
     let below : k < length weights = omega (arith, within, length-range_with_len 0 (length weights)) in

@@ -28,9 +28,8 @@ use Rattle.kh_types.proofs.Lists.{Contains-filter}
 use Rattle.kh_types.proofs.Ranges.{map_from_zero}
 use Rattle.circle_smoothing.specs.GeneratorCounts.{generator_count}
 use Rattle.circle_smoothing.specs.declared.limits.TheConstants.{GENERATORS}
-use Rattle.sparse_block.specs.declared.entry.Entry.{Entry}
 use Rattle.sparse_block.specs.Complexes.{NamedComplex, all_alive, degree_from_lists, degrees_from, matrix_from, sparse_complex}
-use Rattle.sparse_block.specs.Entries.{value_at, AreEntries}
+use Rattle.sparse_block.specs.Entries.{Entry, value_at, AreEntries}
 use Rattle.sparse_block.specs.Inside.{lists_in}
 use Rattle.sparse_block.proofs.BuildLemmas.{sizes-all_alive}
 use Rattle.sparse_block.proofs.DegreeLemmas.{length-at}
@@ -123,8 +122,8 @@ AreParts-columns p code j low count names columns prime is_code size some above 
       some = omega (arith, some, length-names);
       start = above;
       end = omega (arith, ints, below, length-names);
-      counts = subst (λ (names : List (List Generator)). All (λ degree. length degree < 2 ^ 32) names) (sym is_names)
-          (All-map (λ (degree : List Generator). length degree < 2 ^ 32) (λ k. generators_at code (low +ℤ pos k) j)
+      counts = subst (λ (names : List (List Generator)). All (λ degree. length degree < 2 ^ 29) names) (sym is_names)
+          (All-map (λ (degree : List Generator). length degree < 2 ^ 29) (λ k. generators_at code (low +ℤ pos k) j)
           (range_with_len 0 count)
           (λ k d within. omega (arith, length-generators_at code (low +ℤ pos (get_or (range_with_len 0 count) k d)) j size)));
       sizes = map-places length (λ k. length (at k)) columns [] count are.size (λ k below. (are.each k below).size)

@@ -50,10 +50,10 @@ own_base-room code j state within size =
     )
 
 pub own_bases-small : (code : Code) (j : ℤ) (bases : List ℕ) → generator_count code ≤ GENERATORS
-    → bases ≡ map (own_base code j) (states code) → All (λ base. base < 2 ^ 31) bases
+    → bases ≡ map (own_base code j) (states code) → All (λ base. base < 2 ^ 28) bases
 own_bases-small code j bases size is =
-    subst (λ (bases : List ℕ). All (λ base. base < 2 ^ 31) bases) (sym is)
-    (All-map (λ base. base < 2 ^ 31) (own_base code j) (states code)
+    subst (λ (bases : List ℕ). All (λ base. base < 2 ^ 28) bases) (sym is)
+    (All-map (λ base. base < 2 ^ 28) (own_base code j) (states code)
     (λ k d within.
     let below : k < 2 ^ length code.crossings = omega (arith, within, length-range_with_len 0 (2 ^ length code.crossings)) in
     let at : get_or (states code) k d ≡ k = get_or-range_with_len 0 (2 ^ length code.crossings) k d below ∙ omega arith in

@@ -3,9 +3,8 @@ use Rattle.std.specs.Prelude.{◌≡◌, ℕ, ◌+◌, ◌*◌, ◌<◌, ◌^◌
 use Rattle.std.specs.List.{range_with_len}
 use Rattle.kh_types.specs.Code.{Code}
 use Rattle.kh_types.specs.Generators.{Generator, generators_at}
-use Rattle.sparse_block.specs.declared.entry.Entry.{Entry}
 use Rattle.sparse_block.specs.Complexes.{sparse_complex, HaveEntries, SquaresToZero}
-use Rattle.sparse_block.specs.Entries.{entry_at}
+use Rattle.sparse_block.specs.Entries.{Entry, entry_at}
 use Rattle.cube_signs.specs.Chosen.{chosen_at, chosen_before, chosen_block}
 use Rattle.cube_signs.specs.Columns.{AreColumns}
 
@@ -38,7 +37,7 @@ pub record AreMovedColumns (p : ℕ) (code : Code) (i j : ℤ) (tails : List Gen
 -- names and columns, by degree from the lowest on, of which the block over the chosen generators is made
 pub record AreChosenParts (choice : Generator → Bool) (p : ℕ) (code : Code) (j : ℤ) (names : List (List Generator)) (columns : List (List (List Entry))) : Type 0 where
   pub size : length names ≡ 2 * length code.crossings + 1
-  pub counts : All (λ degree. length degree < 2 ^ 32) names
+  pub counts : All (λ degree. length degree < 2 ^ 29) names
   pub sizes : map length columns ≡ map length names
   pub entries : HaveEntries p names columns
   pub squares : SquaresToZero p (sparse_complex (pos 0 -ℤ pos (length code.crossings)) names columns).complex

@@ -11,8 +11,8 @@ use Rattle.kh_types.specs.History.{is_empty}
 use Rattle.kh_types.specs.Table.{from_minus}
 use Rattle.circle_smoothing.specs.Edges.{HasNumbersBelow}
 use Rattle.circle_smoothing.specs.declared.change.Edge.{Edge}
-use Rattle.sparse_block.specs.declared.entry.Entry.{Entry}
-use Rattle.sparse_block.specs.Entries.{entry_at, value_at, AreEntries}
+use Rattle.sparse_block.specs.declared.entry.TheConstants.{MOST_VALUES}
+use Rattle.sparse_block.specs.Entries.{Entry, entry_at, value_at, AreEntries}
 use Rattle.sparse_block.specs.Complexes.{sparse_complex, HaveEntries, SquaresToZero}
 use Rattle.cube_signs.specs.declared.limits.TheConstants.{DEGREES, PLACES}
 use Rattle.cube_signs.specs.declared.outs.Out.{Out}
@@ -60,10 +60,11 @@ IsSmall (Some change) = HasNumbersBelow CIRCLES change
 pub record AreSmall (steps : List (Option Edge)) : Type 0 where
   pub each : (place : ℕ) → place < length steps → IsSmall (slice_index_or steps place None)
 
--- so are those of an edge out of a state, and the place behind it
+-- so are those of an edge out of a state, the place behind it, and its sign
 pub record IsSmallOut (out : Out) : Type 0 where
   pub numbers : HasNumbersBelow CIRCLES out.change
   pub base : out.base < PLACES
+  pub sign : out.sign < MOST_VALUES
 
 -- the edges are those out of a state, in the order of their places
 pub record AreOuts (p : ℕ) (code : Code) (bases : List ℕ) (state : ℕ) (outs : List Out) : Type 0 where
@@ -116,7 +117,7 @@ pub record AreParts (p : ℕ) (code : Code) (j low : ℤ) (names : List (List Ge
   pub some : 0 < length names
   pub start : neg_ℤ (pos DEGREES) ≤ℤ low
   pub end : (low +ℤ pos (length names)) ≤ℤ pos DEGREES
-  pub counts : All (λ degree. length degree < 2 ^ 32) names
+  pub counts : All (λ degree. length degree < 2 ^ 29) names
   pub sizes : map length columns ≡ map length names
   pub entries : HaveEntries p names columns
   pub squares : SquaresToZero p (sparse_complex low names columns).complex

@@ -9,6 +9,7 @@ ghost use Rattle.kh_types.specs.Table.{from_minus};
 ghost use Rattle.kh_types.specs.declared.limits.TheConstants.{CROSSINGS};
 ghost use Rattle.circle_smoothing.specs.GeneratorCounts.{generator_count};
 ghost use Rattle.circle_smoothing.specs.declared.limits.TheConstants.{GENERATORS};
+ghost use Rattle.sparse_block.specs.declared.entry.TheConstants.{MOST_VALUES};
 ghost use Rattle.sparse_block.specs.Inside.{entries_in, lines_in, lists_in};
 ghost use Rattle.cube_signs.specs.Blocks.{block_degrees, named_block};
 ghost use Rattle.cube_signs.specs.Columns.{flags_of, generators_from, AreAllColumns, AreColumns};
@@ -87,6 +88,7 @@ impl Cube {
     /// The parts of the block at a quantum degree.
     fn parts(&self, alloc: Global, p: u8, j: i16) -> Result<Parts, NoMemory>
         requires prime { 1 < p }
+        requires values { p ≤ MOST_VALUES }
         requires degree { Contains (block_degrees self.now) j }
         ensures { IfOk result (λ parts. AreParts p self.now j parts.least.i
             (lists_in parts.names.items) (lines_in parts.columns.items)) }
@@ -115,6 +117,7 @@ impl Cube {
         names: &[Generator],
     ) -> Result<Vec<Column>, NoMemory>
         requires prime { 1 < p }
+        requires values { p ≤ MOST_VALUES }
         requires bases { bases.now ≡ map (own_base self.now at.j) (states self.now) }
         requires small { All (λ base. base < PLACES) bases.now }
         requires names { All (IsTail self.now at.i at.j) names.now }
@@ -135,6 +138,7 @@ impl Cube {
     /// Finds the edges out of a state, where they are not those that were found last.
     fn go_to(&self, p: u8, bases: &[u32], around: &mut Around, state: u32) -> Result<(), NoMemory>
         requires prime { 1 < p }
+        requires values { p ≤ MOST_VALUES }
         requires state { state < 2 ^ length self.now.crossings }
         requires bases { All (λ base. base < PLACES) bases.now }
         requires found { AreFound p self.now bases.now around.old.state around.old.outs.items }
@@ -165,6 +169,7 @@ impl Cube {
         names: &[Vec<Generator>],
     ) -> Result<Vec<Vec<Column>>, NoMemory>
         requires prime { 1 < p }
+        requires values { p ≤ MOST_VALUES }
         requires bases { bases.now ≡ map (own_base self.now least.j) (states self.now) }
         requires small { All (λ base. base < PLACES) bases.now }
         requires low { neg_ℤ (pos DEGREES) ≤ℤ least.i }

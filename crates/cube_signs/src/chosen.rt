@@ -6,6 +6,7 @@ ghost use Rattle.std.specs.Prelude.{pos, neg_ℤ, ◌+ℤ◌, ◌≤ℤ◌, slic
 ghost use Rattle.std.specs.Prelude.{if◌then◌else◌, IfOk, OnOk};
 ghost use Rattle.std.specs.List.{filter};
 ghost use Rattle.kh_types.specs.Generators.{states};
+ghost use Rattle.sparse_block.specs.declared.entry.TheConstants.{MOST_VALUES};
 ghost use Rattle.sparse_block.specs.Inside.{entries_in, lines_in, lists_in};
 ghost use Rattle.cube_signs.specs.Chosen.{chosen_at, chosen_block, has_minus, IsClosed};
 ghost use Rattle.cube_signs.specs.ChosenParts.{all_places, all_places_to, chosen_to};
@@ -17,6 +18,7 @@ ghost use Rattle.cube_signs.specs.declared.limits.TheConstants.{DEGREES, PLACES}
 use crate::columns::Column;
 use crate::cube::Cube;
 use crate::names::Degrees;
+use crate::outs::number_at;
 use kh_types::{NoMemory, bit};
 use prime_field::PrimeField;
 use prime_field::laws::element_laws;
@@ -74,6 +76,7 @@ impl Cube {
         j: i16,
     ) -> Result<ChosenParts, NoMemory>
         requires prime { 1 < p }
+        requires values { p ≤ MOST_VALUES }
         requires closed { IsClosed (has_minus circles.now) p self.now }
         ensures { IfOk result (λ parts. AreChosenParts (has_minus circles.now) p self.now j
             (lists_in parts.names.items) (lines_in parts.columns.items)) }
@@ -114,9 +117,11 @@ impl Cube {
         heads: &[u32],
     ) -> Result<Vec<Column>, NoMemory>
         requires prime { 1 < p }
+        requires values { p ≤ MOST_VALUES }
         requires bases { bases.now ≡ map (own_base self.now at.j) (states self.now) }
         requires small { All (λ base. base < PLACES) bases.now }
         requires names { All (IsTail self.now at.i at.j) names.now }
+        requires heads { All (λ head. head < PLACES) heads.now }
         ensures { IfOk result (λ columns. AreMovedColumns p self.now at.i at.j names.now heads.now
             (entries_in columns.items)) }
     {
@@ -217,6 +222,7 @@ fn circle_at(circles: &[u8], state: usize) -> usize
 
 /// Numbers the rows of columns anew.
 fn renumber_all(columns: &mut [Column], heads: &[u32])
+    requires { All (λ head. head < PLACES) heads.now }
     ensures { entries_in columns.new ≡ map (map (moved_entry heads.now)) (entries_in columns.old) }
 {
     'columns: for column in columns.iter_mut() {
@@ -226,6 +232,7 @@ fn renumber_all(columns: &mut [Column], heads: &[u32])
 
 /// Numbers the rows of a column anew, where it is given how many rows are kept before each.
 fn renumber(column: &mut [Entry], heads: &[u32])
+    requires { All (λ head. head < PLACES) heads.now }
     ensures { column.new ≡ map (moved_entry heads.now) column.old }
 {
     'entries: for entry in column.iter_mut() {
@@ -235,12 +242,10 @@ fn renumber(column: &mut [Entry], heads: &[u32])
 
 /// An entry at its new row.
 fn moved(entry: Entry, heads: &[u32]) -> Entry
+    requires { All (λ head. head < PLACES) heads.now }
     ensures { result ≡ moved_entry heads.now entry }
 {
-    Entry {
-        place: heads.get(entry.place as usize).copied().unwrap_or(0),
-        value: entry.value,
-    }
+    Entry::new(number_at(heads, entry.place() as usize), entry.value())
 }
 
 /// The list at a place, and an empty one past the end.

@@ -2,6 +2,7 @@
 
 ghost use Rattle.std.specs.Prelude.{◌≡◌, ◌+◌, ◌^◌, ◌<◌, ◌≤◌, ◌++◌, length, map, All, IfOk, OnOk};
 ghost use Rattle.kh_types.specs.declared.limits.TheConstants.{CIRCLES};
+ghost use Rattle.sparse_block.specs.declared.entry.TheConstants.{MOST_VALUES};
 ghost use Rattle.cube_signs.specs.Columns.{column_along, head_entry, out_entries, IsSmallOut};
 ghost use Rattle.cube_signs.specs.declared.limits.TheConstants.{PLACES};
 
@@ -51,13 +52,14 @@ fn push_heads(
     labels: &[u64],
 ) -> Result<(), NoMemory>
     requires base { base < PLACES }
+    requires sign { sign < MOST_VALUES }
     requires ranks { All (λ rank. rank < PLACES) ranks.now }
     ensures { OnOk result (column.new.items
         ≡ column.old.items ++ map (head_entry base ranks.now sign) labels.now) }
 {
     'labels: for k in 0..labels.len() {
         let place = base + number_at(ranks, labels[k] as usize);
-        column.push(Entry { place, value: sign })?;
+        column.push(Entry::new(place, sign))?;
     }
     Ok(())
 }

@@ -1,7 +1,7 @@
 //! The sizes that the blocks of a cube within the limit on generators keep to.
 
-/// More places than a degree has; the sum of two numbers below it is one of 32 bits.
-pub const PLACES: usize = 2_147_483_648;
+/// More places than a degree has; the sum of two numbers below it is a place of an entry.
+pub const PLACES: usize = 268_435_456;
 
 /// The size up to which homological degrees are computed with.
 pub const DEGREES: usize = 32;

@@ -2,6 +2,7 @@
 
 ghost use Rattle.std.specs.Prelude.{◌≡◌, ◌+◌, ◌<◌, ◌≤◌, ◌++◌, length, slice_index, All, OnOk};
 ghost use Rattle.kh_types.specs.declared.limits.TheConstants.{CROSSINGS};
+ghost use Rattle.sparse_block.specs.declared.entry.TheConstants.{MOST_VALUES};
 ghost use Rattle.cube_signs.specs.Columns.{out_along, outs_to, edge_sign_at, AreSmall, IsSmall};
 ghost use Rattle.cube_signs.specs.Columns.{IsSmallOut};
 ghost use Rattle.cube_signs.specs.declared.limits.TheConstants.{PLACES};
@@ -36,6 +37,7 @@ pub(crate) fn find_outs(
     state: u32,
 ) -> Result<(), NoMemory>
     requires prime { 1 < p }
+    requires values { p ≤ MOST_VALUES }
     requires count { length steps.now ≤ CROSSINGS }
     requires steps { AreSmall steps.now }
     requires bases { All (λ base. base < PLACES) bases.now }
@@ -60,6 +62,7 @@ fn push_out(
     from: From,
 ) -> Result<(), NoMemory>
     requires place { from.place < CROSSINGS }
+    requires sign { from.sign < MOST_VALUES }
     requires step { IsSmall step }
     requires bases { All (λ base. base < PLACES) bases.now }
     requires small { All IsSmallOut outs.old.items }

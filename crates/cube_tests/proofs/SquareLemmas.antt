@@ -4,8 +4,7 @@ use Rattle.std.specs.Prelude.{slice_index_or}
 use Rattle.std.proofs.lemmas.List.Elements.{All-nil, All-cons, All-from_recursion}
 use Rattle.kh_types.specs.Generators.{Generator}
 use Rattle.kh_types.proofs.ComplexLemmas.{complex-from_test}
-use Rattle.sparse_block.specs.declared.entry.Entry.{Entry}
-use Rattle.sparse_block.specs.Entries.{AreEntries, entry_at}
+use Rattle.sparse_block.specs.Entries.{Entry, AreEntries, entry_at}
 use Rattle.sparse_block.specs.Complexes.{HaveEntries, SquaresToZero}
 use Rattle.sparse_block.proofs.AscendingLemmas.{entries-from_ascend}
 use Rattle.sparse_block.proofs.WorkedLemmas.{CanBuild}
@@ -61,7 +60,7 @@ square-build x y names columns are_names are_columns have squares =
     subst₂ (CanBuild 5 (neg_ℤ (pos 2))) (sym are_names) (sym are_columns)
     (record {
       some = omega arith;
-      counts = All-from_recursion (λ (degree : List Generator). length degree < 2 ^ 32) square_names (omega arith, (omega arith, tt));
+      counts = All-from_recursion (λ (degree : List Generator). length degree < 2 ^ 29) square_names (omega arith, (omega arith, tt));
       sizes = refl;
       entries = have;
       squares = squares;

@@ -2,8 +2,7 @@
 -- 0 1 4.
 use Rattle.std.specs.Prelude.{ℕ, neg_ℤ, pos, List, [], ◌∷◌}
 use Rattle.kh_types.specs.Generators.{Generator, generator_of}
-use Rattle.sparse_block.specs.declared.entry.Entry.{Entry}
-use Rattle.sparse_block.specs.Entries.{entry_at}
+use Rattle.sparse_block.specs.Entries.{Entry, entry_at}
 use Rattle.sparse_block.specs.Complexes.{NamedComplex, sparse_complex}
 
 -- the names, which stand for nothing here

@@ -13,10 +13,9 @@ use Rattle.kh_types.specs.Complex.{Complex, IsComplex, IsPivot, Pivot, cancel}
 use Rattle.kh_types.specs.History.{block}
 use Rattle.prime_field.specs.Residues.{IsField}
 use Rattle.cube_squares.proofs.BlockComplexes.{IsComplex-block}
-use Rattle.sparse_block.specs.declared.entry.Entry.{Entry}
 use Rattle.sparse_block.specs.Changes.{PlacedLine}
 use Rattle.sparse_block.specs.Complexes.{column_of, row_of}
-use Rattle.sparse_block.specs.Entries.{entries_of}
+use Rattle.sparse_block.specs.Entries.{Entry, entries_of}
 use Rattle.sparse_block.proofs.EntryLemmas.{value_at-entries_of}
 use Rattle.cancel_step.specs.Copies.{Copied, copied, line_across}
 use Rattle.cancel_step.specs.Foreign.{IsForeign, IsOtherColumn, IsOtherRowAt, ShowsAt, ShowsIn}

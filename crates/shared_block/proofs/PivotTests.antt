@@ -4,8 +4,7 @@ use Rattle.std.specs.Prelude.{nat_eq}
 use Rattle.std.proofs.lemmas.Bool.{eq-eqb, ne_eqb}
 use Rattle.kh_types.specs.Complex.{Complex, IsPivot, Pivot, entry_of}
 use Rattle.sparse_block.specs.Complexes.{column_of}
-use Rattle.sparse_block.specs.Entries.{entries_of, value_at}
-use Rattle.sparse_block.specs.declared.entry.Entry.{Entry}
+use Rattle.sparse_block.specs.Entries.{Entry, entries_of, value_at}
 use Rattle.sparse_block.proofs.EntryLemmas.{value_at-entries_of}
 use Rattle.sparse_block.proofs.ReadingLemmas.{number-column_of}
 use Rattle.shared_block.specs.Commits.{is_pivot}

@@ -4,8 +4,7 @@ use Rattle.std.proofs.Common.{◌≡◌, ℕ, zero, suc, ◌+◌, ◌<◌, ◌�
 use Rattle.std.specs.Prelude.{slice_index}
 use Rattle.std.specs.List.Sorted.{IsStrictlyIncreasing}
 use Rattle.std.proofs.lemmas.List.Elements.{All-nil, All-cons, All-head, All-tail}
-use Rattle.sparse_block.specs.declared.entry.Entry.{Entry}
-use Rattle.sparse_block.specs.Entries.{AreEntries}
+use Rattle.sparse_block.specs.Entries.{Entry, AreEntries}
 
 -- the entries ascend within the places from a up to b, and their values are from 1 to p - 1
 abbrev pub Ascend : ℕ → ℕ → ℕ → List Entry → Type 0

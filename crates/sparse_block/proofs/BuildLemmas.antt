@@ -15,8 +15,7 @@ use Rattle.std.proofs.lemmas.List.FromFn.{fill_by_all, map-range_with_len_more}
 use Rattle.std.proofs.lemmas.Simd.{map-map}
 use Rattle.kh_types.specs.Complex.{Degree, IsComplex, degree_number, degree_from, degree_of, entry_in, entry_of}
 use Rattle.kh_types.specs.Generators.{Generator}
-use Rattle.sparse_block.specs.declared.entry.Entry.{Entry}
-use Rattle.sparse_block.specs.Entries.{entries_of, value_at, AreEntries}
+use Rattle.sparse_block.specs.Entries.{Entry, entries_of, value_at, AreEntries}
 use Rattle.sparse_block.specs.Complexes.{matrix_from, column_in, degree_from_lists, degrees_from, complex_from, all_alive, HaveEntries, SquaresToZero}
 use Rattle.std.specs.Global.{Vec}
 use Rattle.smallvec.specs.SmallVec.{SmallVec}
@@ -170,7 +169,7 @@ module _ (p : ℕ) (names : List (List Generator)) (columns : List (List (List E
 -- what build keeps
 pub kept-built : (p : ℕ) (low : ℤ) (names : List (List Generator)) (alive : List (List Bool))
     (columns rows : List (List (List Entry))) → 0 < p → 0 < length names → (low +ℤ pos (length names)) ≤ℤ pos 32767
-    → All (λ degree. length degree < 2 ^ 32) names → map length columns ≡ map length names → HaveEntries p names columns
+    → All (λ degree. length degree < 2 ^ 29) names → map length columns ≡ map length names → HaveEntries p names columns
     → SquaresToZero p (complex_from low (all_alive names) columns) → alive ≡ all_alive names
     → rows ≡ map row_entries (degrees_from (all_alive names) columns) → IsKept p low names alive columns rows
 kept-built p low names alive columns rows positive some end counts sizes have squares are_alive are_rows =

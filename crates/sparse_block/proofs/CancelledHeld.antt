@@ -10,10 +10,9 @@ use Rattle.kh_types.specs.Generators.{Generator}
 use Rattle.kh_types.proofs.CancelLemmas.{degrees-cancel}
 use Rattle.kh_types.proofs.ComplexLemmas.{degree_of-number}
 use Rattle.prime_field.specs.Residues.{IsField}
-use Rattle.sparse_block.specs.declared.entry.Entry.{Entry}
 use Rattle.sparse_block.specs.Clearing.{crossed_out, crossed_out_before, emptied, emptied_before, with_dead}
 use Rattle.sparse_block.specs.Complexes.{NamedComplex, column_in, place_count}
-use Rattle.sparse_block.specs.Entries.{entries_of}
+use Rattle.sparse_block.specs.Entries.{Entry, entries_of}
 use Rattle.sparse_block.specs.Inside.{IsKept, lists_in}
 use Rattle.sparse_block.proofs.CancelledComplexes.{complex-cancel, places_number-cancel}
 use Rattle.sparse_block.proofs.CancelledLists.{HaveOwn}

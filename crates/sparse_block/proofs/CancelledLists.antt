@@ -14,10 +14,9 @@ use Rattle.std.proofs.lemmas.Int.{ints, by_lt_z}
 use Rattle.std.proofs.lemmas.List.{get_or_default, get_or_past}
 use Rattle.kh_types.specs.Complex.{Complex, Degree, Pivot, IsPivot, cancel, degree_of, entry_of, without_place}
 use Rattle.kh_types.specs.Generators.{Generator}
-use Rattle.sparse_block.specs.declared.entry.Entry.{Entry}
 use Rattle.sparse_block.specs.Clearing.{AreCrossed, CanClear}
 use Rattle.sparse_block.specs.Complexes.{NamedComplex, column_of, place_count, row_of}
-use Rattle.sparse_block.specs.Entries.{AreEntries, entries_of, value_at}
+use Rattle.sparse_block.specs.Entries.{Entry, AreEntries, entries_of, value_at}
 use Rattle.sparse_block.specs.Held.{no_entries}
 use Rattle.sparse_block.specs.Inside.{IsKept}
 use Rattle.sparse_block.proofs.FilledLines.{some-entries}

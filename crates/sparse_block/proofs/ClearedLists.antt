@@ -10,9 +10,8 @@ use Rattle.std.specs.Prelude.{slice_index_or, All}
 use Rattle.std.proofs.Math.ListN as plain
 use Rattle.std.proofs.lemmas.Bool.Decides.{eqb_tells}
 use Rattle.std.proofs.lemmas.List.{get_or_default, get_or-set_other, get_or-set_same, length-map, length-set}
-use Rattle.sparse_block.specs.declared.entry.Entry.{Entry}
 use Rattle.sparse_block.specs.Clearing.{AreCrossed, CanClear, crossed_out, crossed_out_before, emptied, emptied_before, without}
-use Rattle.sparse_block.specs.Entries.{AreEntries, value_at}
+use Rattle.sparse_block.specs.Entries.{Entry, AreEntries, value_at}
 use Rattle.sparse_block.proofs.AscendingLemmas.{entries-from_ascend}
 use Rattle.sparse_block.proofs.RemovalLemmas.{entries-without, value_at-without, value_at-without_other}
 

@@ -15,10 +15,9 @@ use Rattle.std.proofs.lemmas.List.{get_or-map, get_or-set_other, get_or-set_same
 use Rattle.std.proofs.lemmas.List.Elements.{All-contains, Contains-append_right}
 use Rattle.std.proofs.lemmas.List.FromFn.{fill_by_all}
 use Rattle.smallvec.specs.SmallVec.{SmallVec}
-use Rattle.sparse_block.specs.declared.entry.Entry.{Entry}
 use Rattle.sparse_block.specs.Changes.{PlacedLine, placed, places_of}
 use Rattle.sparse_block.specs.Clearing.{AreExchanged, with_dead, without}
-use Rattle.sparse_block.specs.Entries.{AreEntries, value_at}
+use Rattle.sparse_block.specs.Entries.{Entry, AreEntries, value_at}
 use Rattle.sparse_block.specs.Inside.{entries_in, lists_in}
 use Rattle.sparse_block.proofs.AscendingLemmas.{entries-ascend}
 use Rattle.sparse_block.proofs.EntryLemmas.{IsNew, value_at-more, value_at-new}

@@ -8,7 +8,7 @@ use Rattle.std.proofs.lemmas.Int.{ints}
 use Rattle.std.proofs.lemmas.List.{get_or_past, length-map}
 use Rattle.std.proofs.lemmas.List.FromFn.{length-map-range_with_len, get_or-map-range_with_len}
 use Rattle.kh_types.specs.Complex.{Degree, empty_degree, degree_number, degree_from, degree_of}
-use Rattle.sparse_block.specs.declared.entry.Entry.{Entry}
+use Rattle.sparse_block.specs.Entries.{Entry}
 use Rattle.sparse_block.specs.Complexes.{matrix_from, degree_from_lists, degrees_from, complex_from}
 
 pub length-degrees_from : (alive : List (List Bool)) (columns : List (List (List Entry)))

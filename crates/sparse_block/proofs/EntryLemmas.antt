@@ -13,8 +13,7 @@ use Rattle.std.proofs.lemmas.List.{map-append}
 use Rattle.std.proofs.lemmas.List.Elements.{filter-append, All-head, All-tail}
 use Rattle.std.proofs.lemmas.Bool.Decides.{eqb_tells}
 use Rattle.kh_types.proofs.Lists.{enumerate_from-push}
-use Rattle.sparse_block.specs.declared.entry.Entry.{Entry}
-use Rattle.sparse_block.specs.Entries.{entry_at, entries_from, entries_of, value_at, line_of, AreEntries}
+use Rattle.sparse_block.specs.Entries.{Entry, entry_at, entries_from, entries_of, value_at, line_of, AreEntries}
 use Rattle.sparse_block.proofs.AscendingLemmas.{Ascend, entries-ascend, entries-from_ascend, ascend-earlier, ascend-place}
 
 -- the number at a place, by the first entry

@@ -14,10 +14,9 @@ use Rattle.std.proofs.lemmas.List.{get_or_past, length-map, set-get_or}
 use Rattle.std.proofs.lemmas.List.Folds.{list_all-append, sum_by-zero}
 use Rattle.std.proofs.lemmas.List.Sums.{sum_by-set}
 use Rattle.smallvec.specs.SmallVec.{SmallVec}
-use Rattle.sparse_block.specs.declared.entry.Entry.{Entry}
 use Rattle.sparse_block.specs.Changes.{PlacedLine}
 use Rattle.sparse_block.specs.Clearing.{AreExchanged}
-use Rattle.sparse_block.specs.Entries.{value_at}
+use Rattle.sparse_block.specs.Entries.{Entry, value_at}
 use Rattle.sparse_block.specs.Held.{AreHeld, filled_count, no_entries, padded}
 use Rattle.sparse_block.specs.Inside.{entries_in}
 use Rattle.sparse_block.proofs.LineLemmas.{entries_in-set, items, line-got}

@@ -8,9 +8,8 @@ use Rattle.std.proofs.lemmas.List.{get_or-map, length-map}
 use Rattle.std.proofs.lemmas.List.FromFn.{fill_by_all}
 use Rattle.kh_types.specs.Complex.{Complex, Degree, IsComplex, degree_number, empty_degree}
 use Rattle.kh_types.specs.Generators.{Generator}
-use Rattle.sparse_block.specs.declared.entry.Entry.{Entry}
 use Rattle.sparse_block.specs.Complexes.{column_in, complex_from, degrees_from, matrix_from}
-use Rattle.sparse_block.specs.Entries.{entries_of, value_at}
+use Rattle.sparse_block.specs.Entries.{Entry, entries_of, value_at}
 use Rattle.sparse_block.specs.Inside.{IsKept, column_entries, row_entries}
 use Rattle.sparse_block.proofs.ClearedLists.{line_at, lines_at}
 use Rattle.sparse_block.proofs.ClearingLemmas.{list-same}

@@ -16,8 +16,7 @@ use Rattle.std.proofs.lemmas.List.{length-map, get_or-map, get_or_default, get_o
 use Rattle.std.proofs.lemmas.List.FromFn.{length-map-range_with_len, get_or-map-range_with_len, fill_by_all}
 use Rattle.kh_types.specs.Complex.{Complex, Degree, IsComplex, alive_count, degree_of, empty_degree, entry_of, is_zero}
 use Rattle.kh_types.specs.Generators.{Generator, generator_of}
-use Rattle.sparse_block.specs.declared.entry.Entry.{Entry}
-use Rattle.sparse_block.specs.Entries.{entries_of, value_at}
+use Rattle.sparse_block.specs.Entries.{Entry, entries_of, value_at}
 use Rattle.sparse_block.specs.Complexes.{NamedComplex, column_in, column_of, row_of, high_of, place_count, names_from, name_of, complex_from, degrees_from, degree_from_lists}
 use Rattle.std.proofs.lemmas.List.Folds.{list_all-map}
 use Rattle.sparse_block.specs.Held.{no_entries}
@@ -190,13 +189,13 @@ module _ {p : ℕ} {low : ℤ} {names : List (List Generator)} {alive : List (Li
       subst (λ (named : NamedComplex). (named.complex.low +ℤ pos (length named.complex.degrees)) ≤ℤ pos 32767) seen
       (subst (λ (count : ℕ). (low +ℤ pos count) ≤ℤ pos 32767) (sym (degree-count kept)) kept.end)
 
-  pub counts-seen : All (λ degree. length degree.alive < 2 ^ 32) named.complex.degrees
+  pub counts-seen : All (λ degree. length degree.alive < 2 ^ 29) named.complex.degrees
   counts-seen =
-      subst (λ (named : NamedComplex). All (λ (degree : Degree). length degree.alive < 2 ^ 32) named.complex.degrees) seen
+      subst (λ (named : NamedComplex). All (λ (degree : Degree). length degree.alive < 2 ^ 29) named.complex.degrees) seen
       (λ k d within.
       let k_within : k < length alive = omega (arith, within, length-degrees_from alive columns) in
-      subst (λ (degree : Degree). length degree.alive < 2 ^ 32) (sym (degree-within alive columns k d k_within))
-      (alive-counts (2 ^ 32) kept kept.counts k [] k_within))
+      subst (λ (degree : Degree). length degree.alive < 2 ^ 29) (sym (degree-within alive columns k d k_within))
+      (alive-counts (2 ^ 29) kept kept.counts k [] k_within))
 
   pub names-seen : map length named.names ≡ map (λ degree. length degree.alive) named.complex.degrees
   names-seen =

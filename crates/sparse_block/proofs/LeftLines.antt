@@ -15,10 +15,9 @@ use Rattle.kh_types.specs.Complex.{Complex, Degree, Pivot, IsComplex, IsPivot, c
 use Rattle.kh_types.proofs.CancelLemmas.{places-cancel}
 use Rattle.prime_field.specs.Residues.{IsField}
 use Rattle.kh_types.proofs.MatrixEntries.{entry_cancelled, entry-cancelled_matrix, entry-without_row, entry-without_column}
-use Rattle.sparse_block.specs.declared.entry.Entry.{Entry}
 use Rattle.sparse_block.specs.Clearing.{without}
 use Rattle.sparse_block.specs.Complexes.{column_of, place_count, row_of}
-use Rattle.sparse_block.specs.Entries.{AreEntries, entries_of, value_at}
+use Rattle.sparse_block.specs.Entries.{Entry, AreEntries, entries_of, value_at}
 use Rattle.sparse_block.proofs.ClearedLists.{no-entries}
 use Rattle.sparse_block.proofs.CancelledComplexes.{complex-cancel}
 use Rattle.sparse_block.proofs.CancelledDegrees.{degree-at_pivot, degree-after_pivot, degree-before_pivot, degree-elsewhere}

@@ -6,8 +6,7 @@ use Rattle.std.proofs.Math.ListN as plain
 use Rattle.std.proofs.lemmas.List.{map-set, get_or-map, length-map}
 use Rattle.smallvec.specs.SmallVec.{SmallVec}
 use Rattle.std.specs.Global.{Vec}
-use Rattle.sparse_block.specs.declared.entry.Entry.{Entry}
-use Rattle.sparse_block.specs.Entries.{AreEntries}
+use Rattle.sparse_block.specs.Entries.{Entry, AreEntries}
 use Rattle.sparse_block.specs.Inside.{entries_in, lists_in, lines_in}
 
 abbrev pub items : SmallVec Entry → List Entry

@@ -13,10 +13,9 @@ use Rattle.std.proofs.lemmas.List.{get_or-set_other, get_or-set_same, length-set
 use Rattle.kh_types.specs.Complex.{Degree, Pivot, IsComplex, IsPivot, cancel, degree_of, without_place}
 use Rattle.kh_types.specs.Generators.{Generator}
 use Rattle.prime_field.specs.Residues.{IsField}
-use Rattle.sparse_block.specs.declared.entry.Entry.{Entry}
 use Rattle.sparse_block.specs.Clearing.{crossed_out, crossed_out_before, emptied, emptied_before, with_dead, without}
 use Rattle.sparse_block.specs.Complexes.{NamedComplex, column_of, row_of}
-use Rattle.sparse_block.specs.Entries.{entries_of}
+use Rattle.sparse_block.specs.Entries.{Entry, entries_of}
 use Rattle.sparse_block.specs.Inside.{IsKept}
 use Rattle.sparse_block.proofs.CancelledDegrees.{degree-at_pivot, degree-after_pivot, degree-before_pivot, degree-elsewhere}
 use Rattle.sparse_block.proofs.CancelledLists.{Beside, HaveOwn, alive-line, alive-within, beside, column-line, k-within, row-line, set-without_place}

@@ -9,8 +9,7 @@ use Rattle.std.proofs.lemmas.List.{append-nil, length-map, length-set, length-ta
 use Rattle.std.proofs.lemmas.List.FromFn.{length-map-range_with_len, get_or-map-range_with_len, fill_by_all}
 use Rattle.std.proofs.lemmas.Bool.Decides.{eqb_tells}
 use Rattle.kh_types.specs.Complex.{entry_in}
-use Rattle.sparse_block.specs.declared.entry.Entry.{Entry}
-use Rattle.sparse_block.specs.Entries.{entry_at, entries_from, entries_of, value_at, line_of, AreEntries}
+use Rattle.sparse_block.specs.Entries.{Entry, entry_at, entries_from, entries_of, value_at, line_of, AreEntries}
 use Rattle.sparse_block.specs.Complexes.{matrix_from, column_in}
 use Rattle.sparse_block.specs.Inside.{HaveColumn}
 use Rattle.sparse_block.proofs.AscendingLemmas.{entries-ascend}

@@ -16,11 +16,10 @@ use Rattle.std.proofs.lemmas.Slice.Eq.{bytes_eq-Decides}
 use Rattle.kh_types.specs.Complex.{Complex, Pivot, IsPivot, cancel}
 use Rattle.kh_types.specs.Generators.{Generator}
 use Rattle.prime_field.specs.Residues.{IsField}
-use Rattle.sparse_block.specs.declared.entry.Entry.{Entry}
 use Rattle.sparse_block.specs.Changes.{PlacedLine, AreChanged, placed}
 use Rattle.sparse_block.specs.Clearing.{AreExchanged, crossed_out, emptied, without}
 use Rattle.sparse_block.specs.Complexes.{NamedComplex, column_of, place_count, row_of}
-use Rattle.sparse_block.specs.Entries.{entries_of, value_at}
+use Rattle.sparse_block.specs.Entries.{Entry, entries_of, value_at}
 use Rattle.sparse_block.specs.Inside.{IsKept}
 use Rattle.sparse_block.proofs.CancelledLists.{HaveOwn, column_place, k-within, row_place}
 use Rattle.sparse_block.proofs.ClearedLists.{SameSizes, crossed_out-line, crossed_out-other, crossed_out-sizes, emptied-apart, emptied-other, emptied-same, emptied-sizes, line_at, lines_at, sizes-set, sizes-then}

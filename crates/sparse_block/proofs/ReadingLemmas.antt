@@ -7,8 +7,7 @@ use Rattle.std.proofs.lemmas.Bool.Decides.{leb_tells}
 use Rattle.std.proofs.lemmas.Int.{ints}
 use Rattle.std.proofs.lemmas.List.{length-map, get_or_past, get_or_default}
 use Rattle.kh_types.specs.Complex.{Complex, Degree, IsComplex, empty_degree, degree_number, degree_from, degree_of, entry_of}
-use Rattle.sparse_block.specs.declared.entry.Entry.{Entry}
-use Rattle.sparse_block.specs.Entries.{AreEntries, entries_of}
+use Rattle.sparse_block.specs.Entries.{Entry, AreEntries, entries_of}
 use Rattle.sparse_block.specs.Complexes.{column_of, row_of, place_count}
 use Rattle.sparse_block.proofs.EntryLemmas.{entries-entries_of}
 

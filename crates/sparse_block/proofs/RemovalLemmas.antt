@@ -7,8 +7,7 @@ use Rattle.std.proofs.lemmas.Bool.{eqb-true}
 use Rattle.std.proofs.lemmas.Bool.Decides.{eqb_tells}
 use Rattle.std.proofs.lemmas.List.Quantifiers.{position-Some}
 use Rattle.kh_types.proofs.Lists.{unwrap_or-position}
-use Rattle.sparse_block.specs.declared.entry.Entry.{Entry}
-use Rattle.sparse_block.specs.Entries.{entries_of, value_at, AreEntries}
+use Rattle.sparse_block.specs.Entries.{Entry, entries_of, value_at, AreEntries}
 use Rattle.sparse_block.specs.Clearing.{without}
 use Rattle.sparse_block.proofs.AscendingLemmas.{Ascend, entries-ascend, entries-from_ascend, ascend-earlier, ascend-place}
 use Rattle.sparse_block.proofs.EntryLemmas.{value_at-here, value_at-later, entries_of-line_of, map-range_agree}

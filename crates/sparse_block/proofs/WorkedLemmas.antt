@@ -15,9 +15,8 @@ use Rattle.smallvec.specs.SmallVec.{SmallVec}
 use Rattle.kh_types.specs.Complex.{IsComplex, IsPivot, Pivot, cancel, pivot_at}
 use Rattle.kh_types.specs.Generators.{Generator, generator_of}
 use Rattle.kh_types.proofs.ComplexLemmas.{complex-from_test}
-use Rattle.sparse_block.specs.declared.entry.Entry.{Entry}
 use Rattle.sparse_block.specs.Changes.{Exchange, PlacedLine, AreChanged, placed}
-use Rattle.sparse_block.specs.Entries.{AreEntries, entry_at, entries_of}
+use Rattle.sparse_block.specs.Entries.{Entry, AreEntries, entry_at, entries_of}
 use Rattle.sparse_block.specs.Complexes.{HaveEntries, NamedComplex, SquaresToZero, column_of, place_count, row_of, sparse_complex}
 use Rattle.sparse_block.specs.Inside.{lists_in, lines_in, entries_in}
 use Rattle.sparse_block.specs.Worked.{worked_names, worked_columns, worked_complex, worked_change, middle_names, middle_columns, middle_complex, middle_change}
@@ -63,13 +62,13 @@ columns-made a b c d first second third fourth made are firsts seconds thirds fo
 -- and what `ColumnComplex::new` asks of it
 
 -- each list has fewer names than can be counted
-few-names : (names : List (List Generator)) → AllByRecursion (λ degree. length degree < 2 ^ 32) names
-    → All (λ degree. length degree < 2 ^ 32) names
-few-names names few = All-from_recursion (λ (degree : List Generator). length degree < 2 ^ 32) names few
+few-names : (names : List (List Generator)) → AllByRecursion (λ degree. length degree < 2 ^ 29) names
+    → All (λ degree. length degree < 2 ^ 29) names
+few-names names few = All-from_recursion (λ (degree : List Generator). length degree < 2 ^ 29) names few
 
 pub record CanBuild (p : ℕ) (low : ℤ) (names : List (List Generator)) (columns : List (List (List Entry))) : Type 0 where
   pub some : 0 < length names
-  pub counts : All (λ degree. length degree < 2 ^ 32) names
+  pub counts : All (λ degree. length degree < 2 ^ 29) names
   pub sizes : map length columns ≡ map length names
   pub entries : HaveEntries p names columns
   pub squares : SquaresToZero p (sparse_complex low names columns).complex

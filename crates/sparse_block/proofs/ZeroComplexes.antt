@@ -9,8 +9,7 @@ use Rattle.std.proofs.lemmas.List.{get_or-replicate, get_or_default, length-map,
 use Rattle.kh_types.specs.Complex.{Complex, Degree, IsComplex, degree_from, degree_of, entry_in, entry_of}
 use Rattle.kh_types.specs.Generators.{Generator}
 use Rattle.kh_types.proofs.ListSums.{sum_by-zeros}
-use Rattle.sparse_block.specs.declared.entry.Entry.{Entry}
-use Rattle.sparse_block.specs.Entries.{AreEntries, entries_from, entries_of, value_at}
+use Rattle.sparse_block.specs.Entries.{Entry, AreEntries, entries_from, entries_of, value_at}
 use Rattle.sparse_block.specs.Complexes.{complex_from, degree_from_lists, degrees_from, matrix_from, no_columns}
 use Rattle.sparse_block.specs.Inside.{IsKept, row_entries}
 use Rattle.sparse_block.proofs.BuildLemmas.{columns-built, complex-built}
@@ -77,7 +76,7 @@ module _ (p : ℕ) (low : ℤ) (alive : List (List Bool)) where
       (λ i row column. grind (arith, nat_tests, sum_by-zeros, zero-mod, entry-zero))
 
   pub kept-zero : (names : List (List Generator)) (columns rows : List (List (List Entry))) → 0 < p → 0 < length names
-      → (low +ℤ pos (length names)) ≤ℤ pos 32767 → All (λ degree. length degree < 2 ^ 32) names
+      → (low +ℤ pos (length names)) ≤ℤ pos 32767 → All (λ degree. length degree < 2 ^ 29) names
       → map length alive ≡ map length names → columns ≡ no_columns alive
       → rows ≡ map row_entries (degrees_from alive (no_columns alive)) → IsKept p low names alive columns rows
   kept-zero names columns rows positive some end counts sizes are_columns are_rows =

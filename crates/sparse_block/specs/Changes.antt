@@ -2,8 +2,7 @@
 use Rattle.std.specs.Prelude.{◌≡◌, ◌≢◌, ℕ, ◌<◌, List, map, All}
 use Rattle.std.specs.List.{Contains}
 use Rattle.kh_types.specs.Complex.{Pivot}
-use Rattle.sparse_block.specs.declared.entry.Entry.{Entry}
-use Rattle.sparse_block.specs.Entries.{entries_of}
+use Rattle.sparse_block.specs.Entries.{Entry, entries_of}
 
 -- a column or a row of a matrix: its place, and its entries
 pub record PlacedLine : Type 0 where

@@ -1,8 +1,7 @@
 -- How columns and rows in memory change in a cancellation: lines are exchanged, and lines are emptied with what stands across.
 use Rattle.std.specs.Prelude.{◌≡◌, ℕ, zero, suc, ◌<◌, List, [], length, map, nat_eq, not, slice_index_or, slice_set, Bool, false, All, ◌⊎◌}
 use Rattle.std.specs.List.{filter, Contains}
-use Rattle.sparse_block.specs.declared.entry.Entry.{Entry}
-use Rattle.sparse_block.specs.Entries.{value_at, AreEntries}
+use Rattle.sparse_block.specs.Entries.{Entry, value_at, AreEntries}
 use Rattle.sparse_block.specs.Changes.{PlacedLine, placed, places_of}
 
 -- the entries of a line that are not at this place

@@ -3,8 +3,7 @@ use Rattle.std.specs.Prelude.{◌≡◌, ℕ, ◌+◌, ◌<◌, ◌^◌, ℤ, po
 use Rattle.std.specs.List.{range_with_len}
 use Rattle.kh_types.specs.Complex.{Complex, Degree, degree_of, product_entry}
 use Rattle.kh_types.specs.Generators.{Generator, generator_of}
-use Rattle.sparse_block.specs.declared.entry.Entry.{Entry}
-use Rattle.sparse_block.specs.Entries.{value_at, AreEntries}
+use Rattle.sparse_block.specs.Entries.{Entry, value_at, AreEntries}
 
 -- a complex, and for each degree from the least one on the generators that its places stand for, in the order of places
 pub record NamedComplex : Type 0 where
@@ -82,7 +81,7 @@ SquaresToZero p complex = (i : ℤ) (row column : ℕ) → product_entry p compl
 pub record MakeComplex (p : ℕ) (low : ℤ) (names : List (List Generator)) (columns : List (List (List Entry))) : Type 0 where
   pub some : 0 < length names
   pub end : (low +ℤ pos (length names)) ≤ℤ pos 32767
-  pub counts : All (λ degree. length degree < 2 ^ 32) names
+  pub counts : All (λ degree. length degree < 2 ^ 29) names
   pub sizes : map length columns ≡ map length names
   pub entries : HaveEntries p names columns
   pub squares : SquaresToZero p (sparse_complex low names columns).complex

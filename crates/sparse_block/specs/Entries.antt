@@ -1,13 +1,21 @@
 -- Lists of entries, and the lines of numbers, columns and rows of a matrix, that they denote (this project's rule).
-use Rattle.std.specs.Prelude.{ℕ, ◌<◌, List, map, nat_eq, not, All}
+use Rattle.std.specs.Prelude.{ℕ, ◌<◌, Bool, ◌&&◌, List, map, nat_eq, not, All}
 use Rattle.std.specs.List.{filter, find, enumerate_from, range_with_len}
 use Rattle.std.specs.List.Sorted.{IsStrictlyIncreasing}
 use Rattle.std.specs.Option.{option_map_or}
-use Rattle.sparse_block.specs.declared.entry.Entry.{Entry}
+
+-- an entry other than zero of a line: its place there, and its value
+pub record Entry : Type 0 where
+  pub place : ℕ
+  pub value : ℕ
 
 -- an entry, by its place and its value
 abbrev pub entry_at : ℕ × ℕ → Entry
 entry_at at = record { place = at.0; value = at.1 }
+
+-- whether two entries have the same place and the same value
+abbrev pub are_alike : Entry → Entry → Bool
+are_alike x y = nat_eq x.place y.place && nat_eq x.value y.value
 
 -- the entries of a line of numbers whose first place has this number: those other than 0, each with its place, in order
 abbrev pub entries_from : ℕ → List ℕ → List Entry

@@ -5,8 +5,7 @@ use Rattle.std.specs.List.{range_with_len}
 use Rattle.smallvec.specs.SmallVec.{SmallVec}
 use Rattle.kh_types.specs.Complex.{Degree, IsComplex}
 use Rattle.kh_types.specs.Generators.{Generator}
-use Rattle.sparse_block.specs.declared.entry.Entry.{Entry}
-use Rattle.sparse_block.specs.Entries.{entries_of, entries_from, value_at}
+use Rattle.sparse_block.specs.Entries.{Entry, entries_of, entries_from, value_at}
 use Rattle.sparse_block.specs.Complexes.{NamedComplex, column_in, complex_from, degrees_from}
 
 -- vectors in memory, as lists
@@ -40,7 +39,7 @@ pub record IsKept (p : ℕ) (low : ℤ) (names : List (List Generator)) (alive :
     (columns rows : List (List (List Entry))) : Type 0 where
   pub some : 0 < length names
   pub end : (low +ℤ pos (length names)) ≤ℤ pos 32767
-  pub counts : All (λ degree. length degree < 2 ^ 32) names
+  pub counts : All (λ degree. length degree < 2 ^ 29) names
   pub sizes : map length alive ≡ map length names
   pub is_complex : IsComplex p (complex_from low alive columns)
   pub are_columns : columns ≡ map column_entries (degrees_from alive columns)

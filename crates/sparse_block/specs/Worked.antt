@@ -4,8 +4,7 @@
 use Rattle.std.specs.Prelude.{ℕ, neg_ℤ, pos, List, [], ◌∷◌}
 use Rattle.kh_types.specs.Complex.{pivot_at}
 use Rattle.kh_types.specs.Generators.{Generator, generator_of}
-use Rattle.sparse_block.specs.declared.entry.Entry.{Entry}
-use Rattle.sparse_block.specs.Entries.{entry_at}
+use Rattle.sparse_block.specs.Entries.{Entry, entry_at}
 use Rattle.sparse_block.specs.Changes.{Exchange, placed}
 use Rattle.sparse_block.specs.Complexes.{NamedComplex, sparse_complex}
 

@@ -27,7 +27,7 @@ pub(crate) fn build<F: PrimeField>(
 ) -> Result<Complex<F>, NoMemory>
     requires some { 0 < length names.items }
     requires end { (low +ℤ pos (length names.items)) ≤ℤ pos 32767 }
-    requires counts { All (λ degree. length degree < 2 ^ 32) (lists_in names.items) }
+    requires counts { All (λ degree. length degree < 2 ^ 29) (lists_in names.items) }
     requires sizes { map length (lines_in columns.items) ≡ map length (lists_in names.items) }
     requires entries { HaveEntries F.P (lists_in names.items) (lines_in columns.items) }
     requires squares { SquaresToZero F.P
@@ -60,7 +60,7 @@ impl<F: PrimeField> Complex<F> {
     ) -> Result<Complex<F>, NoMemory>
         requires some { 0 < length names.items }
         requires end { (low +ℤ pos (length names.items)) ≤ℤ pos 32767 }
-        requires counts { All (λ degree. length degree < 2 ^ 32) (lists_in names.items) }
+        requires counts { All (λ degree. length degree < 2 ^ 29) (lists_in names.items) }
         requires sizes { map length (lists_in alive.items) ≡ map length (lists_in names.items) }
         ensures { IfOk result (λ made.
             made ≡ zero_complex low (lists_in names.items) (lists_in alive.items)) }
@@ -133,7 +133,7 @@ fn all_rows(
     names: &[Vec<Generator>],
     columns: &[Vec<SmallVec<Entry, INLINE_ENTRIES>>],
 ) -> Result<Vec<HeldLines>, NoMemory>
-    requires counts { All (λ degree. length degree < 2 ^ 32) (lists_in names.now) }
+    requires counts { All (λ degree. length degree < 2 ^ 29) (lists_in names.now) }
     requires sizes { map length (lines_in columns.now) ≡ map length (lists_in names.now) }
     requires entries { (p : ℕ) × HaveEntries p (lists_in names.now) (lines_in columns.now) }
     ensures { IfOk result (λ made. made.items
@@ -154,7 +154,7 @@ fn degree_rows(
     k: usize,
 ) -> Result<Vec<SmallVec<Entry, INLINE_ENTRIES>>, NoMemory>
     requires degree { k < length names.now }
-    requires counts { All (λ degree. length degree < 2 ^ 32) (lists_in names.now) }
+    requires counts { All (λ degree. length degree < 2 ^ 29) (lists_in names.now) }
     requires sizes { map length (lines_in columns.now) ≡ map length (lists_in names.now) }
     requires entries { (p : ℕ) × HaveEntries p (lists_in names.now) (lines_in columns.now) }
     ensures { IfOk result (λ made. entries_in made.items

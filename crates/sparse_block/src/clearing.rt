@@ -126,7 +126,7 @@ fn remove_from_each(lines: &mut HeldLines, entries: &[Entry], place: u32)
     ensures { lines.new ≡ map (without place) lines.old }
 {
     'entries: for entry in entries {
-        lines.remove(entry.place, place);
+        lines.remove(entry.place(), place);
     }
 }
 
@@ -143,5 +143,5 @@ pub(crate) fn remove(line: &mut Entries, place: u32)
 fn position_of(entries: &[Entry], place: u32) -> Option<usize>
     ensures { result ≡ position (λ entry. nat_eq entry.place place) entries.now }
 {
-    entries.iter().position(|entry| entry.place == place)
+    entries.iter().position(|entry| entry.place() == place)
 }

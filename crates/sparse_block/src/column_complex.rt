@@ -55,7 +55,7 @@ impl<F: PrimeField> ColumnComplex<F> {
     ) -> ColumnComplex<F>
         requires some { 0 < length names.items }
         requires end { (low +ℤ pos (length names.items)) ≤ℤ pos 32767 }
-        requires counts { All (λ degree. length degree < 2 ^ 32) (lists_in names.items) }
+        requires counts { All (λ degree. length degree < 2 ^ 29) (lists_in names.items) }
         requires sizes { map length (lines_in columns.items) ≡ map length (lists_in names.items) }
         requires entries { HaveEntries F.P (lists_in names.items) (lines_in columns.items) }
         requires squares { SquaresToZero F.P

@@ -8,7 +8,7 @@ use crate::Generator;
 
 /// How many names degree number `k` has, none past the last degree.
 pub(crate) fn name_count(names: &[Vec<Generator>], k: usize) -> u32
-    requires { All (λ degree. length degree < 2 ^ 32) (lists_in names.now) }
+    requires { All (λ degree. length degree < 2 ^ 29) (lists_in names.now) }
     ensures { result ≡ length (slice_index_or (lists_in names.now) k []) }
 {
     match names.get(k) {
@@ -26,7 +26,7 @@ pub(crate) fn place_count(alive: &[Vec<bool>], k: usize) -> usize
 
 /// How many places of degree number `k` are alive, none past the last degree.
 pub(crate) fn alive_count(alive: &[Vec<bool>], k: usize) -> u32
-    requires { All (λ degree. length degree < 2 ^ 32) (lists_in alive.now) }
+    requires { All (λ degree. length degree < 2 ^ 29) (lists_in alive.now) }
     ensures { result ≡ count_by (λ is_alive. is_alive) (slice_index_or (lists_in alive.now) k []) }
 {
     match alive.get(k) {

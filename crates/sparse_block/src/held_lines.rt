@@ -31,7 +31,7 @@ pub(crate) struct HeldLines {
 
 impl Model for HeldLines {
     ghost use Rattle.std.specs.Prelude.{List};
-    ghost use Rattle.sparse_block.specs.declared.entry.Entry.{Entry as Item};
+    ghost use Rattle.sparse_block.specs.Entries.{Entry as Item};
     ghost use Rattle.sparse_block.specs.Held.{AreHeld, padded};
     ghost use Rattle.sparse_block.specs.Inside.{entries_in};
 

@@ -8,7 +8,7 @@ ghost use Rattle.prime_field.specs.Residues.{IsField};
 ghost use Rattle.sparse_block.specs.Complexes.{column_of, place_count, row_of};
 ghost use Rattle.sparse_block.specs.Entries.{AreEntries, entries_of, entry_at, line_of, value_at};
 ghost use Rattle.sparse_block.specs.Worked.{worked_complex};
-ghost use Rattle.sparse_block.specs.declared.entry.Entry.{Entry as Item};
+ghost use Rattle.sparse_block.specs.Entries.{Entry as Item};
 
 use crate::Complex;
 use prime_field::PrimeField;
@@ -19,7 +19,7 @@ pub fn complex_laws<F: PrimeField>(complex: &Complex<F>)
     ensures some { 0 < length complex.now.complex.degrees }
     ensures end { (complex.now.complex.low
         +ℤ pos (length complex.now.complex.degrees)) ≤ℤ pos 32767 }
-    ensures counts { All (λ degree. length degree.alive < 2 ^ 32) complex.now.complex.degrees }
+    ensures counts { All (λ degree. length degree.alive < 2 ^ 29) complex.now.complex.degrees }
     ensures names { map length complex.now.names
         ≡ map (λ degree. length degree.alive) complex.now.complex.degrees }
 {

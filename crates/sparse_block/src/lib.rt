@@ -18,7 +18,7 @@ mod reading;
 pub use change::{Change, Line};
 pub use column_complex::{ColumnComplex, ColumnParts};
 pub use complex::Complex;
-pub use entry::{Entry, INLINE_ENTRIES};
+pub use entry::{Entry, INLINE_ENTRIES, MOST_PLACES, MOST_VALUES};
 pub use generator::Generator;
 pub use laws::complex_laws;
 pub use reading::{column_at, row_at, value_at};

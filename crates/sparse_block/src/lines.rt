@@ -3,6 +3,7 @@
 ghost use Rattle.std.specs.Prelude.{◌≡◌, ℕ, ◌<◌, ◌≤◌, ◌^◌, [], ◌∷◌, ◌++◌, length, map, replicate};
 ghost use Rattle.std.specs.Prelude.{slice_set, slice_index_or, All, IfOk, OnOk};
 ghost use Rattle.sparse_block.specs.Complexes.{matrix_from};
+ghost use Rattle.sparse_block.specs.declared.entry.TheConstants.{MOST_PLACES};
 ghost use Rattle.sparse_block.specs.Entries.{AreEntries, entries_of};
 ghost use Rattle.sparse_block.specs.Inside.{entries_in, HaveColumn};
 
@@ -28,7 +29,7 @@ pub(crate) fn rows_of(
     height: u32,
     columns: &[SmallVec<Entry, INLINE_ENTRIES>],
 ) -> Result<Vec<SmallVec<Entry, INLINE_ENTRIES>>, NoMemory>
-    requires count { length columns.now < 2 ^ 32 }
+    requires count { length columns.now < 2 ^ 29 }
     requires entries { (p : ℕ) × All (AreEntries p height) (entries_in columns.now) }
     ensures { IfOk result (λ rows. entries_in rows.items
         ≡ map entries_of (matrix_from height (entries_in columns.now))) }
@@ -57,20 +58,13 @@ fn push_column(
     column: u32,
     entries: &[Entry],
 ) -> Result<(), NoMemory>
-    requires { (p : ℕ) × AreEntries p (length rows.old.items) entries.now }
+    requires column { column < MOST_PLACES }
+    requires entries { (p : ℕ) × AreEntries p (length rows.old.items) entries.now }
     ensures { OnOk result
         (HaveColumn column entries.now (entries_in rows.old.items) (entries_in rows.new.items)) }
 {
     'entries: for entry in entries {
-        let value = entry.value;
-        push_entry(
-            rows,
-            entry.place,
-            Entry {
-                place: column,
-                value,
-            },
-        )?;
+        push_entry(rows, entry.place(), Entry::new(column, entry.value()))?;
     }
     Ok(())
 }

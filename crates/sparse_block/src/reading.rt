@@ -37,8 +37,8 @@ pub fn row_at<F: PrimeField>(complex: &Complex<F>, i: i16, place: u32) -> &[Entr
 pub fn value_at(entries: &[Entry], place: u32) -> u8
     ensures { result ≡ value_at entries.now place }
 {
-    match entries.iter().find(|entry| entry.place == place) {
-        Some(entry) => entry.value,
+    match entries.iter().find(|entry| entry.place() == place) {
+        Some(entry) => entry.value(),
         None => 0,
     }
 }

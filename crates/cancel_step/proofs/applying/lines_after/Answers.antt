@@ -1,9 +1,8 @@
-use Rattle.std.proofs.Common.{◌≡◌, ◌∙◌, List, map, get_or, ap, ap₂, sym, subst, arith}
+use Rattle.std.proofs.Common.{◌≡◌, ◌∙◌, ℕ, ◌<◌, List, [], ◌∷◌, ◌++◌, map, get_or, ap, ap₂, sym, subst, arith}
 use Rattle.std.proofs.lemmas.List.{take_all}
 use Rattle.kh_types.specs.Complex.{cancel}
 use Rattle.prime_field.specs.Residues.{inverse_mod, product_mod}
-use Rattle.sparse_block.specs.declared.entry.Entry.{Entry}
-use Rattle.sparse_block.specs.Entries.{AreEntries, entries_of, value_at}
+use Rattle.sparse_block.specs.Entries.{Entry, AreEntries, entries_of, value_at}
 use Rattle.cancel_step.specs.Copies.{line_across}
 use Rattle.cancel_step.specs.Sides.{line_on, other_side, place_on}
 use Rattle.cancel_step.specs.declared.side.Side.{Side}
@@ -58,7 +57,8 @@ of-requires g c =
     let are : AreEntries p size across =
     subst (AreEntries p size) (sym (is_across g at))
     (entries-on side p complex pivot.degree (place_on side pivot) c.complex_laws.ensures.complex) in
-    entry-below p size c.entries.entry-index across (record { place = 0; value = 0 }) are c.entries-test.true
+    subst (λ (value : ℕ). value < p) (sym (c.value.ensures.value ∙ ap (λ (entry : Entry). entry.value) c.entry-item.is))
+    (entry-below p size c.entries.entry-index across c.entry-item.result are c.entries-test.true)
 
 pub quotient-factor-requires : goal.quotient-factor-requires
 quotient-factor-requires g c none =
@@ -76,8 +76,7 @@ subtract_into-requires-clause-line g c =
     let complex = c.args.complex.now.complex in
     let degree = c.args.pivot.degree in
     let side = c.args.side in
-    let blank : Entry = record { place = 0; value = 0 } in
-    let place = (get_or c.own_entries-across.result.now c.entries.entry-index blank).place in
+    let place = c.place-place.result in
     let are : AreEntries p (size_on side complex degree) c.entries_beside-line.result.now =
     subst (AreEntries p (size_on side complex degree)) (sym c.entries_beside-line.ensures)
     (entries-on side p complex degree place c.complex_laws.ensures.complex) in
@@ -91,17 +90,28 @@ subtract_into-requires-clause-other g c =
 pub entries-preserved : goal.entries-preserved
 entries-preserved g c =
     let at = (goal.at.entries-preserved g c).After-place_on in
-    let blank : Entry = record { place = 0; value = 0 } in
-    line_more g.F.PrimeField.P c.args.complex.now.complex c.args.pivot c.element_laws.ensures.field
+    let entry = c.entry-item.result in
+    let is_entry = c.entry-item.is in
+    let complex = c.args.complex.now.complex in
+    let at_place = c.place-place.ensures.place ∙ ap (λ (entry : Entry). entry.place) is_entry in
+    let line : c.entries_beside-line.result.now
+        ≡ entries_of (line_on c.args.side complex c.args.pivot.degree (get_or c.own_entries-across.result.now c.entries.entry-index entry).place) =
+    c.entries_beside-line.ensures ∙ ap (λ (place : ℕ). entries_of (line_on c.args.side complex c.args.pivot.degree place)) at_place in
+    let pushed =
+    subst
+    (λ (place : ℕ).
+        c.push.new.self.items ≡ c.entries.lines.items ++ record { place = place; entries = c.in_ok-entries.entries.items } ∷ [])
+    at_place c.in_ok-push.ensures.items in
+    line_more g.F.PrimeField.P complex c.args.pivot c.element_laws.ensures.field
     c.complex_laws.ensures.complex c.requires c.args.side c.own_entries-across.result.now c.entries_beside-line.result.now
     c.own_entries-own.result.now c.in_ok-entries.entries.items c.entries.entry-index
-    (g.F.PrimeField.value_of c.quotient-factor.result) c.value_at.result blank c.entries.lines.items c.push.new.self.items
-    (is_across g at) c.entries-test.true c.entries_beside-line.ensures c.own_entries-own.ensures
+    (g.F.PrimeField.value_of c.quotient-factor.result) c.value_at.result entry c.entries.lines.items c.push.new.self.items
+    (is_across g at) c.entries-test.true line c.own_entries-own.ensures
     (c.value_at.ensures ∙ ap (value_at c.own_entries-own.result.now) (is_place g at))
     (c.quotient-factor.ensures.value
-    ∙ ap₂ (λ x y. product_mod g.F.PrimeField.P x (inverse_mod g.F.PrimeField.P y)) c.of.ensures c.of-value.ensures)
+    ∙ ap₂ (λ x y. product_mod g.F.PrimeField.P x (inverse_mod g.F.PrimeField.P y)) (c.of.ensures ∙ c.value.ensures.value ∙ ap (λ (entry : Entry). entry.value) is_entry) c.of-value.ensures)
     (λ size are are_own. c.in_ok-entries.ensures.ok ∙ c.deref.ensures.value ∙ c.in_ok-subtract_into.ensures size are are_own)
-    c.entries.invariant c.in_ok-push.ensures.items
+    c.entries.invariant pushed
 
 pub returns : goal.returns
 returns g c =

@@ -23,7 +23,7 @@ returns-then-here-there c =
       | then-at-left w ↦ inl w.if-at-left.true
       | else-at-left+then-other_at-right w ↦ inr w.if-other_at-right.true
     ]) in
-    agree_ends c.first_place-place.result left right _ _ c.places.invariant.agree more c.first_place-place.ensures
+    agree_ends c.first_place-place.result left right _ _ c.places.invariant.agree more c.first_place-place.ensures.place
     (λ same. c.if-here-there.true (c.entry_here-here.ensures.value ∙ same ∙ sym c.entry_here-there.ensures.value))
 
 pub places-smaller : goal.places-smaller
@@ -42,6 +42,6 @@ places-preserved c =
       within = c.entry_here-here.ensures.within;
       other_within = c.entry_here-there.ensures.within;
       agree = agree_step c.first_place-place.result c.entry_here-here.result.value c.entry_here-there.result.value left right _ _ _ _
-          c.places.invariant.agree more c.first_place-place.ensures c.entry_here-here.ensures.value c.entry_here-there.ensures.value
+          c.places.invariant.agree more c.first_place-place.ensures.place c.entry_here-here.ensures.value c.entry_here-there.ensures.value
           c.if-here-there.false c.entry_here-here.ensures.rest c.entry_here-there.ensures.rest;
     }

@@ -1,6 +1,6 @@
 use Rattle.std.proofs.Common.{List, subst, sym, arith, inl, inr}
 use Rattle.std.proofs.lemmas.List.{drop_all}
-use Rattle.sparse_block.specs.declared.entry.Entry.{Entry}
+use Rattle.sparse_block.specs.Entries.{Entry}
 use Rattle.cancel_step.proofs.PairLemmas.{Merged, merged_all, merged_none, merged_step}
 use Rattle.cancel_step.proofs.RestLemmas.{more-from_indices, shorter_steps}
 use Rattle.cancel_step.proofs.line_pairs.subtract_into.Goals as goal
@@ -29,7 +29,7 @@ places-smaller g c =
       | else-at-line+then-other_at-other w ↦ inr w.if-other_at-other.true
     ]) in
     shorter_steps line other c.places.at c.places.other_at c.entry_here-here.result.next c.entry_here-there.result.next
-    c.first_place-place.result more c.first_place-place.ensures c.entry_here-here.ensures.rest c.entry_here-there.ensures.rest
+    c.first_place-place.result more c.first_place-place.ensures.place c.entry_here-here.ensures.rest c.entry_here-there.ensures.rest
     c.entry_here-here.ensures.within c.entry_here-there.ensures.within
 
 pub places-preserved : goal.places-preserved
@@ -47,8 +47,8 @@ places-preserved g c =
       other_within = c.entry_here-there.ensures.within;
       merged = merged_step p (g.F.PrimeField.value_of c.args.factor) c.first_place-place.result c.less.result
           c.entry_here-here.result.value c.entry_here-there.result.value line other c.places.made.items c.push_value.new.made.items
-          _ _ _ _ c.places.invariant.merged more c.first_place-place.ensures c.entry_here-here.ensures.value
-          c.entry_here-there.ensures.value c.less.ensures c.in_ok-push_value.ensures c.entry_here-here.ensures.rest
+          _ _ _ _ c.places.invariant.merged more c.first_place-place.ensures.place c.entry_here-here.ensures.value
+          c.entry_here-there.ensures.value c.less.ensures.value c.in_ok-push_value.ensures c.entry_here-here.ensures.rest
           c.entry_here-there.ensures.rest;
     }
 

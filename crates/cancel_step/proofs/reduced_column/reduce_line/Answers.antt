@@ -1,7 +1,6 @@
 use Rattle.std.proofs.Common.{◌≡◌, ◌∙◌, List, length, get_or, sym, subst, refl}
 use Rattle.std.proofs.lemmas.List.{get_or_default}
-use Rattle.sparse_block.specs.declared.entry.Entry.{Entry}
-use Rattle.sparse_block.specs.Entries.{AreEntries, entries_of, value_at}
+use Rattle.sparse_block.specs.Entries.{Entry, AreEntries, entries_of, value_at}
 use Rattle.cancel_step.specs.Lines.{factor_at, line_less}
 use Rattle.cancel_step.specs.Reductions.{EndsAt}
 use Rattle.cancel_step.specs.StoredColumns.{StoredColumn, no_column, reduced_columns}

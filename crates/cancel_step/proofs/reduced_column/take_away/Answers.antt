@@ -1,6 +1,5 @@
 use Rattle.std.proofs.Common.{◌≡◌, List, ap, subst, arith, ◌∙◌}
-use Rattle.sparse_block.specs.declared.entry.Entry.{Entry}
-use Rattle.sparse_block.specs.Entries.{value_at}
+use Rattle.sparse_block.specs.Entries.{Entry, value_at}
 use Rattle.cancel_step.proofs.AcrossLemmas.{value-below}
 use Rattle.cancel_step.specs.Reductions.{EndsAt}
 use Rattle.cancel_step.specs.StoredColumns.{StoredColumn}

@@ -4,9 +4,8 @@ use Rattle.std.specs.Global.{Vec}
 use Rattle.std.proofs.lemmas.Int.{ints}
 use Rattle.std.proofs.lemmas.List.{length-map}
 use Rattle.smallvec.specs.SmallVec.{SmallVec}
-use Rattle.sparse_block.specs.declared.entry.Entry.{Entry}
 use Rattle.sparse_block.specs.Complexes.{MakeComplex, sparse_complex}
-use Rattle.sparse_block.specs.Entries.{AreEntries}
+use Rattle.sparse_block.specs.Entries.{Entry, AreEntries}
 use Rattle.sparse_block.specs.Inside.{entries_in, lines_in, lists_in}
 use Rattle.cancel_step.specs.StoredColumns.{AreFirstReduced, IsReducedTo, StoredColumn, stored_pivots, with_pairs}
 use Rattle.cancel_step.proofs.ReducedTo.{reduced_to-zero}
@@ -47,9 +46,9 @@ reduce_degree-requires-clause-count g c =
     let popped =
     is-popped columns c.degrees.rest.items c.pop.new.self.items c.degrees.invariant.0 c.in-Some.degree own k c.degrees.invariant.1
     c.in-Some.ensures.items c.deref-in-Some.ensures.value is_k in
-    let few : length (slice_index_or columns k []) < 2 ^ 32 = sparse-count p low names columns field can k popped.within in
+    let few : length (slice_index_or columns k []) < 2 ^ 29 = sparse-count p low names columns field can k popped.within in
     let size : length (entries_in own) ≡ length own = length-map own (λ (line : SmallVec Entry). line.items) in
-    subst (λ (n : ℕ). n < 2 ^ 32) (sym (ap length popped.own) ∙ size) few
+    subst (λ (n : ℕ). n < 2 ^ 29) (sym (ap length popped.own) ∙ size) few
 
 pub reduce_degree-requires-clause-entries : goal.reduce_degree-requires-clause-entries
 reduce_degree-requires-clause-entries g c =

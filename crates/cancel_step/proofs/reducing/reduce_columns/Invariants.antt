@@ -1,5 +1,5 @@
 use Rattle.std.proofs.Common.{◌≡◌, ◌++◌, List, length}
-use Rattle.sparse_block.specs.declared.entry.Entry.{Entry}
+use Rattle.sparse_block.specs.Entries.{Entry}
 use Rattle.sparse_block.specs.Complexes.{sparse_complex}
 use Rattle.sparse_block.specs.Inside.{lines_in, lists_in}
 use Rattle.cancel_step.specs.StoredColumns.{IsReducedTo}

@@ -1,6 +1,5 @@
 use Rattle.std.proofs.Common.{◌∙◌, [], ◌∷◌, List, ap}
-use Rattle.sparse_block.specs.declared.entry.Entry.{Entry}
-use Rattle.sparse_block.specs.Entries.{entry_at}
+use Rattle.sparse_block.specs.Entries.{Entry, entry_at}
 use Rattle.sparse_block.specs.Inside.{entries_in, lines_in}
 use Rattle.cube_tests.proofs.cancellations.columns.Goals as goal
 

@@ -1,6 +1,6 @@
 use Rattle.std.proofs.Common.{◌∙◌, List, [], ◌∷◌, ap}
 use Rattle.kh_types.specs.Generators.{Generator}
-use Rattle.sparse_block.specs.declared.entry.Entry.{Entry}
+use Rattle.sparse_block.specs.Entries.{Entry}
 use Rattle.sparse_block.specs.Inside.{lists_in, lines_in}
 use Rattle.sparse_block.proofs.WorkedLemmas.{point-build}
 use Rattle.cube_tests.proofs.sparse_complexes.point.Goals as goal

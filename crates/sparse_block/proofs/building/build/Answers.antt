@@ -4,7 +4,7 @@ use Rattle.std.proofs.lemmas.List.{length-map}
 use Rattle.std.specs.Global.{Vec}
 use Rattle.kh_types.specs.Generators.{Generator}
 use Rattle.smallvec.specs.SmallVec.{SmallVec}
-use Rattle.sparse_block.specs.declared.entry.Entry.{Entry}
+use Rattle.sparse_block.specs.Entries.{Entry}
 use Rattle.sparse_block.specs.Complexes.{all_alive, degrees_from, HaveEntries}
 use Rattle.sparse_block.specs.Inside.{lines_in, lists_in, row_entries, IsKept}
 use Rattle.sparse_block.proofs.BuildLemmas.{kept-built}

@@ -2,8 +2,7 @@ use Rattle.std.proofs.Common.{◌≡◌, ◌∙◌, ◌^◌, map}
 use Rattle.std.specs.Global.{Vec}
 use Rattle.std.proofs.lemmas.Result.{IfOk-weaker}
 use Rattle.smallvec.specs.SmallVec.{SmallVec}
-use Rattle.sparse_block.specs.declared.entry.Entry.{Entry}
-use Rattle.sparse_block.specs.Entries.{entries_of}
+use Rattle.sparse_block.specs.Entries.{Entry, entries_of}
 use Rattle.sparse_block.specs.Complexes.{all_alive, degree_from_lists, matrix_from}
 use Rattle.sparse_block.specs.Inside.{lists_in, lines_in, entries_in, row_entries}
 use Rattle.sparse_block.proofs.BuildLemmas.{rows-of_height, lines-of_degree, count-of_degree, entries-of_degree}
@@ -12,7 +11,7 @@ use Rattle.sparse_block.proofs.building.degree_rows.Goals as goal
 pub rows_of-requires-clause-count : goal.rows_of-requires-clause-count
 rows_of-requires-clause-count c =
     count-of_degree c.args.names.now c.args.columns.now c.args.k c.index-columns-k.result c.deref.result.now c.requires.sizes
-    c.requires.degree c.index-columns-k.is c.deref.ensures.value (2 ^ 32) c.requires.counts
+    c.requires.degree c.index-columns-k.is c.deref.ensures.value (2 ^ 29) c.requires.counts
 
 pub rows_of-requires-clause-entries : goal.rows_of-requires-clause-entries
 rows_of-requires-clause-entries c = (

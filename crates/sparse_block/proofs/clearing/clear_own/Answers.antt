@@ -1,5 +1,5 @@
 use Rattle.std.proofs.Common.{List, sym, subst}
-use Rattle.sparse_block.specs.declared.entry.Entry.{Entry}
+use Rattle.sparse_block.specs.Entries.{Entry}
 use Rattle.sparse_block.specs.Clearing.{CanClear, crossed_out}
 use Rattle.sparse_block.proofs.ClearedLists.{can_clear-cleared}
 use Rattle.sparse_block.proofs.clearing.clear_own.Goals as goal

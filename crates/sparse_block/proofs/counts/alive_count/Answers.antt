@@ -10,5 +10,5 @@ overflow_cast-result c =
       arith,
       c.live_count.ensures.within,
       ap length c.deref.ensures.value,
-      count-at (2 ^ 32) c.args.alive.now c.args.k degree found.3.0 found.1 c.requires,
+      count-at (2 ^ 29) c.args.alive.now c.args.k degree found.3.0 found.1 c.requires,
     )

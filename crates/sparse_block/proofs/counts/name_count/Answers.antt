@@ -6,4 +6,4 @@ pub overflow_cast-result : goal.overflow_cast-result
 overflow_cast-result c =
     let degree = c.in-Some.degree.now in
     let found = c.in-Some.ensures.lookup in
-    omega (arith, c.len.ensures, count-at (2 ^ 32) c.args.names.now c.args.k degree found.3.0 found.1 c.requires)
+    omega (arith, c.len.ensures, count-at (2 ^ 29) c.args.names.now c.args.k degree found.3.0 found.1 c.requires)

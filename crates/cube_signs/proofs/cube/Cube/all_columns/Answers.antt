@@ -3,7 +3,7 @@ use Rattle.std.specs.Global.{Vec}
 use Rattle.std.proofs.lemmas.List.{map_push}
 use Rattle.smallvec.specs.SmallVec.{SmallVec}
 use Rattle.kh_types.specs.Generators.{generators_at}
-use Rattle.sparse_block.specs.declared.entry.Entry.{Entry}
+use Rattle.sparse_block.specs.Entries.{Entry}
 use Rattle.sparse_block.specs.Inside.{entries_in, lines_in}
 use Rattle.cube_signs.proofs.BlockLemmas.{all_columns-more, are-tails, names-at}
 use Rattle.cube_signs.proofs.cube.Cube.all_columns.Goals as goal

@@ -18,5 +18,5 @@ returns-clause-small c =
     let inside = c.self.inside in
     let are : AreTables c.args.self.now inside.minus inside.shapes.items inside.rows.items inside.weights.items inside.ranks.items (lists_in inside.levels.items) =
     rw (← c.self.view_is) c.self.invariant in
-    subst (λ (ranks : List ℕ). All (λ rank. rank < 2 ^ 31) ranks) (sym c.deref.ensures.value)
+    subst (λ (ranks : List ℕ). All (λ rank. rank < 2 ^ 28) ranks) (sym c.deref.ensures.value)
     (small-ranks c.args.self.now inside.minus inside.shapes.items inside.rows.items inside.weights.items inside.ranks.items (lists_in inside.levels.items) are)

@@ -1,7 +1,7 @@
 use Rattle.std.proofs.Common.{◌≡◌, List, pos, neg_ℤ, subst, subst₂}
 use Rattle.std.specs.Prelude.{IfOk}
 use Rattle.kh_types.specs.Generators.{Generator}
-use Rattle.sparse_block.specs.declared.entry.Entry.{Entry}
+use Rattle.sparse_block.specs.Entries.{Entry}
 use Rattle.sparse_block.specs.Complexes.{NamedComplex, sparse_complex}
 use Rattle.sparse_block.specs.Inside.{lists_in, lines_in}
 use Rattle.sparse_block.proofs.WorkedLemmas.{middle-build}

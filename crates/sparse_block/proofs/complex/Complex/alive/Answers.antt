@@ -10,8 +10,8 @@ use Rattle.sparse_block.proofs.complex.Complex.alive.Goals as goal
 
 pub alive_count-requires : goal.alive_count-requires
 alive_count-requires g c =
-    subst (λ (alive : List (Vec Bool)). All (λ (degree : List Bool). length degree < 2 ^ 32) (lists_in alive))
-    (sym c.deref.ensures.value) (alive-counts (2 ^ 32) c.self.invariant c.self.invariant.counts)
+    subst (λ (alive : List (Vec Bool)). All (λ (degree : List Bool). length degree < 2 ^ 29) (lists_in alive))
+    (sym c.deref.ensures.value) (alive-counts (2 ^ 29) c.self.invariant c.self.invariant.counts)
 
 pub returns : goal.returns
 returns g c =

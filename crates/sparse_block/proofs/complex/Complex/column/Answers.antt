@@ -1,6 +1,6 @@
 use Rattle.std.proofs.Common.{◌∙◌, [], List, ap, rules}
 use Rattle.std.specs.Prelude.{slice_index_or}
-use Rattle.sparse_block.specs.declared.entry.Entry.{Entry}
+use Rattle.sparse_block.specs.Entries.{Entry}
 use Rattle.sparse_block.proofs.KeptLemmas.{distance-from, within-degrees, column-at}
 use Rattle.sparse_block.proofs.complex.Complex.column.Goals as goal
 

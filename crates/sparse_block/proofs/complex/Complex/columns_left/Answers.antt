@@ -2,7 +2,7 @@ use Rattle.std.proofs.Common.{◌∙◌, List, [], ap, arith, length, rules, sym
 use Rattle.std.specs.Prelude.{slice_index_or}
 use Rattle.std.specs.Global.{Vec}
 use Rattle.kh_types.specs.Generators.{Generator}
-use Rattle.sparse_block.specs.declared.entry.Entry.{Entry}
+use Rattle.sparse_block.specs.Entries.{Entry}
 use Rattle.sparse_block.specs.Held.{no_entries}
 use Rattle.sparse_block.specs.Inside.{lists_in}
 use Rattle.sparse_block.proofs.KeptLemmas.{columns-none, distance-from, places-at}

@@ -4,7 +4,7 @@ use Rattle.std.specs.Prelude.{slice_index_or}
 use Rattle.std.specs.Global.{Vec}
 use Rattle.std.proofs.lemmas.List.{length-map}
 use Rattle.kh_types.specs.Complex.{pivot_at}
-use Rattle.sparse_block.specs.declared.entry.Entry.{Entry}
+use Rattle.sparse_block.specs.Entries.{Entry}
 use Rattle.sparse_block.specs.Clearing.{CanClear, crossed_out, crossed_out_before, emptied, emptied_before, with_dead}
 use Rattle.sparse_block.specs.Inside.{lists_in}
 use Rattle.sparse_block.proofs.CancelledLists.{HaveOwn, alive-within, column-alive, row-alive, clear-after, clear-before, clear-own_column, clear-own_row}

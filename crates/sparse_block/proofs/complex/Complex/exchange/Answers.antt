@@ -4,7 +4,7 @@ use Rattle.std.specs.Prelude.{slice_index_or}
 use Rattle.std.specs.Global.{Vec}
 use Rattle.std.proofs.lemmas.List.{get_or_default, length-map}
 use Rattle.kh_types.specs.Complex.{IsPivot, cancel, pivot_at}
-use Rattle.sparse_block.specs.declared.entry.Entry.{Entry}
+use Rattle.sparse_block.specs.Entries.{Entry}
 use Rattle.sparse_block.specs.Changes.{AreChanged, Exchange}
 use Rattle.sparse_block.specs.Clearing.{AreExchanged, CanClear, crossed_out, crossed_out_before, emptied, emptied_before, with_dead}
 use Rattle.sparse_block.specs.Complexes.{column_of, place_count, row_of}

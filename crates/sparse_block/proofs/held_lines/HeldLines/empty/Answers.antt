@@ -1,6 +1,6 @@
 use Rattle.std.proofs.Common.{◌≡◌, List, [], arith, refl, set, subst}
 use Rattle.std.proofs.lemmas.List.{length-map}
-use Rattle.sparse_block.specs.declared.entry.Entry.{Entry}
+use Rattle.sparse_block.specs.Entries.{Entry}
 use Rattle.sparse_block.specs.Inside.{entries_in}
 use Rattle.sparse_block.proofs.FilledLines.{padded-unset}
 use Rattle.sparse_block.proofs.LineLemmas.{items}

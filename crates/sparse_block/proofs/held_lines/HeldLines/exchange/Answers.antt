@@ -2,7 +2,7 @@ use Rattle.std.proofs.Common.{◌≡◌, ◌∙◌, List, ap, arith, length, sub
 use Rattle.std.specs.Vec.{with_items}
 use Rattle.std.proofs.lemmas.List.{length-map, with_items_is}
 use Rattle.smallvec.specs.SmallVec.{SmallVec}
-use Rattle.sparse_block.specs.declared.entry.Entry.{Entry}
+use Rattle.sparse_block.specs.Entries.{Entry}
 use Rattle.sparse_block.specs.Clearing.{AreExchanged}
 use Rattle.sparse_block.specs.Held.{no_entries, padded}
 use Rattle.sparse_block.specs.Inside.{entries_in}
