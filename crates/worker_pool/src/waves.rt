@@ -26,7 +26,7 @@ use std::thread::Threads;
 
 /// How many generators the blocks of a wave have together at most, where there is more than one
 /// block in it: half of those that a diagram has at most.
-const WAVE: u64 = 1 << 21;
+const WAVE: u64 = 1 << 22;
 
 /// The blocks at some quantum degrees, cancelled to zero by the caller alone, one after another.
 pub(crate) fn finished_alone<F: PrimeField>(
