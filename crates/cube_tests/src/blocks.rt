@@ -106,8 +106,8 @@ fn has_place<F: PrimeField>(rt: &impl Abort, block: &Complex<F>, degree: &Degree
         let column = block.column(i, place);
         assert_eq!(rt; column.len(), entries.len());
         for (entry, is) in column.iter().zip(entries.iter()) {
-            assert_eq!(rt; entry.place, is.0);
-            assert_eq!(rt; entry.value, if is.1 { F::P - 1 } else { 1 });
+            assert_eq!(rt; entry.place(), is.0);
+            assert_eq!(rt; entry.value(), if is.1 { F::P - 1 } else { 1 });
         }
     }
 }

@@ -4,21 +4,17 @@
 ghost use Rattle.std.specs.Prelude.{◌≡◌, [], ◌∷◌, IfOk};
 ghost use Rattle.kh_types.specs.Generators.{generator_of};
 ghost use Rattle.sparse_block.specs.Complexes.{HaveEntries, SquaresToZero};
-ghost use Rattle.sparse_block.specs.Inside.{entries_in, lines_in, lists_in};
+ghost use Rattle.sparse_block.specs.Inside.{lines_in, lists_in};
 ghost use Rattle.cube_tests.specs.Squares.{square, square_columns, square_names};
 
+use crate::made_complexes::{Columns, NONE, lines};
 use cancel_step::{Foreign, Pivot, apply, cancel_in_place, copy, find, finish, look, patch};
 use kh_types::NoMemory;
 use prime_field::{F5, PrimeField};
-use smallvec::SmallVec;
-use sparse_block::{ColumnComplex, Complex, Entry, Generator, INLINE_ENTRIES};
+use sparse_block::{ColumnComplex, Complex, Entry, Generator};
 use std::alloc::Global;
 use std::process::Abort;
 use std::test::Fail;
-
-const NONE: [Entry; 0] = [];
-
-type Columns = Vec<SmallVec<Entry, INLINE_ENTRIES>>;
 
 fn labels(alloc: Global, state: u32) -> Result<Vec<Generator>, NoMemory>
     ensures { IfOk result (λ made. made.items
@@ -36,22 +32,12 @@ fn names(alloc: Global) -> Result<Vec<Vec<Generator>>, NoMemory>
     Ok(vec![in alloc; first, second]?)
 }
 
-fn lines<const N: usize>(alloc: Global, columns: &[[Entry; N]]) -> Result<Columns, NoMemory>
-    ensures { IfOk result (λ made. entries_in made.items ≡ columns.now) }
-{
-    let mut made = Vec::new(alloc);
-    'columns: for column in columns {
-        made.push(SmallVec::from_slice(alloc, column)?)?;
-    }
-    Ok(made)
-}
-
 fn columns(alloc: Global, x: u8, y: u8) -> Result<Vec<Columns>, NoMemory>
     ensures { IfOk result (λ made. lines_in made.items ≡ square_columns x y) }
 {
-    let left = [Entry { place: 0, value: 1 }, Entry { place: 1, value: 2 }];
-    let middle = [Entry { place: 1, value: x }, Entry { place: 2, value: 1 }];
-    let right = [Entry { place: 0, value: y }, Entry { place: 2, value: 4 }];
+    let left = [(0, 1), (1, 2)];
+    let middle = [(1, x), (2, 1)];
+    let right = [(0, y), (2, 4)];
     let first = lines(alloc, &[left, middle, right])?;
     let second = lines(alloc, &[NONE, NONE, NONE])?;
     Ok(vec![in alloc; first, second]?)
@@ -116,8 +102,8 @@ fn check_lines(rt: &impl Abort, complex: &Complex<F5>, wanted: [[u8; 3]; 3]) {
     for row in 0..3u32 {
         let entries = row_at(complex, row);
         for column in 0..3u32 {
-            let entry = entries.iter().find(|entry| entry.place == column);
-            let value = entry.map_or(0, |entry| entry.value);
+            let entry = entries.iter().find(|entry| entry.place() == column);
+            let value = entry.map_or(0, |entry| entry.value());
             assert!(rt; value == wanted[row as usize][column as usize]);
         }
     }

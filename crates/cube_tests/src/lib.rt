@@ -7,6 +7,8 @@ mod blocks;
 #[cfg(test)]
 mod cancellations;
 #[cfg(test)]
+mod column_reductions;
+#[cfg(test)]
 mod cores;
 #[cfg(test)]
 mod homology_tables;
@@ -14,6 +16,8 @@ mod homology_tables;
 mod locks;
 #[cfg(test)]
 mod logs;
+#[cfg(test)]
+mod made_complexes;
 #[cfg(test)]
 mod polynomials;
 #[cfg(test)]

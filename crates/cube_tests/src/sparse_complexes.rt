@@ -1,49 +1,19 @@
 //! What no clause says: that `build` succeeds where there is memory, and what a worked complex
 //! reads as. Its matrices stand in `Worked` of sparse_block, and were multiplied by hand.
 
-ghost use Rattle.std.specs.Prelude.{◌≡◌, map, slice_index, IfOk};
-ghost use Rattle.std.specs.List.{range_with_len};
-ghost use Rattle.kh_types.specs.Generators.{generator_of};
+ghost use Rattle.std.specs.Prelude.{◌≡◌, slice_index, IfOk};
 ghost use Rattle.sparse_block.specs.Complexes.{HaveEntries, SquaresToZero};
-ghost use Rattle.sparse_block.specs.Entries.{entry_at};
-ghost use Rattle.sparse_block.specs.Inside.{entries_in, lines_in, lists_in};
+ghost use Rattle.sparse_block.specs.Inside.{lines_in, lists_in};
 ghost use Rattle.sparse_block.specs.Worked.{worked_columns, worked_complex, worked_names};
 
+use crate::made_complexes::{Columns, NONE, labels, lines, name};
 use kh_types::NoMemory;
 use prime_field::{F3, F5, PrimeField};
-use smallvec::SmallVec;
-use sparse_block::{ColumnComplex, Complex, Entry, Generator, INLINE_ENTRIES};
+use sparse_block::{ColumnComplex, Complex, Entry, Generator};
 use std::alloc::Global;
 use std::test::Fail;
 
-const NONE: [Entry; 0] = [];
-
 mod cancelling;
-
-type Columns = Vec<SmallVec<Entry, INLINE_ENTRIES>>;
-
-fn entry(place: u32, value: u8) -> Entry
-    ensures { result ≡ entry_at (place, value) }
-{
-    Entry { place, value }
-}
-
-fn name(state: u32, label: u64) -> Generator
-    ensures { result ≡ generator_of state label }
-{
-    Generator { state, label }
-}
-
-fn labels(alloc: Global, state: u32, count: u64) -> Result<Vec<Generator>, NoMemory>
-    ensures { IfOk result (λ made.
-        made.items ≡ map (generator_of state) (range_with_len 0 count)) }
-{
-    let mut made = Vec::new(alloc);
-    'labels: for label in 0..count {
-        made.push(name(state, label))?;
-    }
-    Ok(made)
-}
 
 fn names(alloc: Global) -> Result<Vec<Vec<Generator>>, NoMemory>
     ensures { IfOk result (λ made. lists_in made.items ≡ worked_names) }
@@ -55,31 +25,14 @@ fn names(alloc: Global) -> Result<Vec<Vec<Generator>>, NoMemory>
     Ok(vec![in alloc; first, second, third, fourth]?)
 }
 
-fn lines<const N: usize>(alloc: Global, columns: &[[Entry; N]]) -> Result<Columns, NoMemory>
-    ensures { IfOk result (λ made. entries_in made.items ≡ columns.now) }
-{
-    let mut made = Vec::new(alloc);
-    'columns: for column in columns {
-        made.push(SmallVec::from_slice(alloc, column)?)?;
-    }
-    Ok(made)
-}
-
 fn columns(alloc: Global, last: [u8; 3]) -> Result<Vec<Columns>, NoMemory>
     ensures { IfOk result (λ made. lines_in made.items ≡ worked_columns
         (slice_index last 0) (slice_index last 1) (slice_index last 2)) }
 {
-    let one = Entry { place: 1, value: 1 };
-    let left = [Entry { place: 0, value: 1 }, one];
-    let right = [one, Entry { place: 2, value: 2 }];
+    let [left, right] = [[(0, 1), (1, 1)], [(1, 1), (2, 2)]];
     let first = lines(alloc, &[left, right, left, left, right, left])?;
     let [x, y, z] = last;
-    let row = [
-        [Entry { place: 0, value: x }],
-        [Entry { place: 0, value: y }],
-        [Entry { place: 0, value: z }],
-    ];
-    let second = lines(alloc, &row)?;
+    let second = lines(alloc, &[[(0, x)], [(0, y)], [(0, z)]])?;
     let third = lines(alloc, &[NONE])?;
     let fourth = Vec::new(alloc);
     Ok(vec![in alloc; first, second, third, fourth]?)
@@ -158,11 +111,11 @@ fn numbers<F: PrimeField>(complex: &Complex<F>, i: i16, row: u32) -> [u8; 6] {
 fn columns_have_their_entries(rt: HostRuntime) -> Result<(), Fail> {
     let complex = over_three(rt.alloc())?;
     for (i, place, entries) in [
-        (-1, 0, Some([entry(0, 1), entry(1, 1)].as_slice())),
-        (-1, 4, Some([entry(1, 1), entry(2, 2)].as_slice())),
+        (-1, 0, Some([Entry::new(0, 1), Entry::new(1, 1)].as_slice())),
+        (-1, 4, Some([Entry::new(1, 1), Entry::new(2, 2)].as_slice())),
         (-1, 6, None),
-        (0, 0, Some([entry(0, 2)].as_slice())),
-        (1, 0, Some(NONE.as_slice())),
+        (0, 0, Some([Entry::new(0, 2)].as_slice())),
+        (1, 0, Some(&[])),
         (2, 0, None),
         (3, 0, None),
         (-2, 0, None),
@@ -177,21 +130,21 @@ fn columns_have_their_entries(rt: HostRuntime) -> Result<(), Fail> {
 fn rows_have_the_same_entries(rt: HostRuntime) -> Result<(), Fail> {
     let complex = over_five(rt.alloc())?;
     let whole = [
-        entry(0, 1),
-        entry(1, 1),
-        entry(2, 1),
-        entry(3, 1),
-        entry(4, 1),
-        entry(5, 1),
+        Entry::new(0, 1),
+        Entry::new(1, 1),
+        Entry::new(2, 1),
+        Entry::new(3, 1),
+        Entry::new(4, 1),
+        Entry::new(5, 1),
     ];
     for (i, place, entries) in [
         (-1, 1, Some(whole.as_slice())),
-        (-1, 2, Some([entry(1, 2), entry(4, 2)].as_slice())),
+        (-1, 2, Some([Entry::new(1, 2), Entry::new(4, 2)].as_slice())),
         (-1, 3, None),
         (
             0,
             0,
-            Some([entry(0, 2), entry(1, 3), entry(2, 1)].as_slice()),
+            Some([Entry::new(0, 2), Entry::new(1, 3), Entry::new(2, 1)].as_slice()),
         ),
         (1, 0, None),
         (2, 0, None),

@@ -1,33 +1,37 @@
 //! Cancellations of the worked complexes. What they leave was worked out by hand.
 
-ghost use Rattle.std.specs.Prelude.{◌≡◌, IfOk};
+ghost use Rattle.std.specs.Prelude.{◌≡◌, map, IfOk};
 ghost use Rattle.sparse_block.specs.Changes.{placed};
+ghost use Rattle.sparse_block.specs.Entries.{entry_at};
 ghost use Rattle.sparse_block.specs.Inside.{lines_in, lists_in};
 ghost use Rattle.sparse_block.specs.Worked.{middle_change, middle_columns, middle_complex};
 ghost use Rattle.sparse_block.specs.Worked.{middle_names, worked_change};
 
-use super::{Columns, NONE, column_at, entry, labels, lines, over_five, over_three, row_at};
+use super::{column_at, over_five, over_three, row_at};
+use crate::made_complexes::{Columns, NONE, labels, line, lines};
 use kh_types::NoMemory;
 use prime_field::{F3, F5, PrimeField};
-use smallvec::SmallVec;
 use sparse_block::{Change, ColumnComplex, Complex, Entry, Generator, Line};
 use std::alloc::Global;
 use std::process::Abort;
 use std::test::Fail;
 
-fn line(alloc: Global, place: u32, entries: &[Entry]) -> Result<Line, NoMemory>
-    ensures { IfOk result (λ made. made ≡ placed place entries.now) }
+fn placed_line(alloc: Global, place: u32, pairs: &[(u32, u8)]) -> Result<Line, NoMemory>
+    ensures { IfOk result (λ made. made ≡ placed place (map entry_at pairs.now)) }
 {
-    let entries = SmallVec::from_slice(alloc, entries)?;
+    let entries = line(alloc, pairs)?;
     Ok(Line { place, entries })
 }
 
 fn change_of_two(alloc: Global) -> Result<Change, NoMemory>
     ensures { IfOk result (λ made. made ≡ worked_change) }
 {
-    let row = [entry(0, 1), entry(2, 1), entry(3, 1), entry(5, 1)];
-    let columns = vec![in alloc; line(alloc, 1, &NONE)?, line(alloc, 4, &NONE)?]?;
-    let rows = vec![in alloc; line(alloc, 1, &row)?, line(alloc, 2, &NONE)?]?;
+    let row = [(0, 1), (2, 1), (3, 1), (5, 1)];
+    let columns = vec![in alloc;
+        placed_line(alloc, 1, &NONE)?,
+        placed_line(alloc, 4, &NONE)?,
+    ]?;
+    let rows = vec![in alloc; placed_line(alloc, 1, &row)?, placed_line(alloc, 2, &NONE)?]?;
     Ok(Change {
         degree: -1,
         column: 1,
@@ -57,15 +61,9 @@ fn middle_labels(alloc: Global) -> Result<Vec<Vec<Generator>>, NoMemory>
 fn middle_lines(alloc: Global) -> Result<Vec<Columns>, NoMemory>
     ensures { IfOk result (λ made. lines_in made.items ≡ middle_columns) }
 {
-    let one = Entry { place: 0, value: 1 };
-    let two = Entry { place: 0, value: 2 };
-    let three = Entry { place: 0, value: 3 };
-    let four = Entry { place: 0, value: 4 };
-    let first = lines(alloc, &[[one, Entry { place: 1, value: 1 }]])?;
-    let left = [two, Entry { place: 1, value: 2 }];
-    let right = [three, Entry { place: 1, value: 3 }];
-    let second = lines(alloc, &[left, right])?;
-    let third = lines(alloc, &[[one], [four]])?;
+    let first = lines(alloc, &[[(0, 1), (1, 1)]])?;
+    let second = lines(alloc, &[[(0, 2), (1, 2)], [(0, 3), (1, 3)]])?;
+    let third = lines(alloc, &[[(0, 1)], [(0, 4)]])?;
     let fourth = lines(alloc, &[NONE])?;
     Ok(vec![in alloc; first, second, third, fourth]?)
 }
@@ -81,8 +79,14 @@ fn middle(alloc: Global) -> Result<Complex<F5>, NoMemory>
 fn change_of_middle(alloc: Global) -> Result<Change, NoMemory>
     ensures { IfOk result (λ made. made ≡ middle_change) }
 {
-    let columns = vec![in alloc; line(alloc, 0, &NONE)?, line(alloc, 1, &NONE)?]?;
-    let rows = vec![in alloc; line(alloc, 0, &NONE)?, line(alloc, 1, &NONE)?]?;
+    let columns = vec![in alloc;
+        placed_line(alloc, 0, &NONE)?,
+        placed_line(alloc, 1, &NONE)?,
+    ]?;
+    let rows = vec![in alloc;
+        placed_line(alloc, 0, &NONE)?,
+        placed_line(alloc, 1, &NONE)?,
+    ]?;
     Ok(Change {
         degree: 0,
         column: 0,
@@ -225,7 +229,7 @@ fn are(entries: Option<&[Entry]>, wanted: Pairs) -> bool {
                 && entries
                     .iter()
                     .zip(wanted)
-                    .all(|(entry, pair)| (entry.place, entry.value) == *pair)
+                    .all(|(entry, pair)| (entry.place(), entry.value()) == *pair)
         }
         None => false,
     }

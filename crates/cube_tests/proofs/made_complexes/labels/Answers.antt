@@ -2,7 +2,7 @@ use Rattle.std.proofs.Common.{◌∙◌, ◌++◌, ◌∷◌, [], List, ap, sym,
 use Rattle.std.specs.List.{range_with_len}
 use Rattle.kh_types.specs.Generators.{Generator, generator_of}
 use Rattle.kh_types.proofs.Ranges.{map_from_zero}
-use Rattle.cube_tests.proofs.sparse_complexes.labels.Goals as goal
+use Rattle.cube_tests.proofs.made_complexes.labels.Goals as goal
 
 pub labels-preserved : goal.labels-preserved
 labels-preserved c =
