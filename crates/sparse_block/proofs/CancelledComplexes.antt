@@ -1,6 +1,6 @@
 -- Over a field, the cancellation of an entry other than 0 leaves a complex of a complex.
 use Rattle.std.proofs.lemmas.Bool.Decides.{nat_tests}
-use Rattle.std.proofs.Common.{◌≡◌, ℕ, ◌+◌, ◌*◌, ◌%◌, ◌<◌, ◌∙◌, List, [], ℤ, pos, ◌+ℤ◌, length, map, ap, ap₂, sym, arith}
+use Rattle.std.proofs.Common.{◌≡◌, ℕ, ◌+◌, ◌<◌, ◌∙◌, List, [], ℤ, pos, ◌+ℤ◌, length, map, ap, sym, arith}
 use Rattle.std.specs.Prelude.{slice_index_or}
 use Rattle.std.proofs.Math.ListN.{get_or-map}
 use Rattle.std.proofs.Math.Nat.{zero-mod}

@@ -6,11 +6,11 @@
 -- lines have changed also its row's column in the degree after and its column's row in the degree before. Last, both places that
 -- die are within their lists.
 use Rattle.std.proofs.lemmas.Bool.Decides.{nat_tests}
-use Rattle.std.proofs.Common.{◌≡◌, ◌≢◌, ℕ, zero, suc, ◌+◌, ◌<◌, ◌∙◌, inl, inr, List, [], ◌∷◌, ℤ, pos, ◌+ℤ◌, ◌≤ℤ◌, length, map, set, ap, ap₂, sym, subst, arith, refl, Bool, false}
+use Rattle.std.proofs.Common.{◌≡◌, ◌≢◌, ℕ, zero, suc, ◌+◌, ◌<◌, ◌∙◌, inl, inr, List, [], ◌∷◌, ℤ, pos, ◌+ℤ◌, ◌≤ℤ◌, length, map, set, ap, sym, subst, arith, refl, Bool, false}
 use Rattle.std.specs.Prelude.{nat_eq, slice_index_or, if◌then◌else◌}
 use Rattle.std.specs.List.{enumerate_from}
 use Rattle.std.proofs.lemmas.Bool.Decides.{eqb_tells, leb_tells}
-use Rattle.std.proofs.lemmas.Int.{ints, by_lt_z}
+use Rattle.std.proofs.lemmas.Int.{ints}
 use Rattle.std.proofs.lemmas.List.{get_or_default, get_or_past}
 use Rattle.kh_types.specs.Complex.{Complex, Degree, Pivot, IsPivot, cancel, degree_of, entry_of, without_place}
 use Rattle.kh_types.specs.Generators.{Generator}
@@ -22,7 +22,7 @@ use Rattle.sparse_block.specs.Inside.{IsKept}
 use Rattle.sparse_block.proofs.FilledLines.{some-entries}
 use Rattle.sparse_block.proofs.ClearedLists.{SameSizes, can_clear-kept, crossed-swapped, line_at, lines_at}
 use Rattle.sparse_block.proofs.ComplexMatrices.{StandsAt, entry-stands}
-use Rattle.sparse_block.proofs.KeptLemmas.{IsSeen, column-at, complex-seen, degree-at, length-column, length-columns, length-row, length-rows, places-at, places-below, row-at, within-alive}
+use Rattle.sparse_block.proofs.KeptLemmas.{IsSeen, column-at, complex-seen, degree-at, length-column, length-columns, length-row, length-rows, places-at, row-at, within-alive}
 use Rattle.sparse_block.proofs.LeftLines.{value-column, value-row}
 use Rattle.sparse_block.proofs.ReadingLemmas.{column-entries as entries-of_column, row-entries as entries-of_row}
 

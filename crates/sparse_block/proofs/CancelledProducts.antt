@@ -1,13 +1,13 @@
 -- What a pivot leaves of two neighbouring matrices has the product 0, where they have.
 use Rattle.std.proofs.lemmas.Bool.Decides.{nat_tests}
-use Rattle.std.proofs.Common.{◌≡◌, ℕ, ◌+◌, ◌*◌, ◌%◌, ◌<◌, ◌∙◌, inl, inr, ap, sym, subst, arith, Bool, true, false}
+use Rattle.std.proofs.Common.{◌≡◌, ℕ, ◌+◌, ◌*◌, ◌%◌, ◌<◌, ◌∙◌, inl, inr, ap, sym, subst, arith, Bool}
 use Rattle.std.specs.Prelude.{nat_eq, if◌then◌else◌}
 use Rattle.std.proofs.lemmas.Bool.Decides.{eqb_tells}
 use Rattle.kh_types.specs.Residues.{Same}
 use Rattle.kh_types.specs.Products.{sum_below, product_at}
 use Rattle.kh_types.specs.MatrixRanks.{Leaves}
 use Rattle.kh_types.proofs.Residues.{same-equal, same-scaled, same-rest}
-use Rattle.kh_types.proofs.Sums.{sum_below-same, sum_below-equal, sum_below-add, sum_below-scaled, sum_below-zeros}
+use Rattle.kh_types.proofs.Sums.{sum_below-same, sum_below-add, sum_below-scaled, sum_below-zeros}
 use Rattle.kh_types.proofs.PivotLemmas.{leaves-row}
 use Rattle.kh_types.proofs.DependentRows.{row_cleared, column_cleared}
 

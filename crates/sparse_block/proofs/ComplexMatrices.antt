@@ -1,6 +1,6 @@
 -- The matrices of a complex: their sizes, the places of their entries, and the product of neighbours as a sum below a number.
 use Rattle.std.proofs.lemmas.Bool.Decides.{nat_tests}
-use Rattle.std.proofs.Common.{◌≡◌, ℕ, zero, suc, ◌+◌, ◌*◌, ◌%◌, ◌<◌, ◌≢◌, ◌∙◌, inl, inr, [], ℤ, pos, negsuc, ◌+ℤ◌, ◌-ℤ◌, length, refl, ap, sym, subst, arith, sum_by}
+use Rattle.std.proofs.Common.{◌≡◌, ℕ, zero, suc, ◌+◌, ◌%◌, ◌<◌, ◌≢◌, ◌∙◌, inl, inr, [], ℤ, pos, ◌+ℤ◌, ◌-ℤ◌, length, refl, sym, subst, arith, sum_by}
 use Rattle.std.specs.Prelude.{slice_index_or}
 use Rattle.std.specs.List.{range_with_len}
 use Rattle.std.proofs.Math.Nat.{zero-mod}
@@ -8,7 +8,7 @@ use Rattle.std.proofs.lemmas.Bool.Decides.{leb_tells}
 use Rattle.std.proofs.lemmas.Int.{ints}
 use Rattle.std.proofs.lemmas.List.{get_or_past}
 use Rattle.std.proofs.lemmas.List.Sums.{sum_by-cons}
-use Rattle.kh_types.specs.Complex.{Complex, Degree, IsComplex, empty_degree, degree_number, degree_from, degree_of, entry_in, entry_of, product_of}
+use Rattle.kh_types.specs.Complex.{Complex, Degree, IsComplex, degree_from, degree_of, entry_in, entry_of, product_of}
 use Rattle.kh_types.specs.MatrixRanks.{IsMatrix}
 use Rattle.kh_types.specs.Residues.{Same}
 use Rattle.kh_types.specs.Products.{sum_below, product_at}

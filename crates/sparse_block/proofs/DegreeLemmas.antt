@@ -1,6 +1,6 @@
 -- The degrees of a complex whose matrices the entries of columns denote, by their distance from the least one.
 use Rattle.std.proofs.lemmas.Bool.Decides.{nat_tests}
-use Rattle.std.proofs.Common.{◌≡◌, ℕ, ◌+◌, ◌<◌, ◌≤◌, ◌∙◌, inl, inr, List, [], ℤ, pos, negsuc, ◌+ℤ◌, ◌-ℤ◌, ◌<ℤ◌, length, map, get_or, ap, sym, arith, Bool}
+use Rattle.std.proofs.Common.{◌≡◌, ℕ, ◌<◌, ◌≤◌, ◌∙◌, List, [], ℤ, pos, ◌+ℤ◌, ◌-ℤ◌, ◌<ℤ◌, length, map, get_or, ap, sym, arith, Bool}
 use Rattle.std.specs.Prelude.{slice_index_or}
 use Rattle.std.proofs.Math.ListN as plain
 use Rattle.std.proofs.lemmas.Bool.Decides.{leb_tells}
@@ -9,7 +9,7 @@ use Rattle.std.proofs.lemmas.List.{get_or_past, length-map}
 use Rattle.std.proofs.lemmas.List.FromFn.{length-map-range_with_len, get_or-map-range_with_len}
 use Rattle.kh_types.specs.Complex.{Degree, empty_degree, degree_number, degree_from, degree_of}
 use Rattle.sparse_block.specs.Entries.{Entry}
-use Rattle.sparse_block.specs.Complexes.{matrix_from, degree_from_lists, degrees_from, complex_from}
+use Rattle.sparse_block.specs.Complexes.{degree_from_lists, degrees_from, complex_from}
 
 pub length-degrees_from : (alive : List (List Bool)) (columns : List (List (List Entry)))
     → length (degrees_from alive columns) ≡ length alive

@@ -5,9 +5,9 @@
 -- entries exactly where all its numbers are 0. Last, entries taken one by one: the next one changes the number at its own place,
 -- from 0 to its value, and at no other.
 use Rattle.std.proofs.lemmas.Bool.Decides.{nat_tests}
-use Rattle.std.proofs.Common.{◌≡◌, ◌≢◌, ℕ, zero, suc, ◌+◌, ◌<◌, ◌≤◌, ◌∙◌, inl, inr, List, [], ◌∷◌, ◌++◌, length, map, get_or, take, refl, ap, sym, subst, arith, Bool, false, cond, not, ◌&&◌}
-use Rattle.std.specs.Prelude.{Option, Some, slice_index, nat_eq, All}
-use Rattle.std.specs.List.{list_all, range_with_len, filter, find, enumerate_from}
+use Rattle.std.proofs.Common.{◌≡◌, ◌≢◌, ℕ, zero, suc, ◌+◌, ◌<◌, ◌≤◌, ◌∙◌, inl, inr, List, [], ◌∷◌, ◌++◌, length, map, get_or, take, refl, ap, sym, subst, arith, Bool, false, ◌&&◌}
+use Rattle.std.specs.Prelude.{Option, slice_index, nat_eq, All}
+use Rattle.std.specs.List.{list_all, range_with_len}
 use Rattle.std.specs.Option.{option_map_or}
 use Rattle.std.proofs.lemmas.List.{map-append}
 use Rattle.std.proofs.lemmas.List.Elements.{filter-append, All-head, All-tail}

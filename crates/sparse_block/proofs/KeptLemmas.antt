@@ -6,7 +6,7 @@
 -- degrees and counts. Last, an entry of the complex is the number at its row in the entries of its column.
 use Rattle.std.proofs.lemmas.Bool.Decides.{nat_tests}
 use Rattle.std.proofs.Common.{◌≡◌, ℕ, inl, inr, true, ◌+◌, ◌<◌, ◌^◌, ◌∙◌, List, [], ◌∷◌, ℤ, pos, ◌+ℤ◌, ◌-ℤ◌, ◌<ℤ◌, ◌≤ℤ◌, length, map, ap, sym, subst, arith, refl, Bool, FitsSigned, w16, to_z, of_z}
-use Rattle.std.specs.Prelude.{slice_index, slice_index_or, nat_eq, All, ◌&&◌}
+use Rattle.std.specs.Prelude.{slice_index, slice_index_or, nat_eq, All}
 use Rattle.std.specs.List.{count_by, list_all, range_with_len}
 use Rattle.std.proofs.Math.ListN as plain
 use Rattle.std.proofs.lemmas.Int.{ints}
@@ -17,14 +17,14 @@ use Rattle.std.proofs.lemmas.List.FromFn.{length-map-range_with_len, get_or-map-
 use Rattle.kh_types.specs.Complex.{Complex, Degree, IsComplex, alive_count, degree_of, empty_degree, entry_of, is_zero}
 use Rattle.kh_types.specs.Generators.{Generator, generator_of}
 use Rattle.sparse_block.specs.Entries.{Entry, entries_of, value_at}
-use Rattle.sparse_block.specs.Complexes.{NamedComplex, column_in, column_of, row_of, high_of, place_count, names_from, name_of, complex_from, degrees_from, degree_from_lists}
+use Rattle.sparse_block.specs.Complexes.{NamedComplex, column_in, column_of, row_of, high_of, place_count, name_of, complex_from, degrees_from, degree_from_lists}
 use Rattle.std.proofs.lemmas.List.Folds.{list_all-map}
 use Rattle.sparse_block.specs.Held.{no_entries}
 use Rattle.sparse_block.specs.Inside.{IsKept, column_entries, row_entries}
 use Rattle.sparse_block.proofs.EntryLemmas.{value_at-entries_of, length-entries_of}
 use Rattle.sparse_block.proofs.FilledLines.{line-none}
 use Rattle.sparse_block.proofs.MatrixLemmas.{length-matrix_from}
-use Rattle.sparse_block.proofs.DegreeLemmas.{length-degrees_from, degree-within, degree_of-at, degree_of-below, length-at, length-same}
+use Rattle.sparse_block.proofs.DegreeLemmas.{length-degrees_from, degree-within, degree_of-at, length-at, length-same}
 
 -- the columns of degree number k, and its rows
 

@@ -1,12 +1,12 @@
 -- The columns and rows of a complex as lines of numbers, and their entries.
 use Rattle.std.proofs.lemmas.Bool.Decides.{nat_tests}
-use Rattle.std.proofs.Common.{◌≡◌, ℕ, ◌+◌, ◌<◌, ◌≤◌, ◌∙◌, ◌⊎◌, inl, inr, List, [], ℤ, pos, negsuc, ◌+ℤ◌, ◌-ℤ◌, length, ap, subst, refl, arith}
-use Rattle.std.specs.Prelude.{slice_index, slice_index_or, All}
+use Rattle.std.proofs.Common.{◌≡◌, ℕ, ◌+◌, ◌<◌, ◌≤◌, ◌∙◌, ◌⊎◌, inl, inr, List, [], ℤ, pos, negsuc, ◌+ℤ◌, ◌-ℤ◌, length, ap, arith}
+use Rattle.std.specs.Prelude.{slice_index, All}
 use Rattle.std.proofs.Math.ListN as plain
 use Rattle.std.proofs.lemmas.Bool.Decides.{leb_tells}
 use Rattle.std.proofs.lemmas.Int.{ints}
 use Rattle.std.proofs.lemmas.List.{length-map, get_or_past, get_or_default}
-use Rattle.kh_types.specs.Complex.{Complex, Degree, IsComplex, empty_degree, degree_number, degree_from, degree_of, entry_of}
+use Rattle.kh_types.specs.Complex.{Complex, IsComplex, empty_degree, degree_number, degree_from, degree_of, entry_of}
 use Rattle.sparse_block.specs.Entries.{Entry, AreEntries, entries_of}
 use Rattle.sparse_block.specs.Complexes.{column_of, row_of, place_count}
 use Rattle.sparse_block.proofs.EntryLemmas.{entries-entries_of}

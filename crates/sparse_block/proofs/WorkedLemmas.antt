@@ -5,23 +5,21 @@
 -- others stay. Then what `drop_pair` asks of a pivot: to be alone in its column, as in the first complex, or in its row, as in
 -- the one with a middle. All of it is found by computing with the numbers given.
 use Rattle.std.proofs.lemmas.Bool.Decides.{nat_tests}
-use Rattle.std.proofs.Common.{◌≡◌, ◌≢◌, ℕ, zero, suc, ◌+◌, ◌<◌, ◌^◌, ◌∙◌, ◌⊎◌, List, [], ◌∷◌, inl, inr, ℤ, pos, ◌+ℤ◌, neg_ℤ, refl, ap, sym, subst, subst₂, length, map, arith}
-use Rattle.std.specs.Prelude.{slice_index_or, All}
+use Rattle.std.proofs.Common.{◌≡◌, ◌≢◌, ℕ, ◌<◌, ◌^◌, ◌⊎◌, List, [], ◌∷◌, ℤ, pos, ◌+ℤ◌, neg_ℤ, refl, sym, subst₂, length, map, arith}
+use Rattle.std.specs.Prelude.{All}
 use Rattle.std.specs.List.{AllByRecursion}
 use Rattle.std.specs.Global.{Vec}
-use Rattle.std.proofs.lemmas.Bool.Decides.{eqb_tells}
-use Rattle.std.proofs.lemmas.List.Elements.{All-nil, All-cons, All-from_recursion}
+use Rattle.std.proofs.lemmas.List.Elements.{All-from_recursion}
 use Rattle.smallvec.specs.SmallVec.{SmallVec}
 use Rattle.kh_types.specs.Complex.{IsComplex, IsPivot, Pivot, cancel, pivot_at}
 use Rattle.kh_types.specs.Generators.{Generator, generator_of}
 use Rattle.kh_types.proofs.ComplexLemmas.{complex-from_test}
-use Rattle.sparse_block.specs.Changes.{Exchange, PlacedLine, AreChanged, placed}
+use Rattle.sparse_block.specs.Changes.{Exchange, AreChanged, placed}
 use Rattle.sparse_block.specs.Entries.{Entry, AreEntries, entry_at, entries_of}
 use Rattle.sparse_block.specs.Complexes.{HaveEntries, NamedComplex, SquaresToZero, column_of, place_count, row_of, sparse_complex}
 use Rattle.sparse_block.specs.Inside.{lists_in, lines_in, entries_in}
 use Rattle.sparse_block.specs.Worked.{worked_names, worked_columns, worked_complex, worked_change, middle_names, middle_columns, middle_complex, middle_change}
 use Rattle.sparse_block.proofs.AscendingLemmas.{entries-from_ascend}
-use Rattle.sparse_block.proofs.ReadingLemmas.{column-entries}
 
 pub worked-three : IsComplex 3 (worked_complex 2 1 1).complex
 worked-three = complex-from_test 3 (worked_complex 2 1 1).complex (omega arith) refl

@@ -6,7 +6,7 @@ use Rattle.std.proofs.Math.ListN as plain
 use Rattle.std.proofs.Math.Nat.{zero-mod}
 use Rattle.std.proofs.lemmas.Bool.Decides.{leb_tells}
 use Rattle.std.proofs.lemmas.List.{get_or-replicate, get_or_default, length-map, length-replicate, map_more}
-use Rattle.kh_types.specs.Complex.{Complex, Degree, IsComplex, degree_from, degree_of, entry_in, entry_of}
+use Rattle.kh_types.specs.Complex.{Degree, IsComplex, degree_from, entry_in, entry_of}
 use Rattle.kh_types.specs.Generators.{Generator}
 use Rattle.kh_types.proofs.ListSums.{sum_by-zeros}
 use Rattle.sparse_block.specs.Entries.{Entry, AreEntries, entries_from, entries_of, value_at}
@@ -14,7 +14,7 @@ use Rattle.sparse_block.specs.Complexes.{complex_from, degree_from_lists, degree
 use Rattle.sparse_block.specs.Inside.{IsKept, row_entries}
 use Rattle.sparse_block.proofs.BuildLemmas.{columns-built, complex-built}
 use Rattle.sparse_block.proofs.ClearedLists.{no-entries}
-use Rattle.sparse_block.proofs.DegreeLemmas.{degree_number-from, length-at}
+use Rattle.sparse_block.proofs.DegreeLemmas.{degree_number-from}
 use Rattle.sparse_block.proofs.MatrixLemmas.{entry-matrix_from, entry-past_rows, length-matrix_from, row_at, rows_of-filled}
 
 abbrev no_column : List Bool → List (List Entry)

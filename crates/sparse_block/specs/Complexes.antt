@@ -76,8 +76,8 @@ HaveEntries p names columns =
 abbrev pub SquaresToZero : ℕ → Complex → Type 0
 SquaresToZero p complex = (i : ℤ) (row column : ℕ) → product_entry p complex i row column ≡ 0
 
--- names and columns that make a complex: there is a degree, one more than the greatest is at most 32,767, the places of a degree can
--- be counted, each has a column, the entries are at places of the next degree, and products are 0
+-- names and columns that make a complex: there is a degree, one more than the greatest is at most 32,767, a degree has fewer places
+-- than an entry can name, each has a column, the entries are at places of the next degree, and products are 0
 pub record MakeComplex (p : ℕ) (low : ℤ) (names : List (List Generator)) (columns : List (List (List Entry))) : Type 0 where
   pub some : 0 < length names
   pub end : (low +ℤ pos (length names)) ≤ℤ pos 32767

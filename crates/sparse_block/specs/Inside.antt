@@ -33,7 +33,7 @@ column_entries degree = map (λ column. entries_of (column_in degree.matrix colu
 abbrev pub row_entries : Degree → List (List Entry)
 row_entries degree = map entries_of degree.matrix
 
--- there is a degree, one more than the greatest is at most 32,767, and the places of a degree can be counted; each place has a
+-- there is a degree, one more than the greatest is at most 32,767, and a degree has fewer places than an entry can name; each has a
 -- name; it is a complex; and the columns and the rows in memory are both the entries of its matrices
 pub record IsKept (p : ℕ) (low : ℤ) (names : List (List Generator)) (alive : List (List Bool))
     (columns rows : List (List (List Entry))) : Type 0 where

@@ -11,10 +11,10 @@ use std::marker::Model;
 /// How many entries a column or a row holds in place, before it takes memory of its own.
 pub const INLINE_ENTRIES: usize = 12;
 
-/// Places of entries are below this number.
-pub const MOST_PLACES: u32 = 536_870_912; // 2 to the 29
+/// Places of entries are below this number, 2 to the 29.
+pub const MOST_PLACES: u32 = 536_870_912;
 
-/// Values of entries are below this number.
+/// Values of entries are below this number, 2 to the 3.
 pub const MOST_VALUES: u8 = 8;
 
 /// An entry other than zero of a column or a row: its place, which is its row where it stands in a
@@ -56,7 +56,7 @@ impl Entry {
     pub fn new(place: u32, value: u8) -> Entry
         requires place { place < MOST_PLACES }
         requires value { value < MOST_VALUES }
-        ensures { result ≡ entry_at (place , value) }
+        ensures { result ≡ entry_at (place, value) }
     {
         Entry {
             bits: place * 8 + u32::from(value),

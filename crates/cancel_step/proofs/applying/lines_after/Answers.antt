@@ -95,12 +95,12 @@ entries-preserved g c =
     let complex = c.args.complex.now.complex in
     let at_place = c.place-place.ensures.place ∙ ap (λ (entry : Entry). entry.place) is_entry in
     let line : c.entries_beside-line.result.now
-        ≡ entries_of (line_on c.args.side complex c.args.pivot.degree (get_or c.own_entries-across.result.now c.entries.entry-index entry).place) =
+    ≡ entries_of (line_on c.args.side complex c.args.pivot.degree (get_or c.own_entries-across.result.now c.entries.entry-index entry).place) =
     c.entries_beside-line.ensures ∙ ap (λ (place : ℕ). entries_of (line_on c.args.side complex c.args.pivot.degree place)) at_place in
     let pushed =
     subst
     (λ (place : ℕ).
-        c.push.new.self.items ≡ c.entries.lines.items ++ record { place = place; entries = c.in_ok-entries.entries.items } ∷ [])
+    c.push.new.self.items ≡ c.entries.lines.items ++ record { place = place; entries = c.in_ok-entries.entries.items } ∷ [])
     at_place c.in_ok-push.ensures.items in
     line_more g.F.PrimeField.P complex c.args.pivot c.element_laws.ensures.field
     c.complex_laws.ensures.complex c.requires c.args.side c.own_entries-across.result.now c.entries_beside-line.result.now

@@ -25,9 +25,9 @@ push_column-requires c =
     record {
       column = omega (arith, c.columns-test.true, c.requires.count);
       entries = (
-      c.requires.entries.0,
-      entries-at-height c.requires.entries.0 c.args.height c.columns.column (length rows) columns c.index-columns-column.result
-          c.as_slice.result.now c.columns-test.true c.index-columns-column.is c.as_slice.ensures height c.requires.entries.1,
+        c.requires.entries.0,
+        entries-at-height c.requires.entries.0 c.args.height c.columns.column (length rows) columns c.index-columns-column.result
+            c.as_slice.result.now c.columns-test.true c.index-columns-column.is c.as_slice.ensures height c.requires.entries.1,
       );
     }
 

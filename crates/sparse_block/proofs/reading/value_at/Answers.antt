@@ -13,7 +13,7 @@ returns-in-Some c =
     (YieldsList-from_slice c.args.entries.now cc) (λ x b q k. search (rules, tests)) in
     c.value.ensures.value
     ∙ ap (λ (found : Option Entry). option_map_or (λ (e : Entry). e.value) found 0)
-        (ap (λ (found : Option (Bor Entry)). option_map (λ (e : Bor Entry). e.now) found) (sym c.in-Some.is) ∙ found)
+    (ap (λ (found : Option (Bor Entry)). option_map (λ (e : Bor Entry). e.now) found) (sym c.in-Some.is) ∙ found)
 
 pub returns-in-None : goal.returns-in-None
 returns-in-None c =

@@ -1,9 +1,8 @@
-use Rattle.std.proofs.Common.{◌≡◌, ◌∙◌, List, ℤ, pos, ◌+ℤ◌, ◌≤ℤ◌, arith, ap, map, length, sym, subst, to_z, of_z, w16, Bool}
+use Rattle.std.proofs.Common.{◌≡◌, ◌∙◌, List, ℤ, pos, ◌+ℤ◌, ◌≤ℤ◌, arith, ap, map, length, subst, to_z, of_z, w16, Bool}
 use Rattle.std.proofs.lemmas.Int.{ints}
 use Rattle.std.proofs.lemmas.List.{length-map}
 use Rattle.std.specs.Global.{Vec}
 use Rattle.kh_types.specs.Generators.{Generator}
-use Rattle.sparse_block.specs.Entries.{Entry}
 use Rattle.sparse_block.specs.Complexes.{degrees_from, no_columns}
 use Rattle.sparse_block.specs.Inside.{lists_in, row_entries, IsKept}
 use Rattle.sparse_block.proofs.ZeroComplexes.{kept-zero}
