@@ -5,8 +5,8 @@
 -- of the complex's row shows no difference, and any copied row shows it where the values of both lists differ. Columns and rows
 -- together give the least column that shows a difference.
 use Rattle.std.proofs.lemmas.Bool.Decides.{nat_tests}
-use Rattle.std.proofs.Common.{◌≡◌, ◌≢◌, ℕ, ◌+◌, ◌<◌, ◌∙◌, ◌⊎◌, inl, inr, List, [], ◌∷◌, ◌++◌, length, get_or, take, ap, sym, subst, refl, arith, Bool, ◌&&◌, None, Option}
-use Rattle.std.specs.Prelude.{nat_eq, ℤ}
+use Rattle.std.proofs.Common.{◌≡◌, ◌≢◌, ℕ, ◌+◌, ◌<◌, ◌∙◌, ◌⊎◌, inl, inr, List, [], ◌∷◌, ◌++◌, length, get_or, take, ap, sym, subst, refl, arith, None, Option}
+use Rattle.std.specs.Prelude.{ℤ}
 use Rattle.std.specs.Bool.{Decides}
 use Rattle.std.specs.Cmp.Lexicographic.{pointwise}
 use Rattle.std.specs.List.{Any}
