@@ -11,7 +11,7 @@ ghost use Rattle.kh_replies.specs.Statuses.{status_number};
 
 use kh_io::{StdSink, StdSource};
 use kh_replies::words_of;
-use kh_work::{Status, run};
+use kh_work::{Status, run_given};
 use std::io;
 use std::process::ExitCode;
 use std::rt::Env;
@@ -43,12 +43,8 @@ fn status_of<T: Threads + Wait + Sync>(
     threads: &T,
     rt: &(impl Input + Print + Env + AllocGlobal),
 ) -> Status {
-    match words_of(rt) {
-        Ok(words) => {
-            let mut source = StdSource::new(rt.reader());
-            let mut sink = StdSink::new(io::writer(rt));
-            run(threads, rt.alloc(), &words, &mut source, &mut sink, &Free)
-        }
-        Err(status) => status,
-    }
+    let given = words_of(rt);
+    let mut source = StdSource::new(rt.reader());
+    let mut sink = StdSink::new(io::writer(rt));
+    run_given(threads, rt.alloc(), given, &mut source, &mut sink, &Free)
 }

@@ -39,4 +39,4 @@ pub use status::Status;
 pub use stop::ReplyStop;
 pub use turns::{reply_to_mirror, reply_to_reverse};
 pub use union::reply_to_union;
-pub use words::words_of;
+pub use words::{words_given, words_of};

@@ -1,6 +1,6 @@
 //! The top calls: they read, answer and write.
 
-ghost use Rattle.std.specs.Prelude.{◌≡◌};
+ghost use Rattle.std.specs.Prelude.{◌≡◌, IfErr, IfOk, IsErr};
 ghost use Rattle.kh_replies.specs.Runs.{IsReplied};
 ghost use Rattle.kh_replies.specs.Told.{seen};
 ghost use Rattle.kh_work.specs.Runs.{IsProgramRun, KeepsHeadline, KeepsReduced, request_of};
@@ -40,6 +40,36 @@ pub fn run<R: Threads + Wait + Sync, S: Source, K: Sink, G: Gate + Sync>(
 {
     let made = reply_by(rt, alloc, words, source, gate);
     written(sink, made)
+}
+
+/// Does the same with the words that a system has given; where it has given none, ends with the
+/// status that stands for that, and neither reads nor writes. Source: this project's rule.
+pub fn run_given<R: Threads + Wait + Sync, S: Source, K: Sink, G: Gate + Sync>(
+    rt: &R,
+    alloc: Global,
+    given: Result<Words, Status>,
+    source: &mut S,
+    sink: &mut K,
+    gate: &G,
+) -> Status
+    ensures run { IfOk given (λ words. IsProgramRun words
+        (seen (S.left source.old) (S.faults source.old)) (seen (S.left source.new) (S.faults source.new))
+        (seen (K.written sink.old) (K.faults sink.old)) (seen (K.written sink.new) (K.faults sink.new))
+        (source.new ≡ source.old) (sink.new ≡ sink.old) result) }
+    ensures headline { IfOk given (λ words. KeepsHeadline words
+        (seen (S.left source.old) (S.faults source.old)) (seen (S.left source.new) (S.faults source.new))
+        (seen (K.written sink.old) (K.faults sink.old)) (seen (K.written sink.new) (K.faults sink.new)) result) }
+    ensures reduced { IfOk given (λ words. KeepsReduced words
+        (seen (S.left source.old) (S.faults source.old)) (seen (S.left source.new) (S.faults source.new))
+        (seen (K.written sink.old) (K.faults sink.old)) (seen (K.written sink.new) (K.faults sink.new)) result) }
+    ensures ended { IfErr given (λ status. result ≡ status) }
+    ensures unread { IsErr given → source.new ≡ source.old }
+    ensures unwritten { IsErr given → sink.new ≡ sink.old }
+{
+    match given {
+        Ok(words) => run(rt, alloc, &words, source, sink, gate),
+        Err(status) => status,
+    }
 }
 
 /// Does the same on the caller's thread, whatever the number of workers, and waits for nobody.

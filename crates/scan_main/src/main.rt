@@ -19,7 +19,7 @@ use kh_replies::{Status, words_of};
 use std::io;
 use std::process::ExitCode;
 use std::rt::Env;
-use top::run;
+use top::run_given;
 
 fn main(rt: HostRuntime) -> ExitCode {
     exit_of(&rt)
@@ -39,12 +39,8 @@ fn exit_code(status: Status) -> ExitCode
 }
 
 fn status_of(rt: &(impl Input + Print + Env + AllocGlobal)) -> Status {
-    match words_of(rt) {
-        Ok(words) => {
-            let mut source = StdSource::new(rt.reader());
-            let mut sink = StdSink::new(io::writer(rt));
-            run(rt.alloc(), &words, &mut source, &mut sink)
-        }
-        Err(status) => status,
-    }
+    let given = words_of(rt);
+    let mut source = StdSource::new(rt.reader());
+    let mut sink = StdSink::new(io::writer(rt));
+    run_given(rt.alloc(), given, &mut source, &mut sink)
 }

@@ -1,6 +1,6 @@
 //! The top call: it reads, answers and writes.
 
-ghost use Rattle.std.specs.Prelude.{◌≡◌, ◌≢◌, ◌≤◌, ℕ, ◌∷◌, ◌++◌, codes, length, take, Err, IfOk, IfSome, OnOk};
+ghost use Rattle.std.specs.Prelude.{◌≡◌, ◌≢◌, ◌≤◌, ℕ, ◌∷◌, ◌++◌, codes, length, take, Err, IfErr, IfOk, IfSome, IsErr, OnOk};
 ghost use Rattle.kh_io.specs.Faults.{Rose};
 ghost use Rattle.kh_types.specs.declared.limits.TheConstants.{INPUT_BYTES};
 ghost use Rattle.kh_replies.specs.DiagramReplies.{IsDiagramReply};
@@ -34,6 +34,31 @@ pub fn run<S: Source, K: Sink>(alloc: Global, words: &Words, source: &mut S, sin
 {
     let made = reply_to(alloc, words, source);
     written(sink, made)
+}
+
+/// Does the same with the words that a system has given; where it has given none, ends with the
+/// status that stands for that, and neither reads nor writes.
+pub fn run_given<S: Source, K: Sink>(
+    alloc: Global,
+    given: Result<Words, Status>,
+    source: &mut S,
+    sink: &mut K,
+) -> Status
+    ensures run { IfOk given (λ words. IsScanRun words
+        (seen (S.left source.old) (S.faults source.old)) (seen (S.left source.new) (S.faults source.new))
+        (seen (K.written sink.old) (K.faults sink.old)) (seen (K.written sink.new) (K.faults sink.new))
+        (source.new ≡ source.old) (sink.new ≡ sink.old) result) }
+    ensures headline { IfOk given (λ words. KeepsScanHeadline words
+        (seen (S.left source.old) (S.faults source.old)) (seen (S.left source.new) (S.faults source.new))
+        (seen (K.written sink.old) (K.faults sink.old)) (seen (K.written sink.new) (K.faults sink.new)) result) }
+    ensures ended { IfErr given (λ status. result ≡ status) }
+    ensures unread { IsErr given → source.new ≡ source.old }
+    ensures unwritten { IsErr given → sink.new ≡ sink.old }
+{
+    match given {
+        Ok(words) => run(alloc, &words, source, sink),
+        Err(status) => status,
+    }
 }
 
 /// The reply to words and a source, which is read where the words stand for a command.
