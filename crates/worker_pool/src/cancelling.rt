@@ -10,11 +10,11 @@ ghost use Rattle.shared_block.specs.BlockHistories.{HasLegalHistory};
 ghost use Rattle.worker_pool.specs.Outcomes.{AreBlocksAt, AreCancelled, AreDone};
 ghost use Rattle.worker_pool.specs.Outcomes.{IsSizeLimit, TellsCount};
 
+use crate::all_blocks::{finished_alone, finished_by_workers};
 use crate::crew::Crew;
 use crate::finished::Finished;
 use crate::gate::Gate;
 use crate::outcome::{Cancelled, PoolStop};
-use crate::waves::{finished_alone, finished_in_waves};
 use circle_smoothing::CountedDiagram;
 use cube_signs::{Cube, SmallDiagram, counted_degrees};
 use kh_types::{Diagram, NoMemory};
@@ -105,7 +105,7 @@ pub fn cancel_small<R: Threads + Wait + Sync, F: PrimeField + Send + Sync, G: Ga
         workers,
         gate,
     };
-    let done = finished_in_waves(&crew, &cube, &degrees, counted)?;
+    let done = finished_by_workers(&crew, &cube, &degrees, counted)?;
     with_table(alloc, cube.diagram(), done)
 }
 

@@ -3,11 +3,8 @@
 /// What a worker calls once in each turn. Where no thread can be made the workers work one after
 /// another, so a gate that waits for another worker may wait for ever.
 ///
-/// A gate that holds one worker back can hold up all others. A diagram's blocks are cancelled in
-/// waves, of at most 2,097,152 generators each where there is more than one block in a wave: a
-/// diagram with more generators takes more than one. The next wave begins once all workers have
-/// left this one, so at its end the others wait, however much work is left, until the gate lets the
-/// one go. A diagram with no more generators has one wave, and nothing but its end to wait for.
+/// A gate that holds one worker back holds up no other but at the end, where all of them wait for
+/// it: they share the diagram's blocks, and what it has begun the others finish.
 /// This project's rule.
 pub trait Gate {
     /// Called by a worker between its patch and its commit, with its number, from 1, and the number

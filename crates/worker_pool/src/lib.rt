@@ -1,6 +1,7 @@
 //! The blocks of a diagram, cancelled to zero by workers that take turns at them.
 #![tactic(auto)]
 
+mod all_blocks;
 mod building;
 mod cancelling;
 mod crew;
@@ -14,7 +15,6 @@ mod sharing;
 mod sizes;
 mod slots;
 mod turns;
-mod waves;
 
 pub use cancelling::{cancel_all, cancel_alone, cancel_small, cancel_small_alone};
 pub use gate::{Free, Gate};

@@ -3,7 +3,7 @@ use Rattle.cube_signs.specs.Blocks.{block_degrees}
 use Rattle.worker_pool.proofs.DoneLemmas.{degrees_all}
 use Rattle.worker_pool.proofs.cancelling.cancel_small.Goals as goal
 
-pub finished_in_waves-requires-clause-degrees : goal.finished_in_waves-requires-clause-degrees
-finished_in_waves-requires-clause-degrees g c κs within =
+pub finished_by_workers-requires-clause-degrees : goal.finished_by_workers-requires-clause-degrees
+finished_by_workers-requires-clause-degrees g c κs within =
     degrees_all c.in_ok-cube.cube c.deref.result.now
     (c.deref.ensures.value ∙ c.in_ok-degrees.ensures ∙ ap block_degrees (sym (c.in_ok-cube.ensures ∙ c.diagram.ensures)))

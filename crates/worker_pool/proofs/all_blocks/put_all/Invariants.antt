@@ -1,7 +1,7 @@
 use Rattle.std.proofs.Common.{map}
 use Rattle.worker_pool.specs.Rows.{AreSeated}
 use Rattle.worker_pool.specs.Slots.{AreDoneSlots, AreFrom}
-use Rattle.worker_pool.proofs.waves.add_wave.Given as goal
+use Rattle.worker_pool.proofs.all_blocks.put_all.Given as goal
 
 abbrev pub invariant-places : goal.invariant-places
 invariant-places g l = AreSeated l.pool.locks.items l.pool.kept.items l.pool.rows.items

@@ -1,5 +1,5 @@
 use Rattle.worker_pool.specs.Outcomes.{AreDegreesOf}
-use Rattle.worker_pool.proofs.waves.degrees_at.Given as goal
+use Rattle.worker_pool.proofs.all_blocks.degrees_at.Given as goal
 
 abbrev pub invariant-places : goal.invariant-places
 invariant-places l = AreDegreesOf l.cube l.chosen.items

@@ -1,5 +1,5 @@
 use Rattle.worker_pool.proofs.DoneLemmas.{blocks_more, none_more}
-use Rattle.worker_pool.proofs.waves.finished_alone.Goals as goal
+use Rattle.worker_pool.proofs.all_blocks.finished_alone.Goals as goal
 
 pub places-preserved : goal.places-preserved
 places-preserved g c = (

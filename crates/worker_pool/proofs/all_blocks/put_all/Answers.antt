@@ -5,7 +5,7 @@ use Rattle.worker_pool.specs.Rows.{IsRowOf}
 use Rattle.worker_pool.specs.Slots.{AreDoneSlots}
 use Rattle.worker_pool.proofs.DoneLemmas.{locked_from, taken_from}
 use Rattle.worker_pool.proofs.RowLemmas.{seated_after_work}
-use Rattle.worker_pool.proofs.waves.add_wave.Goals as goal
+use Rattle.worker_pool.proofs.all_blocks.put_all.Goals as goal
 
 pub blocks_at-requires-after_bounds : goal.blocks_at-requires-after_bounds
 blocks_at-requires-after_bounds g c κs within = subst (AreDegreesOf c.args.cube.now) (sym c.deref.ensures.value) c.in_ok-chosen.ensures

@@ -1,6 +1,5 @@
-//! The blocks of a diagram, cancelled to zero by the caller one after another, or by workers in
-//! waves: the blocks of a wave are whole in memory together, and are cancelled to zero before the
-//! next wave is built. The largest blocks come first, and a wave is filled with what fits.
+//! The blocks of a diagram, cancelled to zero by the caller one after another, or by workers that
+//! share them: then all blocks are whole in memory together, and the largest are begun first.
 
 ghost use Rattle.std.specs.Prelude.{◌≡◌, ◌≤◌, All, IfOk, OnOk};
 ghost use Rattle.kh_types.specs.declared.limits.TheConstants.{WORKERS};
@@ -24,10 +23,6 @@ use std::alloc::Global;
 use std::sync::Wait;
 use std::thread::Threads;
 
-/// How many generators the blocks of a wave have together at most, where there is more than one
-/// block in it: half of those that a diagram has at most.
-const WAVE: u64 = 1 << 22;
-
 /// The blocks at some quantum degrees, cancelled to zero by the caller alone, one after another.
 pub(crate) fn finished_alone<F: PrimeField>(
     alloc: Global,
@@ -46,10 +41,10 @@ pub(crate) fn finished_alone<F: PrimeField>(
     Ok(done)
 }
 
-/// The blocks at some quantum degrees, cancelled to zero by workers in waves. How many
-/// states there are of each kind says how large the blocks are, which no clause rests on.
+/// The blocks at some quantum degrees, cancelled to zero by workers. How many states there are of
+/// each kind says how large the blocks are, which no clause rests on.
 #[tactic(auto, using(crate::proofs::SlotLemmas::done_slots_empty))]
-pub(crate) fn finished_in_waves<
+pub(crate) fn finished_by_workers<
     R: Threads + Wait + Sync,
     F: PrimeField + Send + Sync,
     G: Gate + Sync,
@@ -65,54 +60,10 @@ pub(crate) fn finished_in_waves<
     ensures done { IfOk result (AreDone F.P) }
 {
     let alloc = crew.alloc;
-    let waves = waves_of(alloc, &block_sizes(alloc, counted, degrees)?)?;
+    let places = largest_first(alloc, &block_sizes(alloc, counted, degrees)?)?;
     let mut slots = empty_slots(alloc, degrees.len())?;
-    'waves: for wave in &waves {
-        add_wave(crew, &mut slots, cube, degrees, &wave.places)?;
-    }
+    put_all(crew, &mut slots, cube, degrees, &places)?;
     in_order(alloc, cube, degrees, slots)
-}
-
-/// The places of some blocks, those of the largest first, and how many generators more they may
-/// have.
-#[derive(Drop)]
-struct Wave {
-    places: Vec<usize>,
-    room: u64,
-}
-
-/// The waves, given how many generators each block has: each block, the largest first, is in the
-/// first wave that has room for it, or else in one more.
-fn waves_of(alloc: Global, sizes: &[u64]) -> Result<Vec<Wave>, NoMemory> {
-    let mut waves = Vec::new(alloc);
-    'places: for place in largest_first(alloc, sizes)? {
-        let size = sizes.get(place).copied().unwrap_or(0);
-        add_place(alloc, &mut waves, place, size)?;
-    }
-    Ok(waves)
-}
-
-/// Puts the place of a block with so many generators into a wave.
-fn add_place(
-    alloc: Global,
-    waves: &mut Vec<Wave>,
-    place: usize,
-    size: u64,
-) -> Result<(), NoMemory> {
-    'waves: for wave in waves.iter_mut() {
-        if size <= wave.room {
-            wave.room -= size;
-            wave.places.push(place)?;
-            return Ok(());
-        }
-    }
-    let mut places = Vec::new(alloc);
-    places.push(place)?;
-    waves.push(Wave {
-        places,
-        room: WAVE.saturating_sub(size),
-    })?;
-    Ok(())
 }
 
 /// The places of a list of sizes, those of the largest first.
@@ -161,7 +112,7 @@ fn push_degree(
 
 /// Builds the blocks at some places of the quantum degrees, has workers cancel them, finishes each,
 /// and puts it into the slot at its place.
-fn add_wave<R: Threads + Wait + Sync, F: PrimeField + Send + Sync, G: Gate + Sync>(
+fn put_all<R: Threads + Wait + Sync, F: PrimeField + Send + Sync, G: Gate + Sync>(
     crew: &Crew<R, G>,
     slots: &mut DoneSlots<F>,
     cube: &Cube,

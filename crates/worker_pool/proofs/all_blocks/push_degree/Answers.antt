@@ -1,6 +1,6 @@
 use Rattle.std.proofs.Common.{rules}
 use Rattle.worker_pool.proofs.SlotLemmas.{degree_more}
-use Rattle.worker_pool.proofs.waves.push_degree.Goals as goal
+use Rattle.worker_pool.proofs.all_blocks.push_degree.Goals as goal
 
 pub returns-in_ok-push : goal.returns-in_ok-push
 returns-in_ok-push c =

@@ -1,6 +1,6 @@
 use Rattle.std.proofs.Common.{◌≡◌, All, take}
 use Rattle.worker_pool.specs.Outcomes.{AreBlocksAt, AreDone}
-use Rattle.worker_pool.proofs.waves.finished_alone.Given as goal
+use Rattle.worker_pool.proofs.all_blocks.finished_alone.Given as goal
 
 abbrev pub invariant-places : goal.invariant-places
 invariant-places g l =
