@@ -1,4 +1,5 @@
-use Rattle.std.proofs.Common.{arith, ints}
+use Rattle.std.proofs.Common.{arith}
+use Rattle.std.proofs.lemmas.Int.{ints}
 use Rattle.std.specs.Global.{Vec}
 use Rattle.std.proofs.lemmas.List.{length-map}
 use Rattle.kh_types.specs.Generators.{Generator}
