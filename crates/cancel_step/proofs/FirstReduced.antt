@@ -10,12 +10,12 @@ use Rattle.kh_types.proofs.Residues.{same-equal}
 use Rattle.prime_field.specs.Residues.{IsField}
 use Rattle.sparse_block.specs.Entries.{Entry, value_at}
 use Rattle.cancel_step.specs.Reductions.{AreReduced, EndsAt, IsLeftOf, ReducedColumn, column_numbers, pivots_of}
-use Rattle.cancel_step.specs.StoredColumns.{AreFirstReduced, HasColumns, IsReducedLine, StoredColumn, last_place, live_entries, reduced_column, reduced_columns, stored_column, stored_pivots, stored_with}
+use Rattle.cancel_step.specs.StoredColumns.{AreFirstReduced, HasColumns, IsReducedLine, StoredColumn, last_place, live_column, reduced_column, reduced_columns, stored_column, stored_pivots, stored_with}
 use Rattle.sparse_block.specs.Inside.{entries_in}
 use Rattle.sparse_block.proofs.LineLemmas.{line-entries_in}
 use Rattle.sparse_block.proofs.AscendingLemmas.{entries-from_ascend}
 use Rattle.cancel_step.proofs.Lefts.{left-whole}
-use Rattle.cancel_step.proofs.LastEntries.{ends-last_place}
+use Rattle.cancel_step.proofs.LastEntries.{ends-last_place, none-live}
 use Rattle.cancel_step.proofs.Steps.{reduced-none, reduced-nothing, reduced-pivot}
 use Rattle.cancel_step.proofs.Stored.{stored-below}
 
@@ -37,7 +37,7 @@ left-agree p reduced first second left same is_left =
 -- one column more
 module _ (p size count : ℕ) (alive : List Bool) (columns : List (List Entry)) (stored : List StoredColumn) (line : List Entry)
     (field : IsField p) (are : AreFirstReduced p alive columns count stored)
-    (is_line : line ≡ live_entries alive (slice_index_or columns count [])) where
+    (is_line : line ≡ live_column alive columns count) where
   is_left : (complex : Complex) (i : ℤ) (left : List Entry) → HasColumns complex i alive columns → IsReducedLine p size stored line left
       → IsLeftOf p (reduced_columns stored) (column_numbers complex i count) (value_at left)
   is_left complex i left has reduced =
@@ -85,8 +85,7 @@ pub first_reduced-empty : (p count : ℕ) (alive : List Bool) (columns : List (L
 first_reduced-empty p zero alive columns field none = first_reduced-none p alive columns
 first_reduced-empty p (suc count) alive columns field none =
     let before = first_reduced-empty p count alive columns field (λ k within. none k (omega (arith, within))) in
-    let line : [] ≡ live_entries alive (slice_index_or columns count []) =
-    ap (live_entries alive) (sym (none count (omega arith))) in
+    let line : [] ≡ live_column alive columns count = none-live alive columns count (none count (omega arith)) in
     let next : count + 1 ≡ suc count = omega arith in
     subst (λ (n : ℕ). AreFirstReduced p alive columns n []) next
     (first_reduced-more p 0 count alive columns [] [] field before line [] (empty-line p))

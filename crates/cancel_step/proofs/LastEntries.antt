@@ -1,12 +1,12 @@
--- Where a line that is stored as a list of entries ends, and its entries at places that are alive.
-use Rattle.std.proofs.Common.{◌≡◌, ◌≢◌, ℕ, zero, suc, ◌+◌, ◌<◌, ◌≤◌, ◌∙◌, inl, inr, List, [], ◌∷◌, length, get_or, refl, ap, sym, arith, Bool, true, false, cond}
+-- Where a line that is stored as a list of entries ends, and columns whose places are alive.
+use Rattle.std.proofs.Common.{◌≡◌, ◌≢◌, ℕ, zero, suc, ◌+◌, ◌<◌, ◌≤◌, ◌∙◌, inl, inr, List, [], ◌∷◌, length, get_or, refl, ap, sym, arith, Bool, true, false}
 use Rattle.std.specs.Prelude.{slice_index_or, if◌then◌else◌}
 use Rattle.std.proofs.lemmas.Bool.Decides.{eqb_tells, leb_tells}
 use Rattle.sparse_block.specs.Entries.{Entry, AreEntries, value_at}
-use Rattle.sparse_block.proofs.AscendingLemmas.{Ascend, ascend-earlier, ascend-place, entries-ascend, entries-from_ascend}
+use Rattle.sparse_block.proofs.AscendingLemmas.{Ascend, ascend-place, entries-ascend, entries-from_ascend}
 use Rattle.sparse_block.proofs.EntryLemmas.{value_at-here, value_at-later}
 use Rattle.cancel_step.specs.Reductions.{EndsAt}
-use Rattle.cancel_step.specs.StoredColumns.{end_of, last_place, live_entries}
+use Rattle.cancel_step.specs.StoredColumns.{end_of, last_place, live_column}
 use Rattle.cancel_step.proofs.Stored.{stored-ends}
 
 -- a line with an entry ends at its last one
@@ -70,49 +70,28 @@ end_of-zeros p size row (e ∷ es) are zeros =
       | inr before ↦ let fact : last_place (e ∷ es) < row = omega (arith, before.1) in omega (arith, fact)
     ]
 
--- the entries at places that are alive
+-- a column, without its entries where its place is dead
+module _ (alive : List Bool) (columns : List (List Entry)) (column : ℕ) where
+  pub entries-live : (p size : ℕ) → AreEntries p size (slice_index_or columns column []) → AreEntries p size (live_column alive columns column)
+  entries-live p size are = at (slice_index_or alive column false)
+    where
+      at : (b : Bool) → AreEntries p size (if b then slice_index_or columns column [] else [])
+      at true = are
+      at false = entries-from_ascend p 0 size [] tt
 
-ascend-live : (p a b : ℕ) (alive : List Bool) (es : List Entry) → Ascend p a b es → Ascend p a b (live_entries alive es)
-ascend-live p a b alive [] ascend = tt
-ascend-live p a b alive (e ∷ es) ascend =
-    let rest = ascend-live p (e.place + 1) b alive es ascend.4 in
-    elim (slice_index_or alive e.place false) as
-    (λ is_alive. Ascend p a b (cond is_alive (e ∷ live_entries alive es) (live_entries alive es))) [
-      | true ↦ (ascend.0, ascend.1, ascend.2, ascend.3, rest)
-      | false ↦ ascend-earlier p a (e.place + 1) b (live_entries alive es) (omega (arith, ascend.0)) rest
-    ]
+  -- its number at a row
+  pub value_at-live : (row : ℕ) → value_at (live_column alive columns column) row
+      ≡ (if slice_index_or alive column false then value_at (slice_index_or columns column []) row else 0)
+  value_at-live row = at (slice_index_or alive column false)
+    where
+      at : (b : Bool) → value_at (if b then slice_index_or columns column [] else []) row
+          ≡ (if b then value_at (slice_index_or columns column []) row else 0)
+      at true = refl
+      at false = refl
 
-pub entries-live : (p size : ℕ) (alive : List Bool) (es : List Entry) → AreEntries p size es → AreEntries p size (live_entries alive es)
-entries-live p size alive es are =
-    entries-from_ascend p 0 size (live_entries alive es) (ascend-live p 0 size alive es (entries-ascend p size es are))
-
--- the number at a place that is alive, and 0 at others
-pub value_at-live : (alive : List Bool) (es : List Entry) (place : ℕ)
-    → value_at (live_entries alive es) place ≡ (if slice_index_or alive place false then value_at es place else 0)
-value_at-live alive [] place = none (slice_index_or alive place false)
-  where
-    none : (b : Bool) → value_at [] place ≡ (if b then value_at [] place else 0)
-    none true = refl
-    none false = refl
-value_at-live alive (e ∷ es) place =
-    let rest = value_at-live alive es place in
-    let live = live_entries alive es in
-    elim (eqb_tells e.place place) [
-      | inl here ↦
-          ap (λ (b : Bool). value_at (cond b (e ∷ live) live) place) (ap (λ (n : ℕ). slice_index_or alive n false) here.1)
-          ∙ at (slice_index_or alive place false) here.1 rest
-      | inr other ↦
-          passed (slice_index_or alive e.place false) other.1
-          ∙ rest
-          ∙ ap (λ (n : ℕ). if slice_index_or alive place false then n else 0) (sym (value_at-later e es place other.1))
-    ]
-  where
-    at : (b : Bool) → e.place ≡ place → value_at (live_entries alive es) place ≡ (if b then value_at es place else 0)
-        → value_at (cond b (e ∷ live_entries alive es) (live_entries alive es)) place ≡ (if b then value_at (e ∷ es) place else 0)
-    at true here rest = value_at-here e (live_entries alive es) place here ∙ sym (value_at-here e es place here)
-    at false here rest = rest
-
-    passed : (b : Bool) → e.place ≢ place
-        → value_at (cond b (e ∷ live_entries alive es) (live_entries alive es)) place ≡ value_at (live_entries alive es) place
-    passed true other = value_at-later e (live_entries alive es) place other
-    passed false other = refl
+  pub none-live : slice_index_or columns column [] ≡ [] → [] ≡ live_column alive columns column
+  none-live none = at (slice_index_or alive column false)
+    where
+      at : (b : Bool) → [] ≡ (if b then slice_index_or columns column [] else [])
+      at true = sym none
+      at false = refl

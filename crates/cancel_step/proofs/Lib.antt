@@ -4,7 +4,8 @@ pub mod PlaceLemmas
 pub mod DegreeRanks
 pub mod RankSumLemmas
 pub mod HistoryLemmas
-pub mod HistoryEnds
+pub mod Greatest
+mod HistoryEnds
 pub mod EntryValues
 pub mod ReadingLemmas
 pub mod UpdateLemmas
@@ -13,7 +14,8 @@ pub mod RestLemmas
 pub mod PairLemmas
 pub mod AgreeLemmas
 pub mod ForeignLemmas
-pub mod CopiedLemmas
+pub mod Commuting
+mod CopiedLemmas
 pub mod ChangedLemmas
 pub mod SameLemmas
 pub mod FinishLemmas

@@ -30,7 +30,7 @@ alive-from place n zero j (first ∷ rest) is_j =
     let e : n ≡ j = omega arith in ap (λ (m : ℕ). if nat_eq m place then false else first) e
 alive-from place n (suc k) j (first ∷ rest) is_j = alive-from place (n + 1) k j rest (omega arith)
 
-alive-without : (place k : ℕ) (alive : List Bool)
+pub alive-without : (place k : ℕ) (alive : List Bool)
     → slice_index_or (without_place place alive) k false ≡ (if nat_eq k place then false else slice_index_or alive k false)
 alive-without place k alive = alive-from place 0 k k alive (omega arith)
 

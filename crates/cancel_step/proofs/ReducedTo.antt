@@ -1,71 +1,96 @@
--- A complex, reduced from its greatest degree down: at first no degree, then one degree more, and in the end all. The history so
--- far is kept legal, with the places that are alive after it; no entry leads out of the degrees that are reduced, and the entries
--- out of those below are as at first, but 0 at rows that are dead. At first this holds since a complex has no entries at dead
--- rows. For one degree more, the columns of the degree without their entries at dead rows are those of the complex as it stands,
--- so the stored columns reduce this degree. In the degree just below, the rows that are columns of their pivots are now dead and
--- 0; further down nothing changes. In the end there is no entry out of any degree, and the complex is zero.
-use Rattle.std.proofs.Common.{◌≡◌, ℕ, ◌+◌, ◌∙◌, inl, inr, List, [], ◌++◌, ℤ, pos, ◌+ℤ◌, ◌-ℤ◌, ◌<ℤ◌, length, refl, ap, ap₂, sym, subst, arith, Bool, true, false}
+-- A complex, reduced from its least degree up: at first no degree, then one degree more, and in the end all. The history so far is kept
+-- legal, with the places that are alive after it; no entry leads out of the degrees that are reduced, and the entries out of all others
+-- are as at first, but 0 in columns that are dead. At first this holds since a complex has no entries at dead places. For one degree
+-- more, the columns of the degree that are alive are those of the complex as it stands, so the stored columns reduce this degree. In the
+-- next degree the columns that are last rows of theirs are now dead and 0; further up nothing changes. Their pivots come before those
+-- of the smaller degrees, since cancellations in two degrees may change places. In the end there is no entry out of any degree, and the
+-- complex is zero.
+use Rattle.std.proofs.Common.{◌≡◌, ℕ, ◌+◌, ◌∙◌, ◌⊎◌, inl, inr, List, [], ◌∷◌, ◌++◌, ℤ, pos, ◌+ℤ◌, ◌-ℤ◌, ◌<ℤ◌, ◌≤ℤ◌, length, refl, ap, ap₂, sym, subst, arith, Bool, true, false}
 use Rattle.std.specs.Prelude.{slice_index_or, if◌then◌else◌}
-use Rattle.std.proofs.lemmas.Bool.Decides.{eqb_tells}
+use Rattle.std.specs.List.{AllByRecursion}
+use Rattle.std.proofs.lemmas.Bool.Decides.{eqb_tells, nat_tests}
 use Rattle.std.proofs.lemmas.Int.{ints}
 use Rattle.std.proofs.lemmas.List.{get_or_default}
 use Rattle.kh_types.specs.Complex.{Complex, Degree, IsComplex, Pivot, degree_of, entry_in, entry_of, is_zero}
 use Rattle.kh_types.specs.History.{replay}
+use Rattle.kh_types.proofs.Lists.{AllByRecursion-append}
 use Rattle.prime_field.specs.Residues.{IsField}
 use Rattle.sparse_block.specs.Complexes.{place_count}
 use Rattle.sparse_block.specs.Entries.{Entry, value_at}
 use Rattle.sparse_block.proofs.CancelledDegrees.{Where, where_is}
 use Rattle.sparse_block.proofs.ComplexMatrices.{entry-stands}
-use Rattle.cancel_step.proofs.HistoryLemmas.{complex-replay, legal-append, low-replay, places-replay, replay-append}
-use Rattle.cancel_step.specs.Reductions.{AreReduced, HaveNoEntryAbove, IsReducedDegree, is_pivot_column, is_place_alive}
+use Rattle.sparse_block.proofs.PastLemmas.{degree-from_place}
+use Rattle.cancel_step.proofs.Commuting.{come-first}
+use Rattle.cancel_step.proofs.HistoryLemmas.{complex-replay, degrees-replay, low-replay, places-replay}
+use Rattle.cancel_step.specs.Reductions.{AreReduced, HasNoEntry, IsReducedDegree, is_last_row, is_place_alive, pivots_of, ReducedColumn}
 use Rattle.cancel_step.specs.StoredColumns.{AreFirstReduced, HasColumns, IsReducedTo, StoredColumn, alive_in, reduced_columns, stored_pivots, with_pairs}
-use Rattle.cancel_step.proofs.Ends.{above-high, above-next, zero-above}
+use Rattle.cancel_step.proofs.Ends.{above-high, comes-reduced, no_entry-comes, no_entry-end, zero-above}
 use Rattle.cancel_step.proofs.LastEntries.{value_at-live}
 use Rattle.cancel_step.proofs.Marks.{alive-number, alive_in-pairs}
-use Rattle.cancel_step.proofs.Others.{other-degrees, own-alive, previous-alive, previous-entries}
+use Rattle.cancel_step.proofs.Others.{next-alive, next-entries, other-degrees}
 
--- in a complex the entries at rows that are not alive are 0
+-- in a complex the entries in columns that are not alive are 0
 entries-alive : (p : ℕ) (complex : Complex) (i : ℤ) (row column : ℕ) → IsComplex p complex
-    → entry_of complex i row column ≡ (if is_place_alive complex (i +ℤ pos 1) row then entry_of complex i row column else 0)
-entries-alive p complex i row column is = at (is_place_alive complex (i +ℤ pos 1) row) refl
+    → entry_of complex i row column ≡ (if is_place_alive complex i column then entry_of complex i row column else 0)
+entries-alive p complex i row column is = at (is_place_alive complex i column) refl
   where
-    at : (b : Bool) → is_place_alive complex (i +ℤ pos 1) row ≡ b → entry_of complex i row column ≡ (if b then entry_of complex i row column else 0)
+    at : (b : Bool) → is_place_alive complex i column ≡ b → entry_of complex i row column ≡ (if b then entry_of complex i row column else 0)
     at true same = refl
     at false dead =
         elim (eqb_tells (entry_of complex i row column) 0) [
           | inl none ↦ none.1
           | inr other ↦
               let stands = entry-stands p complex i row column is other.1 in
-              is.dead_row i row column
-              (get_or_default (degree_of complex (i +ℤ pos 1)).alive row true false stands.row_place ∙ dead)
+              is.dead_column i row column
+              (get_or_default (degree_of complex i).alive column true false stands.column_place ∙ dead)
         ]
 
+-- below the least degree there is none
+none-below : (p : ℕ) (complex : Complex) (j : ℤ) → IsComplex p complex → j <ℤ complex.low → HasNoEntry complex j
+none-below p complex j is before column row =
+    elim (eqb_tells (entry_of complex j row column) 0) [
+      | inl none ↦ none.1
+      | inr other ↦
+          let degree = degree-from_place complex j column (entry-stands p complex j row column is other.1).column_place in
+          absurd (omega (arith, ints, before, degree.low))
+    ]
+
 -- at first no degree is reduced
-pub reduced_to-first : (p k : ℕ) (complex : Complex) (places : List (List Bool)) → IsComplex p complex → k ≡ length complex.degrees
-    → places ≡ alive_in complex → IsReducedTo p complex k places []
-reduced_to-first p k complex places is all alive =
+pub reduced_to-first : (p : ℕ) (complex : Complex) (places : List (List Bool)) → IsComplex p complex → places ≡ alive_in complex
+    → IsReducedTo p complex 0 places []
+reduced_to-first p complex places is alive =
     record {
       legal = tt;
+      degrees = tt;
       alive = alive;
-      above = subst (λ (n : ℕ). HaveNoEntryAbove complex (complex.low +ℤ pos n -ℤ pos 1)) (sym all) (above-high p complex is);
-      below = λ j before row column. entries-alive p complex j row column is;
+      below = λ j before. none-below p complex j is (omega (arith, ints, before));
+      above = λ j later row column. entries-alive p complex j row column is;
     }
 
 -- in the end all are
 pub reduced_to-zero : (p k : ℕ) (complex : Complex) (places : List (List Bool)) (pivots : List Pivot) → IsField p → IsComplex p complex
-    → k ≡ 0 → IsReducedTo p complex k places pivots → is_zero (replay p complex pivots) ≡ true
-reduced_to-zero p k complex places pivots field is none reduced =
-    let low : complex.low +ℤ pos k -ℤ pos 1 ≡ (replay p complex pivots).low -ℤ pos 1 =
-    omega (arith, ints, none, low-replay p complex pivots) in
-    zero-above p (replay p complex pivots) (complex-replay p complex pivots field is reduced.legal)
-    (subst (HaveNoEntryAbove (replay p complex pivots)) low reduced.above)
+    → k ≡ length complex.degrees → IsReducedTo p complex k places pivots → is_zero (replay p complex pivots) ≡ true
+reduced_to-zero p k complex places pivots field is all reduced =
+    let left = replay p complex pivots in
+    let is_left = complex-replay p complex pivots field is reduced.legal in
+    let low = low-replay p complex pivots in
+    let count = degrees-replay p complex pivots in
+    zero-above p left is_left
+    (λ j above.
+    elim (int_tells j (complex.low +ℤ pos k)) [
+      | inl before ↦ reduced.below j before
+      | inr later ↦ above-high p left is_left j (omega (arith, ints, later, low, count, all))
+    ])
+  where
+    int_tells : (i j : ℤ) → (i <ℤ j) ⊎ (j ≤ℤ i)
+    int_tells i j = grind (arith, nat_tests)
 
 -- one degree more
 module _ (p k : ℕ) (complex : Complex) (i : ℤ) (places : List (List Bool)) (pivots : List Pivot) (lines : List (List Entry))
-    (stored : List StoredColumn) (field : IsField p) (is : IsComplex p complex) (so_far : IsReducedTo p complex (k + 1) places pivots)
+    (stored : List StoredColumn) (field : IsField p) (is : IsComplex p complex) (so_far : IsReducedTo p complex k places pivots)
     (here : i ≡ complex.low +ℤ pos k) (count : place_count complex i ≡ length lines)
     (entries : (row column : ℕ) → entry_of complex i row column ≡ value_at (slice_index_or lines column []) row)
-    (are : AreFirstReduced p (slice_index_or places (k + 1) []) lines (length lines) stored) where
+    (are : AreFirstReduced p (slice_index_or places k []) lines (length lines) stored) where
   abbrev now : Complex
   now = replay p complex pivots
 
@@ -78,87 +103,94 @@ module _ (p k : ℕ) (complex : Complex) (i : ℤ) (places : List (List Bool)) (
   low_now : now.low ≡ complex.low
   low_now = low-replay p complex pivots
 
-  alive_next : slice_index_or places (k + 1) [] ≡ (degree_of now (i +ℤ pos 1)).alive
-  alive_next =
-      let same : now.low +ℤ pos (k + 1) ≡ i +ℤ pos 1 = omega (arith, ints, here, low_now) in
-      ap (λ (places : List (List Bool)). slice_index_or places (k + 1) []) so_far.alive ∙ alive-number now (k + 1)
+  alive_here : slice_index_or places k [] ≡ (degree_of now i).alive
+  alive_here =
+      let same : now.low +ℤ pos k ≡ i = omega (arith, ints, here, low_now) in
+      ap (λ (places : List (List Bool)). slice_index_or places k []) so_far.alive ∙ alive-number now k
       ∙ ap (λ (j : ℤ). (degree_of now j).alive) same
 
-  has : HasColumns now i (slice_index_or places (k + 1) []) lines
+  has : HasColumns now i (slice_index_or places k []) lines
   has =
       record {
         count = places-replay p complex pivots i ∙ count;
         entries = λ row column.
-            so_far.below i (omega (arith, ints, here)) row column
-            ∙ ap₂ (λ (alive : List Bool) (n : ℕ). if slice_index_or alive row false then n else 0) (sym alive_next) (entries row column)
-            ∙ sym (value_at-live (slice_index_or places (k + 1) []) (slice_index_or lines column []) row);
+            so_far.above i (omega (arith, ints, here)) row column
+            ∙ ap₂ (λ (alive : List Bool) (n : ℕ). if slice_index_or alive column false then n else 0) (sym alive_here) (entries row column)
+            ∙ sym (value_at-live (slice_index_or places k []) lines column row);
       }
 
   step : IsReducedDegree p now i (reduced_columns stored) after
   step = subst (λ (n : ℕ). AreReduced p now i n (reduced_columns stored) after) (sym has.count) (are now i is_now has)
 
-  -- the entries out of the degrees below, and which of their places are alive
-  alive_below : (j : ℤ) → (j +ℤ pos 1) <ℤ i → (row : ℕ) → is_place_alive after (j +ℤ pos 1) row ≡ is_place_alive now (j +ℤ pos 1) row
-  alive_below j before row =
-      elim (where_is (j +ℤ pos 1) i) [
-        | Where.is_at same ↦ absurd (omega (arith, ints, before, same))
-        | Where.is_after same ↦ absurd (omega (arith, ints, before, same))
-        | Where.is_before next ↦
-            let at : i -ℤ pos 1 ≡ j +ℤ pos 1 = omega (arith, ints, next) in
-            subst (λ (m : ℤ). is_place_alive after m row ≡ is_place_alive now m row) at
-            (ap (λ (alive : List Bool). slice_index_or alive row false)
-            (previous-alive p now after i (place_count now i) (reduced_columns stored) step))
-        | Where.is_elsewhere not_at not_after not_before ↦
-            ap (λ (degree : Degree). slice_index_or degree.alive row false)
-            (other-degrees p now after i (place_count now i) (reduced_columns stored) step (j +ℤ pos 1) not_at not_after not_before)
+  -- no entries below
+  below_after : (j : ℤ) → j ≤ℤ i → HasNoEntry after j
+  below_after j before =
+      let comes = comes-reduced p now after i (place_count now i) (reduced_columns stored) step in
+      let earlier : j <ℤ i → HasNoEntry after j =
+      λ (less : j <ℤ i). no_entry-comes p now after j field is_now comes (so_far.below j (omega (arith, ints, less, here))) in
+      elim (where_is j i) [
+        | Where.is_at same ↦ subst (HasNoEntry after) (sym same) (no_entry-end p now after i (reduced_columns stored) field is_now step)
+        | Where.is_after next ↦ absurd (omega (arith, ints, before, next))
+        | Where.is_before next ↦ earlier (omega (arith, ints, next))
+        | Where.is_elsewhere not_at not_after not_before ↦ earlier (omega (arith, ints, before, not_at))
       ]
 
   chosen : (b a : Bool) (x : ℕ) → (if b then 0 else (if a then x else 0)) ≡ (if (if b then false else a) then x else 0)
   chosen true a x = refl
   chosen false a x = refl
 
-  below_after : (j : ℤ) → j <ℤ i → (row column : ℕ)
-      → entry_of after j row column ≡ (if is_place_alive after (j +ℤ pos 1) row then entry_of complex j row column else 0)
-  below_after j before row column =
-      let was : entry_of now j row column ≡ (if is_place_alive now (j +ℤ pos 1) row then entry_of complex j row column else 0) =
-      so_far.below j (omega (arith, ints, before, here)) row column in
+  -- those above
+  above_after : (j : ℤ) → i <ℤ j → (row column : ℕ)
+      → entry_of after j row column ≡ (if is_place_alive after j column then entry_of complex j row column else 0)
+  above_after j later row column =
+      let was : entry_of now j row column ≡ (if is_place_alive now j column then entry_of complex j row column else 0) =
+      so_far.above j (omega (arith, ints, later, here)) row column in
       let x = entry_of complex j row column in
       elim (where_is j i) [
-        | Where.is_at same ↦ absurd (omega (arith, ints, before, same))
-        | Where.is_after same ↦ absurd (omega (arith, ints, before, same))
-        | Where.is_before next ↦
-            let at : i -ℤ pos 1 ≡ j = omega (arith, ints, next) in
-            let b = is_pivot_column row (reduced_columns stored) in
+        | Where.is_at same ↦ absurd (omega (arith, ints, later, same))
+        | Where.is_before next ↦ absurd (omega (arith, ints, later, next))
+        | Where.is_after next ↦
+            let b = is_last_row column (reduced_columns stored) in
             let entry : entry_of after j row column ≡ (if b then 0 else entry_of now j row column) =
-            subst (λ (m : ℤ). entry_of after m row column ≡ (if b then 0 else entry_of now m row column)) at
-            (previous-entries p now after i (place_count now i) (reduced_columns stored) step row column) in
-            let alive : is_place_alive after (j +ℤ pos 1) row ≡ (if b then false else is_place_alive now (j +ℤ pos 1) row) =
-            subst (λ (m : ℤ). is_place_alive after m row ≡ (if b then false else is_place_alive now m row)) (sym next)
-            (own-alive p now after i (place_count now i) (reduced_columns stored) step row) in
-            entry ∙ ap (λ (n : ℕ). if b then 0 else n) was ∙ chosen b (is_place_alive now (j +ℤ pos 1) row) x
+            subst (λ (m : ℤ). entry_of after m row column ≡ (if b then 0 else entry_of now m row column)) (sym next)
+            (next-entries p now after i (place_count now i) (reduced_columns stored) step row column) in
+            let alive : is_place_alive after j column ≡ (if b then false else is_place_alive now j column) =
+            subst (λ (m : ℤ). is_place_alive after m column ≡ (if b then false else is_place_alive now m column)) (sym next)
+            (next-alive p now after i (place_count now i) (reduced_columns stored) step column) in
+            entry ∙ ap (λ (n : ℕ). if b then 0 else n) was ∙ chosen b (is_place_alive now j column) x
             ∙ ap (λ (a : Bool). if a then x else 0) (sym alive)
         | Where.is_elsewhere not_at not_after not_before ↦
-            ap (λ (degree : Degree). entry_in degree.matrix row column)
-            (other-degrees p now after i (place_count now i) (reduced_columns stored) step j not_at not_after not_before)
-            ∙ was
-            ∙ ap (λ (a : Bool). if a then x else 0) (sym (alive_below j (omega (arith, ints, before, not_before)) row))
+            let same = other-degrees p now after i (place_count now i) (reduced_columns stored) step j not_at not_after not_before in
+            ap (λ (degree : Degree). entry_in degree.matrix row column) same ∙ was
+            ∙ ap (λ (degree : Degree). if slice_index_or degree.alive column false then x else 0) (sym same)
       ]
 
-  pub reduced_to-next : IsReducedTo p complex k (with_pairs k places stored) (pivots ++ stored_pivots i stored)
+  -- the degrees of the pivots
+  own_degrees : (reduced : List ReducedColumn) → AllByRecursion (λ pivot. pivot.degree <ℤ (complex.low +ℤ pos (k + 1))) (pivots_of i reduced)
+  own_degrees [] = tt
+  own_degrees (line ∷ lines) = (omega (arith, ints, here), own_degrees lines)
+
+  earlier_degrees : (pivots : List Pivot) → AllByRecursion (λ pivot. pivot.degree <ℤ (complex.low +ℤ pos k)) pivots
+      → AllByRecursion (λ pivot. pivot.degree <ℤ (complex.low +ℤ pos (k + 1))) pivots
+  earlier_degrees [] are = tt
+  earlier_degrees (pivot ∷ pivots) are = (omega (arith, ints, are.0), earlier_degrees pivots are.1)
+
+  pub reduced_to-next : IsReducedTo p complex (k + 1) (with_pairs k places stored) (stored_pivots i stored ++ pivots)
   reduced_to-next =
-      let both = replay-append p complex pivots (stored_pivots i stored) in
-      let own : complex.low +ℤ pos (k + 1) -ℤ pos 1 ≡ i = omega (arith, ints, here) in
-      let next : i -ℤ pos 1 ≡ complex.low +ℤ pos k -ℤ pos 1 = omega (arith, ints, here) in
+      let less : AllByRecursion (λ pivot. pivot.degree <ℤ i) pivots =
+      subst (λ (m : ℤ). AllByRecursion (λ pivot. pivot.degree <ℤ m) pivots) (sym here) so_far.degrees in
+      let both = come-first p complex i (reduced_columns stored) pivots field is less so_far.legal step.legal in
       record {
-        legal = legal-append p complex pivots (stored_pivots i stored) so_far.legal step.legal;
+        legal = both.legal;
+        degrees = AllByRecursion-append (λ pivot. pivot.degree <ℤ (complex.low +ℤ pos (k + 1))) (stored_pivots i stored) pivots
+            (own_degrees (reduced_columns stored)) (earlier_degrees pivots so_far.degrees);
         alive = ap (λ (places : List (List Bool)). with_pairs k places stored) so_far.alive
-            ∙ alive_in-pairs p k now i stored (omega (arith, ints, here, low_now)) ∙ ap alive_in (sym both);
-        above = subst (λ (c : Complex). HaveNoEntryAbove c (complex.low +ℤ pos k -ℤ pos 1)) (sym both)
-            (subst (HaveNoEntryAbove after) next
-            (above-next p now after i (reduced_columns stored) field is_now step (subst (HaveNoEntryAbove now) own so_far.above)));
-        below = λ j before row column.
+            ∙ alive_in-pairs p k now i stored (omega (arith, ints, here, low_now)) ∙ ap alive_in (sym both.same);
+        below = λ j before.
+            subst (λ (made : Complex). HasNoEntry made j) (sym both.same) (below_after j (omega (arith, ints, before, here)));
+        above = λ j later row column.
             subst
-            (λ (c : Complex).
-            entry_of c j row column ≡ (if is_place_alive c (j +ℤ pos 1) row then entry_of complex j row column else 0)) (sym both)
-            (below_after j (omega (arith, ints, before, here)) row column);
+            (λ (made : Complex).
+            entry_of made j row column ≡ (if is_place_alive made j column then entry_of complex j row column else 0)) (sym both.same)
+            (above_after j (omega (arith, ints, later, here)) row column);
       }

@@ -1,17 +1,17 @@
 -- The complex that names and columns make: its columns, its places, and its reduction by the columns of one degree after another.
 -- At first all its places are alive; each degree has as many places as columns, and its entries are those that the columns list,
 -- and 0 past the last row. So what is shown of the reduction of a complex applies to it: it begins with no degree reduced, and
--- reduced columns of the degree below give one degree more. The rows of a degree's columns are the places of the next degree,
--- also while it is reduced, and there are few enough columns to be counted. The first part and the last are of lists in memory:
--- names and columns that fit make such a complex, and from the end of the list one degree's columns after another are taken.
+-- reduced columns of the degree above give one degree more. The rows of a degree's columns are the places of the next degree,
+-- also while it is reduced, and there are few enough columns to be counted. The last part is of lists in memory: one degree's
+-- columns after another are taken from them.
 use Rattle.std.proofs.Common.{◌≡◌, ℕ, ◌+◌, ◌<◌, ◌^◌, ◌∙◌, inl, inr, List, [], ◌∷◌, ◌++◌, ℤ, pos, ◌+ℤ◌, length, map, refl, ap, sym, subst, arith, append_assoc, Bool, true}
-use Rattle.std.specs.Prelude.{get_or, slice_index_or, All}
+use Rattle.std.specs.Prelude.{slice_index_or, All}
 use Rattle.std.specs.Global.{Vec}
 use Rattle.std.proofs.Math.Seq.{get_or-append_seam}
 use Rattle.std.proofs.lemmas.Bool.Decides.{leb_tells}
-use Rattle.std.proofs.lemmas.List.{ext_get_or, get_or_past, length-append, length-map, map-append}
+use Rattle.std.proofs.lemmas.List.{ext_get_or, get_or_past, length-append, length-map}
 use Rattle.smallvec.specs.SmallVec.{SmallVec}
-use Rattle.kh_types.specs.Complex.{Complex, Degree, IsComplex, Pivot, degree_of, entry_in, entry_of}
+use Rattle.kh_types.specs.Complex.{Complex, Degree, IsComplex, Pivot, degree_of, entry_in, entry_of, is_zero}
 use Rattle.kh_types.specs.Generators.{Generator}
 use Rattle.kh_types.specs.History.{replay}
 use Rattle.prime_field.specs.Residues.{IsField}
@@ -26,28 +26,7 @@ use Rattle.cancel_step.proofs.EntryValues.{value_at-past}
 use Rattle.cancel_step.proofs.HistoryLemmas.{low-replay, places-replay}
 use Rattle.cancel_step.specs.StoredColumns.{AreFirstReduced, IsReducedTo, StoredColumn, alive_in, stored_pivots, with_pairs}
 use Rattle.cancel_step.proofs.Marks.{alive-number}
-use Rattle.cancel_step.proofs.ReducedTo.{reduced_to-first, reduced_to-next}
-
--- the last of some lists is taken away
-pub popped : {X : Type 0} (all rest front more : List X) (x d : X) → all ≡ rest ++ more → rest ≡ front ++ x ∷ []
-    → (all ≡ front ++ x ∷ more) × (get_or all (length front) d ≡ x)
-popped {X} all rest front more x d whole last =
-    let parts : all ≡ front ++ x ∷ more =
-    whole ∙ ap (λ (xs : List X). xs ++ more) last ∙ append_assoc front (x ∷ []) more in (
-      parts,
-      ap (λ (xs : List X). get_or xs (length front) d) parts ∙ get_or-append_seam front x more d,
-    )
-
-pub popped-lines : (all : List (List (List Entry))) (rest front : List (Vec (SmallVec Entry))) (more : List (List (List Entry)))
-    (x : Vec (SmallVec Entry)) → all ≡ lines_in rest ++ more → rest ≡ front ++ x ∷ []
-    → (all ≡ lines_in front ++ entries_in x.items ∷ more) × (slice_index_or all (length front) [] ≡ entries_in x.items)
-popped-lines all rest front more x whole last =
-    let lines : Vec (SmallVec Entry) → List (List Entry) = λ degree. entries_in degree.items in
-    let both = popped all (lines_in rest) (lines_in front) more (entries_in x.items) [] whole
-    (ap lines_in last ∙ map-append lines front (x ∷ [])) in (
-      both.0,
-      subst (λ (n : ℕ). slice_index_or all n [] ≡ entries_in x.items) (length-map front lines) both.1,
-    )
+use Rattle.cancel_step.proofs.ReducedTo.{reduced_to-first, reduced_to-next, reduced_to-zero}
 
 module _ (p : ℕ) (low : ℤ) (names : List (List Generator)) (lines : List (List (List Entry))) (field : IsField p)
     (can : MakeComplex p low names lines) where
@@ -114,54 +93,57 @@ module _ (p : ℕ) (low : ℤ) (names : List (List Generator)) (lines : List (Li
 
     -- one degree more is reduced
     pub sparse-next : (places : List (List Bool)) (pivots : List Pivot) (stored : List StoredColumn)
-        → IsReducedTo p (sparse_complex low names lines).complex (k + 1) places pivots
-        → AreFirstReduced p (slice_index_or places (k + 1) []) (slice_index_or lines k []) (length (slice_index_or lines k [])) stored
-        → IsReducedTo p (sparse_complex low names lines).complex k (with_pairs k places stored) (pivots ++ stored_pivots i stored)
+        → IsReducedTo p (sparse_complex low names lines).complex k places pivots
+        → AreFirstReduced p (slice_index_or places k []) (slice_index_or lines k []) (length (slice_index_or lines k [])) stored
+        → IsReducedTo p (sparse_complex low names lines).complex (k + 1) (with_pairs k places stored) (stored_pivots i stored ++ pivots)
     sparse-next places pivots stored so_far are =
         reduced_to-next p k complex i places pivots (slice_index_or lines k []) stored field complex-sparse so_far here count-sparse
         entry-sparse are
 
   -- and so, where all this is known by other names
-  pub sparse-step : (k count : ℕ) (i : ℤ) (places places_after : List (List Bool)) (pivots pivots_after : List Pivot)
-      (stored : List StoredColumn) (columns : List (List Entry)) (alive : List Bool) → count ≡ k + 1 → i ≡ low +ℤ pos k
-      → columns ≡ slice_index_or lines k [] → alive ≡ slice_index_or places (k + 1) []
-      → IsReducedTo p (sparse_complex low names lines).complex count places pivots
-      → AreFirstReduced p alive columns (length columns) stored → pivots_after ≡ pivots ++ stored_pivots i stored
-      → places_after ≡ with_pairs k places stored → IsReducedTo p (sparse_complex low names lines).complex k places_after pivots_after
-  sparse-step k count i places places_after pivots pivots_after stored columns alive counted here are_columns is_alive so_far are
-      are_pivots are_places =
-      let before : IsReducedTo p complex (k + 1) places pivots =
-      subst (λ (n : ℕ). IsReducedTo p complex n places pivots) counted so_far in
-      let own : AreFirstReduced p (slice_index_or places (k + 1) []) columns (length columns) stored =
+  pub sparse-step : (k : ℕ) (i : ℤ) (places places_after : List (List Bool)) (pivots pivots_after : List Pivot)
+      (stored : List StoredColumn) (columns : List (List Entry)) (alive : List Bool) → i ≡ low +ℤ pos k
+      → columns ≡ slice_index_or lines k [] → alive ≡ slice_index_or places k []
+      → IsReducedTo p (sparse_complex low names lines).complex k places pivots
+      → AreFirstReduced p alive columns (length columns) stored → pivots_after ≡ stored_pivots i stored ++ pivots
+      → places_after ≡ with_pairs k places stored → IsReducedTo p (sparse_complex low names lines).complex (k + 1) places_after pivots_after
+  sparse-step k i places places_after pivots pivots_after stored columns alive here are_columns is_alive so_far are are_pivots are_places =
+      let own : AreFirstReduced p (slice_index_or places k []) columns (length columns) stored =
       subst (λ (alive : List Bool). AreFirstReduced p alive columns (length columns) stored) is_alive are in
-      let first : AreFirstReduced p (slice_index_or places (k + 1) []) (slice_index_or lines k []) (length (slice_index_or lines k [])) stored =
-      subst (λ (columns : List (List Entry)). AreFirstReduced p (slice_index_or places (k + 1) []) columns (length columns) stored)
+      let first : AreFirstReduced p (slice_index_or places k []) (slice_index_or lines k []) (length (slice_index_or lines k [])) stored =
+      subst (λ (columns : List (List Entry)). AreFirstReduced p (slice_index_or places k []) columns (length columns) stored)
       are_columns own in
-      let next = sparse-next k i here places pivots stored before first in
-      subst (λ (places : List (List Bool)). IsReducedTo p complex k places pivots_after) (sym are_places)
-      (subst (λ (pivots : List Pivot). IsReducedTo p complex k (with_pairs k places stored) pivots) (sym are_pivots) next)
+      let next = sparse-next k i here places pivots stored so_far first in
+      subst (λ (places : List (List Bool)). IsReducedTo p complex (k + 1) places pivots_after) (sym are_places)
+      (subst (λ (pivots : List Pivot). IsReducedTo p complex (k + 1) (with_pairs k places stored) pivots) (sym are_pivots) next)
 
   -- a degree has fewer columns than can be counted
-  pub sparse-count : (k : ℕ) → k < length lines → length (slice_index_or lines k []) < 2 ^ 29
+  pub sparse-count : (k : ℕ) → k < length lines → length (slice_index_or lines k []) < 2 ^ 32
   sparse-count k within =
       let few : length (slice_index_or names k []) < 2 ^ 29 = can.counts k [] (omega (arith, within, line_count)) in
-      subst (λ (n : ℕ). n < 2 ^ 29) (sym (length-at lines names k can.sizes)) few
+      let same = length-at lines names k can.sizes in
+      omega (arith, few, same)
 
-  pub sparse-first : (k : ℕ) (places : List (List Bool)) → k ≡ length lines → places ≡ all_alive names
-      → IsReducedTo p (sparse_complex low names lines).complex k places []
-  sparse-first k places all alive =
-      reduced_to-first p k complex places complex-sparse (omega (arith, all, line_count, degree_count)) (alive ∙ alive-sparse)
+  pub sparse-first : (places : List (List Bool)) → places ≡ all_alive names
+      → IsReducedTo p (sparse_complex low names lines).complex 0 places []
+  sparse-first places alive = reduced_to-first p complex places complex-sparse (alive ∙ alive-sparse)
+
+  pub sparse-zero : (k : ℕ) (places : List (List Bool)) (pivots : List Pivot) → k ≡ length lines
+      → IsReducedTo p (sparse_complex low names lines).complex k places pivots
+      → is_zero (replay p (sparse_complex low names lines).complex pivots) ≡ true
+  sparse-zero k places pivots all =
+      reduced_to-zero p k complex places pivots field complex-sparse (omega (arith, all, line_count, degree_count))
 
   -- what is known of the columns of a degree, whose rows are places of the next
   pub sparse-rows : (k height : ℕ) (places : List (List Bool)) (pivots : List Pivot)
-      → IsReducedTo p (sparse_complex low names lines).complex (k + 1) places pivots
+      → IsReducedTo p (sparse_complex low names lines).complex k places pivots
       → height ≡ length (slice_index_or places (k + 1) []) → All (AreEntries p height) (slice_index_or lines k [])
   sparse-rows k height places pivots so_far is_height =
       let same : height ≡ length (slice_index_or names (k + 1) []) = is_height ∙ rows-alive k places pivots so_far in
       subst (λ (n : ℕ). All (AreEntries p n) (slice_index_or lines k [])) (sym same) (can.entries k)
     where
       rows-alive : (k : ℕ) (places : List (List Bool)) (pivots : List Pivot)
-          → IsReducedTo p complex (k + 1) places pivots
+          → IsReducedTo p complex k places pivots
           → length (slice_index_or places (k + 1) []) ≡ length (slice_index_or names (k + 1) [])
       rows-alive k places pivots so_far =
           ap (λ (places : List (List Bool)). length (slice_index_or places (k + 1) [])) so_far.alive
@@ -171,26 +153,32 @@ module _ (p : ℕ) (low : ℤ) (names : List (List Generator)) (lines : List (Li
           ∙ ap (λ (degree : Degree). length degree.alive) (degree_of-at low (low +ℤ pos (k + 1)) (all_alive names) lines (k + 1) refl)
           ∙ length-at (all_alive names) names (k + 1) (sizes-all_alive names)
 
--- the columns of the last degree are taken away: they are those of degree number k, and as many degrees are left
-pub record IsPopped (all : List (List (List Entry))) (rest front : List (Vec (SmallVec Entry))) (k : ℕ) (more : List (List (List Entry)))
-    (columns : List (List Entry)) : Type 0 where
-  pub parts : all ≡ lines_in front ++ columns ∷ more
-  pub count : length rest ≡ k + 1
-  pub own : columns ≡ slice_index_or all k []
-  pub within : k < length all
+-- the columns of one degree more are taken from a list: they are those of degree number k
+pub record IsNext (all done : List (List (List Entry))) (rest : List (Vec (SmallVec Entry))) (k : ℕ) (columns : List (List Entry)) : Type 0
+  where
+    pub parts : all ≡ (done ++ columns ∷ []) ++ lines_in rest
+    pub count : length (done ++ columns ∷ []) ≡ k + 1
+    pub own : columns ≡ slice_index_or all k []
+    pub within : k < length all
 
-pub is-popped : (all : List (List (List Entry))) (rest front : List (Vec (SmallVec Entry))) (more : List (List (List Entry)))
-    (degree : Vec (SmallVec Entry)) (columns : List (SmallVec Entry)) (k : ℕ) → all ≡ lines_in rest ++ more → rest ≡ front ++ degree ∷ []
-    → columns ≡ degree.items → k ≡ length front → IsPopped all rest front k more (entries_in columns)
-is-popped all rest front more degree columns k whole last are is_k =
-    let lines : Vec (SmallVec Entry) → List (List Entry) = λ degree. entries_in degree.items in
-    let both = popped-lines all rest front more degree whole last in
-    let same : entries_in degree.items ≡ entries_in columns = ap entries_in (sym are) in
-    let parts : all ≡ lines_in front ++ entries_in columns ∷ more =
-    both.0 ∙ ap (λ (own : List (List Entry)). lines_in front ++ own ∷ more) same in
+pub is-next : (all done : List (List (List Entry))) (before rest : List (Vec (SmallVec Entry))) (degree : Vec (SmallVec Entry))
+    (columns : List (SmallVec Entry)) (k : ℕ) → all ≡ done ++ lines_in before → before ≡ degree ∷ rest → columns ≡ degree.items
+    → k ≡ length done → IsNext all done rest k (entries_in columns)
+is-next all done before rest degree columns k whole first are is_k =
+    let own : entries_in columns ≡ entries_in degree.items = ap entries_in are in
+    let split : all ≡ done ++ entries_in columns ∷ lines_in rest =
+    whole ∙ ap (λ (lists : List (Vec (SmallVec Entry))). done ++ lines_in lists) first
+    ∙ ap (λ (line : List (List Entry)). done ++ line ∷ lines_in rest) (sym own) in
     record {
-      parts = parts;
-      count = omega (arith, ap length last, length-append front (degree ∷ []), is_k);
-      own = sym same ∙ sym both.1 ∙ ap (λ (n : ℕ). slice_index_or all n []) (sym is_k);
-      within = omega (arith, ap length parts, length-append (lines_in front) (entries_in columns ∷ more), length-map front lines, is_k);
+      parts = split ∙ sym (append_assoc done (entries_in columns ∷ []) (lines_in rest));
+      count = omega (arith, length-append done (entries_in columns ∷ []), is_k);
+      own = sym (ap (λ (lists : List (List (List Entry))). slice_index_or lists k []) split
+          ∙ ap (λ (n : ℕ). slice_index_or (done ++ entries_in columns ∷ lines_in rest) n []) is_k
+          ∙ get_or-append_seam done (entries_in columns) (lines_in rest) []);
+      within = omega (arith, ap length split, length-append done (entries_in columns ∷ lines_in rest), is_k);
     }
+
+-- and at last none is left
+pub empty-list : {X : Type 0} (xs : List X) → length xs ≡ 0 → xs ≡ []
+empty-list [] none = refl
+empty-list (x ∷ xs) none = absurd (omega (arith, none))

@@ -1,12 +1,13 @@
 -- Reduced columns as they are stored, each with its entries, and what a search among them finds.
-use Rattle.std.specs.Prelude.{◌≡◌, ℕ, ◌+◌, ◌<◌, ℤ, pos, ◌+ℤ◌, ◌<ℤ◌, ◌-ℤ◌, List, [], ◌∷◌, ◌++◌, length, map, get_or, slice_index_or, Option, Some, None, Bool, false, All, if◌then◌else◌}
-use Rattle.std.specs.List.{filter, fold}
+use Rattle.std.specs.Prelude.{◌≡◌, ℕ, ◌+◌, ◌<◌, ℤ, pos, ◌+ℤ◌, ◌<ℤ◌, ◌≤ℤ◌, List, [], ◌∷◌, ◌++◌, length, map, get_or, slice_index_or, Option, Some, None, Bool, false, All, if◌then◌else◌}
+use Rattle.std.specs.List.{fold, AllByRecursion}
+use Rattle.std.specs.Global.{Vec}
 use Rattle.kh_types.specs.Complex.{Complex, IsComplex, Pivot, entry_of}
 use Rattle.kh_types.specs.History.{IsLegal, replay}
 use Rattle.sparse_block.specs.Clearing.{with_dead}
 use Rattle.sparse_block.specs.Complexes.{place_count}
 use Rattle.sparse_block.specs.Entries.{Entry, AreEntries, value_at}
-use Rattle.cancel_step.specs.Reductions.{AreReduced, AreReducedColumns, EndsAt, HaveNoEntryAbove, IsLeftOf, ReducedColumn, is_last_row, is_place_alive, pivots_of}
+use Rattle.cancel_step.specs.Reductions.{AreReduced, AreReducedColumns, EndsAt, HasNoEntry, IsLeftOf, ReducedColumn, is_last_row, is_place_alive, pivots_of}
 
 -- a reduced column as it is stored: its number in the matrix, the row of its last entry, and its entries
 pub record StoredColumn : Type 0 where
@@ -68,14 +69,14 @@ abbrev pub stored_with : List StoredColumn → ℕ → List Entry → List Store
 stored_with stored column [] = stored
 stored_with stored column (first ∷ rest) = stored ++ stored_column column (last_place (first ∷ rest)) (first ∷ rest) ∷ []
 
--- the entries at rows that are alive
-abbrev pub live_entries : List Bool → List Entry → List Entry
-live_entries alive entries = filter (λ entry. slice_index_or alive entry.place false) entries
+-- a column, by its number, without its entries where its place is dead
+abbrev pub live_column : List Bool → List (List Entry) → ℕ → List Entry
+live_column alive columns column = if slice_index_or alive column false then slice_index_or columns column [] else []
 
--- the matrix out of degree i has these columns, each without its entries at rows that are dead
+-- the matrix out of degree i has these columns, but those of dead places are 0
 pub record HasColumns (complex : Complex) (i : ℤ) (alive : List Bool) (columns : List (List Entry)) : Type 0 where
   pub count : place_count complex i ≡ length columns
-  pub entries : (row column : ℕ) → entry_of complex i row column ≡ value_at (live_entries alive (slice_index_or columns column [])) row
+  pub entries : (row column : ℕ) → entry_of complex i row column ≡ value_at (live_column alive columns column) row
 
 -- the first columns, as many as count, are reduced: so in each complex that has these columns out of some degree
 abbrev pub AreFirstReduced : ℕ → List Bool → List (List Entry) → ℕ → List StoredColumn → Type 0
@@ -95,11 +96,21 @@ with_pairs k alive stored = fold (with_pair k) alive stored
 abbrev pub alive_in : Complex → List (List Bool)
 alive_in complex = map (λ degree. degree.alive) complex.degrees
 
--- a history reduces a complex down to its degree number k: it is legal, these places are alive after it, there is no entry out of
--- that degree and all above it, and the entries out of those below it are as they were, but 0 at rows that are dead
+-- the pivots of each degree
+abbrev pub pivots_in : List (Vec Pivot) → List (List Pivot)
+pivots_in degrees = map (λ degree. degree.items) degrees
+
+-- one list of the pivots of all degrees, which are given from the least on: those of the greatest degree come first
+abbrev pub from_greatest : List (List Pivot) → List Pivot
+from_greatest [] = []
+from_greatest (degree ∷ greater) = from_greatest greater ++ degree
+
+-- a history reduces the degrees of a complex before number k: it is legal, and its pivots are of these degrees; these places are alive
+-- after it; there is no entry out of these degrees, and the entries out of all others are as they were, but 0 in columns that are dead
 pub record IsReducedTo (p : ℕ) (complex : Complex) (k : ℕ) (places : List (List Bool)) (pivots : List Pivot) : Type 0 where
   pub legal : IsLegal p complex pivots
+  pub degrees : AllByRecursion (λ pivot. pivot.degree <ℤ (complex.low +ℤ pos k)) pivots
   pub alive : places ≡ alive_in (replay p complex pivots)
-  pub above : HaveNoEntryAbove (replay p complex pivots) (complex.low +ℤ pos k -ℤ pos 1)
-  pub below : (j : ℤ) → j <ℤ (complex.low +ℤ pos k) → (row column : ℕ) → entry_of (replay p complex pivots) j row column
-      ≡ (if is_place_alive (replay p complex pivots) (j +ℤ pos 1) row then entry_of complex j row column else 0)
+  pub below : (j : ℤ) → j <ℤ (complex.low +ℤ pos k) → HasNoEntry (replay p complex pivots) j
+  pub above : (j : ℤ) → (complex.low +ℤ pos k) ≤ℤ j → (row column : ℕ) → entry_of (replay p complex pivots) j row column
+      ≡ (if is_place_alive (replay p complex pivots) j column then entry_of complex j row column else 0)

@@ -1,12 +1,14 @@
-//! The last entry of a line, and its entries at places that are alive.
+//! The last entry of a line, and columns whose places are alive.
 
-ghost use Rattle.std.specs.Prelude.{◌≡◌, ◌≢◌, ℕ, [], ◌∷◌, ◌++◌, IfSome, OnOk, false, slice_index_or};
+ghost use Rattle.std.specs.Prelude.{◌≡◌, ◌≢◌, ◌<◌, ℕ, [], length, IfSome, OnOk, false, slice_index_or};
 ghost use Rattle.sparse_block.specs.Entries.{AreEntries, value_at};
+ghost use Rattle.sparse_block.specs.Inside.{entries_in};
 ghost use Rattle.cancel_step.specs.Reductions.{EndsAt};
-ghost use Rattle.cancel_step.specs.StoredColumns.{last_place, live_entries};
+ghost use Rattle.cancel_step.specs.StoredColumns.{last_place, live_column};
 
 use kh_types::NoMemory;
-use sparse_block::Entry;
+use smallvec::SmallVec;
+use sparse_block::{Entry, INLINE_ENTRIES};
 
 /// The row where a line ends; none where it has no entry.
 pub(crate) fn last_row(line: &[Entry]) -> Option<u32>
@@ -30,35 +32,27 @@ pub(crate) fn last_value(line: &[Entry]) -> u8
     line[line.len() - 1].value()
 }
 
-/// Copies the entries of a line at places that are alive.
+/// Copies a column of a matrix, by its number; no entry where its place is dead.
 pub(crate) fn copy_live(
     made: &mut Vec<Entry>,
-    line: &[Entry],
+    columns: &[SmallVec<Entry, INLINE_ENTRIES>],
+    column: usize,
     alive: &[bool],
 ) -> Result<(), NoMemory>
-    ensures { OnOk result (made.new.items ≡ live_entries alive.now line.now) }
+    requires { column < length columns.now }
+    ensures { OnOk result
+        (made.new.items ≡ live_column alive.now (entries_in columns.now) column) }
 {
     made.clear();
-    'entries: for k in 0..line.len() {
-        push_live(made, line[k], alive)?;
-    }
-    Ok(())
-}
-
-/// Puts an entry at the end, if its place is alive.
-fn push_live(made: &mut Vec<Entry>, entry: Entry, alive: &[bool]) -> Result<(), NoMemory>
-    ensures { OnOk result
-        (made.new.items ≡ made.old.items ++ live_entries alive.now (entry ∷ [])) }
-{
-    if is_live(alive, entry.place()) {
-        made.push(entry)?;
+    if is_live(alive, column) {
+        made.extend_from_slice(columns[column].as_slice())?;
     }
     Ok(())
 }
 
 /// Whether a place is alive; none is past the last one.
-fn is_live(alive: &[bool], place: u32) -> bool
+fn is_live(alive: &[bool], place: usize) -> bool
     ensures { result ≡ slice_index_or alive.now place false }
 {
-    alive.get(place as usize).copied().unwrap_or(false)
+    alive.get(place).copied().unwrap_or(false)
 }

@@ -14,14 +14,15 @@ use prime_field::laws::element_laws;
 use smallvec::SmallVec;
 use sparse_block::{Entry, INLINE_ENTRIES};
 
-/// Reduces the columns of a degree, without their entries at rows that are dead.
+/// Reduces the columns of a degree whose places are alive; there are `height` rows.
 pub(crate) fn reduce_degree<F: PrimeField>(
     scratch: &mut Scratch,
+    height: usize,
     alive: &[bool],
     columns: &[SmallVec<Entry, INLINE_ENTRIES>],
 ) -> Result<Vec<StoredColumn>, NoMemory>
-    requires count { length columns.now < 2 ^ 29 }
-    requires entries { All (AreEntries F.P (length alive.now)) (entries_in columns.now) }
+    requires count { length columns.now < 2 ^ 32 }
+    requires entries { All (AreEntries F.P height) (entries_in columns.now) }
     ensures { IfOk result (λ made. AreFirstReduced F.P alive.now (entries_in columns.now)
         (length columns.now) made.items) }
 {
@@ -29,9 +30,9 @@ pub(crate) fn reduce_degree<F: PrimeField>(
     if has_no_entry(columns) {
         return Ok(Vec::new(*scratch.left.allocator()));
     }
-    let mut stored = no_columns(*scratch.left.allocator(), alive.len())?;
+    let mut stored = no_columns(*scratch.left.allocator(), height)?;
     'columns: for k in 0..columns.len() {
-        copy_live(&mut scratch.left, &columns[k], alive)?;
+        copy_live(&mut scratch.left, columns, k, alive)?;
         reduce_line::<F>(scratch, &stored)?;
         store(&mut stored, k as u32, &scratch.left)?;
     }

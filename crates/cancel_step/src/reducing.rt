@@ -1,14 +1,17 @@
-//! Column reduction of a whole complex: degrees from the greatest down, the columns of each in
-//! order, and of each column the last entry.
+//! Column reduction of a whole complex: of each degree the columns in order, and of each column the
+//! last entry. Degrees are reduced from the least up, so that a row that is the last of a column
+//! is dead when its own column's turn comes; most columns that would be reduced to nothing are
+//! passed over so. Pivots are named from the greatest degree down, as a search finds them.
 
-ghost use Rattle.std.specs.Prelude.{◌≡◌, ◌<◌, ◌^◌, [], ◌++◌, true, pos, ◌+ℤ◌, ◌≤ℤ◌, IfOk, OnOk};
+ghost use Rattle.std.specs.Prelude.{◌≡◌, ◌<◌, ◌^◌, [], ◌∷◌, ◌++◌, true, pos, ◌+ℤ◌, ◌≤ℤ◌, IfOk, OnOk};
 ghost use Rattle.std.specs.Prelude.{slice_index_or};
 ghost use Rattle.kh_types.specs.Complex.{is_zero};
 ghost use Rattle.kh_types.specs.History.{IsLegal, replay};
 ghost use Rattle.sparse_block.specs.Clearing.{with_dead};
 ghost use Rattle.sparse_block.specs.Complexes.{MakeComplex, all_alive, sparse_complex};
 ghost use Rattle.sparse_block.specs.Inside.{lines_in, lists_in};
-ghost use Rattle.cancel_step.specs.StoredColumns.{alive_in, stored_pivots, with_pairs};
+ghost use Rattle.cancel_step.specs.StoredColumns.{alive_in, from_greatest, pivots_in};
+ghost use Rattle.cancel_step.specs.StoredColumns.{stored_pivots, with_pairs};
 
 use crate::Pivot;
 use crate::reduced_column::Scratch;
@@ -29,8 +32,8 @@ pub struct Reduced<F: PrimeField> {
     pub pivots: Vec<Pivot>,
 }
 
-/// Reduces the columns of a complex until it is zero: degrees from the greatest down, the columns
-/// of each in order, and of each the last entry.
+/// Reduces the columns of a complex until it is zero. Pivots are listed from the greatest degree
+/// down, those of each in the order of their columns.
 pub fn reduce<F: PrimeField>(
     alloc: Global,
     complex: ColumnComplex<F>,
@@ -45,19 +48,21 @@ pub fn reduce<F: PrimeField>(
     let low = complex.low();
     let ColumnParts { names, columns } = complex.into_parts();
     let Reduction { alive, pivots } = reduce_columns::<F>(alloc, low, &names, columns)?;
+    let pivots = all_pivots(alloc, pivots)?;
     let complex = Complex::zero(alloc, low, names, alive)?;
     Ok(Reduced { complex, pivots })
 }
 
 /// What column reduction leaves of a complex: which places of each degree are alive, and the
-/// pivots.
+/// pivots of each degree.
 #[derive(Drop)]
 struct Reduction {
     alive: Vec<Vec<bool>>,
-    pivots: Vec<Pivot>,
+    pivots: Vec<Vec<Pivot>>,
 }
 
-/// Reduces the complex of these names and columns: which places are alive then, and the pivots.
+/// Reduces the complex of these names and columns: which places are alive then, and the pivots of
+/// each degree from the least on.
 fn reduce_columns<F: PrimeField>(
     alloc: Global,
     low: i16,
@@ -67,28 +72,40 @@ fn reduce_columns<F: PrimeField>(
     requires { MakeComplex F.P low (lists_in names.now) (lines_in columns.items) }
     ensures legal { IfOk result (λ made. IsLegal F.P
         (sparse_complex low (lists_in names.now) (lines_in columns.items)).complex
-        made.pivots.items) }
+        (from_greatest (pivots_in made.pivots.items))) }
     ensures alive { IfOk result (λ made. lists_in made.alive.items ≡ alive_in (replay F.P
         (sparse_complex low (lists_in names.now) (lines_in columns.items)).complex
-        made.pivots.items)) }
+        (from_greatest (pivots_in made.pivots.items)))) }
     ensures zero { IfOk result (λ made. is_zero (replay F.P
         (sparse_complex low (lists_in names.now) (lines_in columns.items)).complex
-        made.pivots.items) ≡ true) }
+        (from_greatest (pivots_in made.pivots.items))) ≡ true) }
 {
     element_laws::<F>();
     let mut made = Reduction {
         alive: all_alive(alloc, names)?,
-        pivots: Vec::new(alloc),
+        pivots: Vec::with_capacity(alloc, columns.len())?,
     };
     let mut scratch = Scratch {
         left: Vec::new(alloc),
         spare: Vec::new(alloc),
     };
-    let mut rest = columns;
-    'degrees: while let Some(degree) = rest.pop() {
-        let k = rest.len();
-        let stored = reduce_degree::<F>(&mut scratch, alive_at(&made.alive, k + 1), &degree)?;
+    'degrees: for degree in columns {
+        let k = made.pivots.len();
+        let height = alive_at(&made.alive, k + 1).len();
+        let stored = reduce_degree::<F>(&mut scratch, height, alive_at(&made.alive, k), &degree)?;
         note_pivots(&mut made, degree_at(low, k), k, &stored)?;
+    }
+    Ok(made)
+}
+
+/// One list of all pivots, those of the greatest degree first.
+fn all_pivots(alloc: Global, pivots: Vec<Vec<Pivot>>) -> Result<Vec<Pivot>, NoMemory>
+    ensures { IfOk result (λ made. made.items ≡ from_greatest (pivots_in pivots.items)) }
+{
+    let mut made = Vec::new(alloc);
+    let mut rest = pivots;
+    'degrees: while let Some(degree) = rest.pop() {
+        made.extend_from_slice(&degree)?;
     }
     Ok(made)
 }
@@ -130,13 +147,14 @@ fn note_pivots(
     stored: &[StoredColumn],
 ) -> Result<(), NoMemory>
     requires { k < 2 ^ 16 }
-    ensures pivots { OnOk result (made.new.pivots.items
-        ≡ made.old.pivots.items ++ stored_pivots degree stored.now) }
+    ensures pivots { OnOk result (pivots_in made.new.pivots.items
+        ≡ pivots_in made.old.pivots.items ++ stored_pivots degree stored.now ∷ []) }
     ensures alive { OnOk result (lists_in made.new.alive.items
         ≡ with_pairs k (lists_in made.old.alive.items) stored.now) }
 {
+    let mut pivots = Vec::with_capacity(*made.pivots.allocator(), stored.len())?;
     'columns: for line in stored {
-        made.pivots.push(Pivot {
+        pivots.push(Pivot {
             degree,
             column: line.column,
             row: line.row,
@@ -144,6 +162,7 @@ fn note_pivots(
         kill(&mut made.alive, k, line.column);
         kill(&mut made.alive, k + 1, line.row);
     }
+    made.pivots.push(pivots)?;
     Ok(())
 }
 

@@ -79,7 +79,7 @@ fn owner_at(owners: &[Option<u32>], row: u32) -> Option<u32>
 
 /// Stores what is left of a column, if it has an entry.
 pub(crate) fn store(stored: &mut StoredColumns, column: u32, left: &[Entry]) -> Result<(), NoMemory>
-    requires room { length stored.old.columns.items < 2 ^ 29 }
+    requires room { length stored.old.columns.items < 2 ^ 32 }
     requires left { (p : ℕ) × AreEntries p (length stored.old.owners.items) left.now }
     ensures columns { OnOk result
         (stored.new.columns.items ≡ stored_with stored.old.columns.items column left.now) }
@@ -104,7 +104,7 @@ fn store_at(
     row: u32,
     left: &[Entry],
 ) -> Result<(), NoMemory>
-    requires room { length stored.old.columns.items < 2 ^ 29 }
+    requires room { length stored.old.columns.items < 2 ^ 32 }
     requires row { row < length stored.old.owners.items }
     ensures columns { OnOk result (stored.new.columns.items
         ≡ stored.old.columns.items ++ stored_column column row left.now ∷ []) }

@@ -11,7 +11,7 @@ ghost use Rattle.reduced_cube.specs.Reduced.{reduced_table};
 
 use crate::degrees::reduced_degrees;
 use crate::marks::marked_circles;
-use cancel_step::finish;
+use cancel_step::reduce;
 use cube_signs::Cube;
 use jones_sum::{Row, Table, push_rows};
 use kh_types::laws::diagrams::diagram_laws;
@@ -98,10 +98,9 @@ impl MarkedCube {
             ≡ rows.old.items ++ reduced_rows F.P self.now.code self.now.mark j) }
     {
         element_laws::<F>();
-        let mut block = self.block::<F>(alloc, j)?;
-        finish(alloc, &mut block)?;
+        let reduced = reduce(alloc, self.opening_block::<F>(alloc, j)?)?;
         let reach = self.cube.diagram().crossings().len();
-        push_rows(rows, &block, j, reach)?;
+        push_rows(rows, &reduced.complex, j, reach)?;
         Ok(())
     }
 

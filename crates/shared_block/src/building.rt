@@ -10,6 +10,7 @@ ghost use Rattle.shared_block.specs.AllBlocks.{IsFinished};
 ghost use Rattle.shared_block.specs.BlockHistories.{block_with};
 
 use crate::SharedBlock;
+use cancel_step::{Reduced, reduce};
 use cube_signs::Cube;
 use kh_types::laws::diagrams::diagram_laws;
 use kh_types::{Diagram, NoMemory};
@@ -48,16 +49,25 @@ impl<F: PrimeField> SharedBlock<F> {
         })
     }
 
-    /// The block of a cube at a quantum degree, cancelled to zero.
+    /// The block of a cube at a quantum degree, cancelled to zero by column reduction.
     pub fn finished(alloc: Global, cube: &Cube, j: i16) -> Result<SharedBlock<F>, NoMemory>
         requires { Contains (block_degrees cube.now) j }
         ensures diagram { IfOk result (λ made. made.diagram ≡ cube.now) }
         ensures degree { IfOk result (λ made. made.degree ≡ j) }
         ensures zero { IfOk result (IsFinished F.P) }
     {
-        let mut block = SharedBlock::of_cube(alloc, cube, j)?;
-        block.finish(alloc)?;
-        Ok(block)
+        element_laws::<F>();
+        let diagram = *cube.diagram();
+        diagram_laws(&diagram);
+        let Reduced { complex, pivots } = reduce(alloc, cube.opening_block::<F>(alloc, j)?)?;
+        let mut history = pivots;
+        history.reserve(live_places(&complex) / 2)?;
+        Ok(SharedBlock {
+            diagram,
+            degree: j,
+            history,
+            complex,
+        })
     }
 }
 

@@ -4,8 +4,7 @@ use Rattle.std.proofs.lemmas.List.{length-map}
 use Rattle.smallvec.specs.SmallVec.{SmallVec}
 use Rattle.sparse_block.specs.Entries.{Entry, AreEntries, value_at}
 use Rattle.sparse_block.specs.Inside.{entries_in}
-use Rattle.sparse_block.proofs.LineLemmas.{line-entries_in}
-use Rattle.cancel_step.specs.StoredColumns.{AreFirstReduced, IsFree, live_entries, reduced_columns, stored_with}
+use Rattle.cancel_step.specs.StoredColumns.{AreFirstReduced, IsFree, live_column, reduced_columns, stored_with}
 use Rattle.cancel_step.proofs.FirstReduced.{first_reduced-empty, first_reduced-more, first_reduced-none, length-stored_with}
 use Rattle.cancel_step.proofs.LastEntries.{entries-live}
 use Rattle.cancel_step.proofs.reduced_degree.reduce_degree.Goals as goal
@@ -26,18 +25,14 @@ columns-init g c =
 pub reduce_line-requires-clause-line : goal.reduce_line-requires-clause-line
 reduce_line-requires-clause-line g c =
     let p = g.F.PrimeField.P in
-    let alive = c.args.alive.now in
+    let height = c.args.height in
     let columns = entries_in c.args.columns.now in
     let k = c.columns.k in
-    let copied : c.copy_live.new.made.items ≡ live_entries alive (slice_index_or columns k []) =
-    c.in_ok-copy_live.ensures
-    ∙ ap (live_entries alive)
-    (c.deref.ensures ∙ sym (line-entries_in c.args.columns.now k c.index-columns-k.result c.columns-test.true c.index-columns-k.is)) in
     let size : length columns ≡ length c.args.columns.now = length-map c.args.columns.now (λ (line : SmallVec Entry). line.items) in
-    let are : AreEntries p (length alive) (slice_index_or columns k []) =
+    let are : AreEntries p height (slice_index_or columns k []) =
     c.requires.entries k [] (omega (arith, size, c.columns-test.true)) in
-    let live : AreEntries p (length alive) c.copy_live.new.made.items =
-    subst (AreEntries p (length alive)) (sym copied) (entries-live p (length alive) alive (slice_index_or columns k []) are) in
+    let live : AreEntries p height c.copy_live.new.made.items =
+    subst (AreEntries p height) (sym c.in_ok-copy_live.ensures) (entries-live c.args.alive.now columns k p height are) in
     subst (λ (n : ℕ). AreEntries p n c.copy_live.new.made.items) (sym c.columns.invariant.rows) live
 
 pub columns-preserved : goal.columns-preserved
@@ -48,15 +43,12 @@ columns-preserved g c =
     let k = c.columns.k in
     let stored = c.columns.stored.columns.items in
     let size = length c.columns.stored.owners.items in
-    let copied : c.copy_live.new.made.items ≡ live_entries alive (slice_index_or columns k []) =
-    c.in_ok-copy_live.ensures
-    ∙ ap (live_entries alive)
-    (c.deref.ensures ∙ sym (line-entries_in c.args.columns.now k c.index-columns-k.result c.columns-test.true c.index-columns-k.is)) in
+    let copied : c.copy_live.new.made.items ≡ live_column alive columns k = c.in_ok-copy_live.ensures in
     let left = c.reduce_line.new.scratch.left.items in
     let reduced = c.in_ok-reduce_line.ensures in
-    let read = sym c.deref-in-columns.ensures.value in
+    let read = sym c.deref.ensures.value in
     let stored_is : c.store.new.stored.columns.items ≡ stored_with stored k left =
-    c.in_ok-store.ensures.columns ∙ ap (stored_with stored k) c.deref-in-columns.ensures.value in
+    c.in_ok-store.ensures.columns ∙ ap (stored_with stored k) c.deref.ensures.value in
     record {
       reduced = subst (AreFirstReduced p alive columns (k + 1)) (sym stored_is)
           (first_reduced-more p size k alive columns stored c.copy_live.new.made.items c.element_laws.ensures.field

@@ -9,6 +9,6 @@ invariant-columns g l =
     record {
       reduced : AreFirstReduced g.F.PrimeField.P l.alive (entries_in l.columns) l.k l.stored.columns.items;
       stored : AreStored g.F.PrimeField.P l.stored.columns.items l.stored.owners.items;
-      rows : length l.stored.owners.items ≡ length l.alive;
+      rows : length l.stored.owners.items ≡ l.height;
       count : length l.stored.columns.items ≤ l.k;
     }

@@ -1,4 +1,4 @@
-use Rattle.std.proofs.Common.{◌≡◌, ◌++◌, take}
+use Rattle.std.proofs.Common.{◌≡◌, take}
 use Rattle.sparse_block.specs.Inside.{lists_in}
 use Rattle.cancel_step.specs.StoredColumns.{stored_pivots, with_pairs}
 use Rattle.cancel_step.proofs.reducing.note_pivots.Given as goal
@@ -7,6 +7,7 @@ use Rattle.cancel_step.proofs.reducing.note_pivots.Given as goal
 abbrev pub invariant-columns : goal.invariant-columns
 invariant-columns l =
     record {
-      pivots : l.made.pivots.items ≡ l.fn.made.pivots.items ++ stored_pivots l.degree (take l.line-index l.stored);
+      own : l.pivots.items ≡ stored_pivots l.degree (take l.line-index l.stored);
+      others : l.made.pivots.items ≡ l.fn.made.pivots.items;
       alive : lists_in l.made.alive.items ≡ with_pairs l.k (lists_in l.fn.made.alive.items) (take l.line-index l.stored);
     }

@@ -6,7 +6,7 @@ use Rattle.kh_types.specs.Generators.{Generator}
 use Rattle.kh_types.specs.History.{IsLegal, replay}
 use Rattle.sparse_block.specs.Complexes.{NamedComplex, sparse_complex, zero_complex}
 use Rattle.sparse_block.specs.Inside.{lines_in, lists_in}
-use Rattle.cancel_step.specs.StoredColumns.{alive_in}
+use Rattle.cancel_step.specs.StoredColumns.{alive_in, from_greatest, pivots_in}
 use Rattle.cancel_step.proofs.ZeroLeft.{complex-left, sizes-left}
 use Rattle.cancel_step.proofs.reducing.reduce.Goals as goal
 
@@ -16,7 +16,7 @@ zero-requires-clause-sizes g c =
     let low = c.args.complex.complex.low in
     let parts = c.into_parts-names.result in
     let columns = lines_in parts.columns.items in
-    let pivots = c.in_ok-alive.field-0.pivots.items in
+    let pivots = from_greatest (pivots_in c.in_ok-alive.field-0.pivots.items) in
     let alive = lists_in c.in_ok-alive.field-0.alive.items in
     let fits : to_z w16 (of_z w16 c.low-low.result) ≡ c.low-low.result = omega (arith, ints, c.low-low.type_inv) in
     let same : to_z w16 (of_z w16 c.low-low.result) ≡ low = fits ∙ c.low-low.ensures in
@@ -33,7 +33,7 @@ returns-clause-left g c =
     let low = c.args.complex.complex.low in
     let parts = c.into_parts-names.result in
     let columns = lines_in parts.columns.items in
-    let pivots = c.in_ok-alive.field-0.pivots.items in
+    let pivots = from_greatest (pivots_in c.in_ok-alive.field-0.pivots.items) in
     let alive = lists_in c.in_ok-alive.field-0.alive.items in
     let fits : to_z w16 (of_z w16 c.low-low.result) ≡ c.low-low.result = omega (arith, ints, c.low-low.type_inv) in
     let same : to_z w16 (of_z w16 c.low-low.result) ≡ low = fits ∙ c.low-low.ensures in
@@ -49,6 +49,7 @@ returns-clause-left g c =
     (λ (low : ℤ) (names : List (Vec Generator)). is_zero (replay p (sparse_complex low (lists_in names) columns).complex pivots) ≡ true)
     same c.deref.ensures.value c.in_ok-alive.ensures.zero)
     ∙ ap (λ (complex : NamedComplex). replay p complex.complex pivots) c.into_parts-names.ensures.complex
+    ∙ ap (replay p c.args.complex.complex) (sym c.in_ok-pivots.ensures)
 
 pub returns-clause-zero : goal.returns-clause-zero
 returns-clause-zero g c =
@@ -56,11 +57,12 @@ returns-clause-zero g c =
     let low = c.args.complex.complex.low in
     let parts = c.into_parts-names.result in
     let columns = lines_in parts.columns.items in
-    let pivots = c.in_ok-alive.field-0.pivots.items in
+    let pivots = from_greatest (pivots_in c.in_ok-alive.field-0.pivots.items) in
     let fits : to_z w16 (of_z w16 c.low-low.result) ≡ c.low-low.result = omega (arith, ints, c.low-low.type_inv) in
     let same : to_z w16 (of_z w16 c.low-low.result) ≡ low = fits ∙ c.low-low.ensures in
     subst (λ (complex : Complex). is_zero complex ≡ true)
-    (ap (λ (complex : NamedComplex). replay p complex.complex pivots) c.into_parts-names.ensures.complex ∙ sym (returns-clause-left g c))
+    (ap (λ (complex : NamedComplex). replay p complex.complex pivots) c.into_parts-names.ensures.complex
+    ∙ ap (replay p c.args.complex.complex) (sym c.in_ok-pivots.ensures) ∙ sym (returns-clause-left g c))
     (subst₂
     (λ (low : ℤ) (names : List (Vec Generator)). is_zero (replay p (sparse_complex low (lists_in names) columns).complex pivots) ≡ true)
     same c.deref.ensures.value c.in_ok-alive.ensures.zero)
