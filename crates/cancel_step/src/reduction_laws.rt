@@ -6,8 +6,8 @@
 ghost use Rattle.std.specs.Prelude.{◌≡◌, ◌≢◌, ℕ, ◌+◌, ◌*◌, ◌<◌, ℤ, pos, ◌+ℤ◌, ◌-ℤ◌, ◌<ℤ◌};
 ghost use Rattle.std.specs.Prelude.{List, [], ◌∷◌, ◌++◌, length, get_or, false, true};
 ghost use Rattle.std.specs.Prelude.{if◌then◌else◌};
-ghost use Rattle.kh_types.specs.Complex.{Complex, IsComplex, IsPivot, cancel, degree_of};
-ghost use Rattle.kh_types.specs.Complex.{entry_of, is_zero, pivot_at};
+ghost use Rattle.kh_types.specs.Complex.{Complex, IsComplex, IsPivot, Pivot, cancel};
+ghost use Rattle.kh_types.specs.Complex.{degree_of, entry_of, is_zero, pivot_at};
 ghost use Rattle.kh_types.specs.History.{IsLegal, replay};
 ghost use Rattle.kh_types.specs.Rank.{minus_mod};
 ghost use Rattle.prime_field.specs.Residues.{IsField};
@@ -136,6 +136,21 @@ pub fn reductions_kill_columns_and_last_rows()
     ensures previous { (p : ℕ) (before after : Complex) (i : ℤ) (count : ℕ)
         (reduced : List ReducedColumn) → AreReduced p before i count reduced after
         → (degree_of after (i -ℤ pos 1)).alive ≡ (degree_of before (i -ℤ pos 1)).alive }
+{}
+
+/// Cancellations in two degrees may change places. The pivot of the greater degree is one before the
+/// other is cancelled, the other is one after it, and both orders leave the same complex.
+pub fn cancellations_in_two_degrees_change_places()
+    ensures greater { (p : ℕ) (complex : Complex) (less greater : Pivot) → IsField p
+        → IsComplex p complex → IsPivot complex less → IsPivot (cancel p complex less) greater
+        → less.degree <ℤ greater.degree → IsPivot complex greater }
+    ensures less { (p : ℕ) (complex : Complex) (less greater : Pivot) → IsField p
+        → IsComplex p complex → IsPivot complex less → IsPivot (cancel p complex less) greater
+        → less.degree <ℤ greater.degree → IsPivot (cancel p complex greater) less }
+    ensures same { (p : ℕ) (complex : Complex) (less greater : Pivot) → IsField p
+        → IsComplex p complex → IsPivot complex less → IsPivot (cancel p complex less) greater
+        → less.degree <ℤ greater.degree → cancel p (cancel p complex greater) less
+        ≡ cancel p (cancel p complex less) greater }
 {}
 
 /// One degree after another, from the greatest down: above the greatest there is no entry; where
