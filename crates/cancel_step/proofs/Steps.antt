@@ -3,7 +3,7 @@
 -- The column of the complex so far is w, and it is 0 in the last rows; what the reduction left of the column is v. Both are left of the
 -- same column of the first complex, so v is w and a combination: they end alike (Endings). The pivot takes from each later column the
 -- multiple k w, and w is v and a combination: so one more column, with the factor k, makes up for it.
-use Rattle.std.proofs.Common.{◌≡◌, ℕ, ◌+◌, ◌*◌, ◌%◌, ◌<◌, ◌≤◌, ◌∙◌, inl, inr, List, [], ◌∷◌, ◌++◌, ℤ, refl, ap, sym, subst, arith, false, true≢false}
+use Rattle.std.proofs.Common.{◌≡◌, ℕ, ◌+◌, ◌*◌, ◌%◌, ◌<◌, ◌≤◌, ◌∙◌, inl, inr, List, [], ◌∷◌, ◌++◌, ℤ, refl, ap, sym, subst, arith, false, true≢false, append-nil, append_assoc}
 use Rattle.std.proofs.lemmas.Bool.Decides.{leb_tells}
 use Rattle.kh_types.specs.Complex.{Complex, Degree, IsComplex, IsPivot, Pivot, cancel, cancelled_matrix, degree_of, entry_in, entry_of, pivot_at}
 use Rattle.kh_types.specs.History.{IsLegal, replay}
@@ -16,7 +16,7 @@ use Rattle.sparse_block.proofs.CancelledDegrees.{degree-at_pivot}
 use Rattle.sparse_block.proofs.CancelledMatrices.{leaves-cancel, pivot_column-cancel, pivot_row-cancel}
 use Rattle.cancel_step.proofs.ChangedLemmas.{entry-stays}
 use Rattle.cancel_step.proofs.HistoryLemmas.{complex-replay, legal-push, replay-push}
-use Rattle.cancel_step.specs.Reductions.{ReducedColumn, IsLineBelow, AreReduced, EndsAt, IsLeftOf, IsReducedColumn, IsZeroLine, combination, is_last_row, column_numbers, pivots_of, with_column}
+use Rattle.cancel_step.specs.Reductions.{ReducedColumn, IsLineBelow, AreReduced, ComeInOrder, EndsAt, IsLeftOf, IsReducedColumn, IsZeroLine, combination, is_last_row, column_numbers, pivots_of, with_column}
 use Rattle.cancel_step.proofs.Combinations.{apart-push, combination-push, combination-scaled, combination-sum, is_last_row-push, with_factor}
 use Rattle.cancel_step.proofs.Endings.{ends-left, value-left, zero-left}
 use Rattle.cancel_step.proofs.Lefts.{left-between, left-whole}
@@ -28,10 +28,34 @@ reduced-none p before i =
       legal = tt;
       replayed = refl;
       columns = record { each = tt; apart = tt };
+      order = omega arith;
       dead = λ column row last. absurd (true≢false (sym last));
       cleared = λ column within row. absurd (omega (arith, within));
       left = λ column later. left-whole p [] (column_numbers before i column);
     }
+
+-- the order of reduced columns, with one column more, of which nothing is left, or which is the last of them
+order-later : (p : ℕ) (before : Complex) (i : ℤ) (count least : ℕ) (earlier lines : List ReducedColumn)
+    → ComeInOrder p before i count least earlier lines → ComeInOrder p before i (count + 1) least earlier lines
+order-later p before i count least earlier [] order = omega (arith, order)
+order-later p before i count least earlier (line ∷ lines) order =
+    (order.0, order.1, order-later p before i count (line.column + 1) (earlier ++ line ∷ []) lines order.2)
+
+order-push : (p : ℕ) (before : Complex) (i : ℤ) (count least : ℕ) (earlier lines : List ReducedColumn) (last : ReducedColumn)
+    → last.column ≡ count → IsLeftOf p (earlier ++ lines) (column_numbers before i count) last.values
+    → ComeInOrder p before i count least earlier lines → ComeInOrder p before i (count + 1) least earlier (lines ++ last ∷ [])
+order-push p before i count least earlier [] last here is_left order =
+    let own : IsLeftOf p earlier (column_numbers before i last.column) last.values =
+    subst (λ (lines : List ReducedColumn). IsLeftOf p lines (column_numbers before i last.column) last.values) (append-nil earlier)
+    (subst (λ (column : ℕ). IsLeftOf p (earlier ++ []) (column_numbers before i column) last.values) (sym here) is_left) in
+    (omega (arith, order, here), own, omega (arith, here))
+order-push p before i count least earlier (line ∷ lines) last here is_left order = (
+  order.0,
+  order.1,
+  order-push p before i count (line.column + 1) (earlier ++ line ∷ []) lines last here
+      (subst (λ (lines : List ReducedColumn). IsLeftOf p lines (column_numbers before i count) last.values)
+      (sym (append_assoc earlier (line ∷ []) lines)) is_left) order.2,
+)
 
 -- the pivots of one column more
 pub pivots-push : (i : ℤ) (reduced : List ReducedColumn) (column row : ℕ) (values : ℕ → ℕ)
@@ -71,6 +95,7 @@ module _ (p : ℕ) (before after : Complex) (i : ℤ) (count : ℕ) (reduced : L
           legal = so_far.legal;
           replayed = so_far.replayed;
           columns = so_far.columns;
+          order = order-later p before i count 0 [] reduced so_far.order;
           dead = so_far.dead;
           cleared = λ column within row.
               elim (leb_tells count column) [
@@ -169,6 +194,8 @@ module _ (p : ℕ) (before after : Complex) (i : ℤ) (count : ℕ) (reduced : L
                   (record { below = below; ends = ends }, tt);
               apart = apart-push reduced count last values so_far.columns.apart free;
             };
+            order = order-push p before i count 0 [] reduced (record { column = count; row = last; values = values }) refl is_left
+                so_far.order;
             dead = λ column row is_last.
                 elim (is_last_row-push row count last reduced values is_last) [
                   | inl old ↦

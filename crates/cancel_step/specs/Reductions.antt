@@ -71,13 +71,22 @@ column_numbers complex i column row = entry_of complex i row column
 abbrev pub pivots_of : ℤ → List ReducedColumn → List Pivot
 pivots_of i reduced = map (λ line. pivot_at i line.column line.row) reduced
 
--- the first columns of degree i, as many as count, are reduced, and `after` is what the pivots leave: a legal history; its entries
--- are 0 in the last rows and in these columns; and each later column of `after` is what is left of the one of `before`. Of which columns
--- the reduced ones are it does not speak: the law of one step, `last_entries_are_pivots`, does
+-- reduced columns come in the order of their columns, which are below count and at least `least`, and each is what those before it leave
+-- of its own column
+abbrev pub ComeInOrder : ℕ → Complex → ℤ → ℕ → ℕ → List ReducedColumn → List ReducedColumn → Type 0
+ComeInOrder p before i count least earlier [] = least ≤ count
+ComeInOrder p before i count least earlier (line ∷ lines) =
+    (least ≤ line.column) × IsLeftOf p earlier (column_numbers before i line.column) line.values
+    × ComeInOrder p before i count (line.column + 1) (earlier ++ line ∷ []) lines
+
+-- the first columns of degree i, as many as count, are reduced: each reduced column is what those before it leave of its own, and
+-- `after` is what the pivots leave: they are a legal history; its entries are 0 in the last rows and in the first columns; and each later
+-- column of `after` is what is left of the one of `before`
 pub record AreReduced (p : ℕ) (before : Complex) (i : ℤ) (count : ℕ) (reduced : List ReducedColumn) (after : Complex) : Type 0 where
   pub legal : IsLegal p before (pivots_of i reduced)
   pub replayed : after ≡ replay p before (pivots_of i reduced)
   pub columns : AreReducedColumns p reduced
+  pub order : ComeInOrder p before i count 0 [] reduced
   pub dead : (column : ℕ) → IsDeadIn reduced (column_numbers after i column)
   pub cleared : (column : ℕ) → column < count → IsZeroLine (column_numbers after i column)
   pub left : (column : ℕ) → count ≤ column → IsLeftOf p reduced (column_numbers before i column) (column_numbers after i column)
