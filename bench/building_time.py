@@ -12,7 +12,7 @@ import subprocess
 import gdb
 
 PROGRAM = os.environ["PROGRAM"]
-BUILDERS = ("cube_signs::", "sparse_block::building::", "shared_block::shared_block::SharedBlock::of_cube::")
+BUILDERS = ("cube_signs::",)
 
 
 def builders():

@@ -2,12 +2,12 @@
 -- not the pivot's: for an entry at a dead place is no pivot. A row that is 0 stays 0, and takes nothing from others; a column too. In all
 -- other degrees both make rows and columns 0. So which comes first makes no difference, and pivots of a greater degree, which come
 -- behind a history of smaller ones, may come before it.
-use Rattle.std.proofs.Common.{◌≡◌, ◌≢◌, ℕ, ◌+◌, ◌*◌, ◌<◌, ◌∙◌, List, [], ◌∷◌, ◌++◌, ℤ, pos, ◌+ℤ◌, ◌<ℤ◌, length, refl, ap, sym, subst, arith, Bool, true, false, ◌||◌}
+use Rattle.std.proofs.Common.{◌≡◌, ◌≢◌, ℕ, ◌+◌, ◌*◌, ◌<◌, ◌∙◌, List, [], ◌∷◌, ◌++◌, ℤ, pos, ◌+ℤ◌, ◌<ℤ◌, ◌≤ℤ◌, length, refl, ap, sym, subst, arith, Bool, true, false, ◌||◌}
 use Rattle.std.specs.Prelude.{nat_eq, slice_index_or, if◌then◌else◌}
 use Rattle.std.specs.List.{AllByRecursion}
 use Rattle.std.proofs.lemmas.Bool.{eq-eqb, ne_eqb}
 use Rattle.std.proofs.lemmas.Int.{ints}
-use Rattle.kh_types.specs.Complex.{Complex, Degree, IsComplex, IsPivot, Pivot, cancel, degree_of, entry_in, entry_of, pivot_at}
+use Rattle.kh_types.specs.Complex.{Complex, Degree, IsComplex, IsPivot, Pivot, cancel, degree_of, entry_in, entry_of}
 use Rattle.kh_types.specs.History.{IsLegal, replay}
 use Rattle.kh_types.specs.Rank.{inverse, minus_mod}
 use Rattle.kh_types.proofs.CancelLemmas.{degrees-cancel, places-cancel}
@@ -17,7 +17,7 @@ use Rattle.prime_field.specs.Residues.{IsField}
 use Rattle.sparse_block.proofs.CancelledComplexes.{complex-cancel}
 use Rattle.sparse_block.proofs.CancelledDegrees.{Where, where_is, degree-after_pivot, degree-at_pivot, degree-before_pivot, degree-elsewhere}
 use Rattle.sparse_block.proofs.ComplexMatrices.{entry-stands, matrix-of_degree}
-use Rattle.cancel_step.specs.Reductions.{ReducedColumn, is_place_alive, pivots_of}
+use Rattle.cancel_step.specs.Reductions.{is_place_alive}
 use Rattle.cancel_step.proofs.Alike.{complex-alike}
 use Rattle.cancel_step.proofs.Others.{alive-without}
 
@@ -339,22 +339,27 @@ comes-first p complex pivot (first ∷ later) field is less legal is_pivot =
       same = ap (λ (made : Complex). replay p made later) swap ∙ rest.same;
     }
 
--- and so may all pivots of a degree
+-- and so may all of some pivots of greater degrees
+less-all : (history : List Pivot) (i j : ℤ) → i ≤ℤ j → AllByRecursion (λ before. before.degree <ℤ i) history
+    → AllByRecursion (λ before. before.degree <ℤ j) history
+less-all [] i j within less = tt
+less-all (pivot ∷ later) i j within less = (omega (arith, ints, within, less.0), less-all later i j within less.1)
+
 pub record ComeFirst (p : ℕ) (complex : Complex) (pivots history : List Pivot) : Type 0 where
   pub legal : IsLegal p complex (pivots ++ history)
   pub same : replay p complex (pivots ++ history) ≡ replay p (replay p complex history) pivots
 
-pub come-first : (p : ℕ) (complex : Complex) (i : ℤ) (reduced : List ReducedColumn) (history : List Pivot) → IsField p → IsComplex p complex
-    → AllByRecursion (λ before. before.degree <ℤ i) history → IsLegal p complex history
-    → IsLegal p (replay p complex history) (pivots_of i reduced) → ComeFirst p complex (pivots_of i reduced) history
-come-first p complex i [] history field is less legal more = record { legal = legal; same = refl }
-come-first p complex i (line ∷ lines) history field is less legal more =
-    let pivot = pivot_at i line.column line.row in
-    let first = comes-first p complex pivot history field is less legal more.0 in
+pub come-first : (p : ℕ) (complex : Complex) (i : ℤ) (pivots history : List Pivot) → IsField p → IsComplex p complex
+    → AllByRecursion (λ before. before.degree <ℤ i) history → AllByRecursion (λ pivot. i ≤ℤ pivot.degree) pivots
+    → IsLegal p complex history → IsLegal p (replay p complex history) pivots → ComeFirst p complex pivots history
+come-first p complex i [] history field is less greater legal more = record { legal = legal; same = refl }
+come-first p complex i (pivot ∷ pivots) history field is less greater legal more =
+    let first =
+    comes-first p complex pivot history field is (less-all history i pivot.degree greater.0 less) legal more.0 in
     let rest =
-    come-first p (cancel p complex pivot) i lines history field (complex-cancel p complex pivot field is first.is_pivot) less first.legal
-    (subst (λ (made : Complex). IsLegal p made (pivots_of i lines)) (sym first.same) more.1) in
+    come-first p (cancel p complex pivot) i pivots history field (complex-cancel p complex pivot field is first.is_pivot) less greater.1
+    first.legal (subst (λ (made : Complex). IsLegal p made pivots) (sym first.same) more.1) in
     record {
       legal = (first.is_pivot, rest.legal);
-      same = rest.same ∙ ap (λ (made : Complex). replay p made (pivots_of i lines)) first.same;
+      same = rest.same ∙ ap (λ (made : Complex). replay p made pivots) first.same;
     }

@@ -1,23 +1,26 @@
--- The end of one degree, and of all degrees from the greatest down: a column without entries keeps none, and so what has been emptied
+-- The end of one degree, and of all degrees from the least up: a column without entries keeps none, and so what has been emptied
 -- stays empty.
-use Rattle.std.proofs.Common.{◌≡◌, ℕ, ◌∙◌, inl, inr, List, [], ◌∷◌, ℤ, pos, ◌-ℤ◌, ◌<ℤ◌, length, ap, sym, subst, arith, true}
+use Rattle.std.proofs.Common.{◌≡◌, ℕ, ◌∙◌, inl, inr, List, [], ◌∷◌, ◌++◌, ℤ, pos, ◌+ℤ◌, ◌<ℤ◌, ◌≤ℤ◌, length, ap, sym, subst, arith, true}
+use Rattle.std.specs.List.{AllByRecursion}
 use Rattle.std.proofs.lemmas.Bool.Decides.{eqb_tells, leb_tells}
 use Rattle.std.proofs.lemmas.Int.{ints}
 use Rattle.kh_types.specs.Complex.{Complex, IsComplex, entry_of, is_zero}
 use Rattle.kh_types.specs.History.{IsLegal, replay}
+use Rattle.kh_types.proofs.Lists.{AllByRecursion-append}
 use Rattle.prime_field.specs.Residues.{IsField}
-use Rattle.sparse_block.specs.Complexes.{column_of, high_of, place_count}
+use Rattle.sparse_block.specs.Complexes.{column_of, place_count}
 use Rattle.sparse_block.specs.Entries.{entries_of}
 use Rattle.sparse_block.proofs.CancelledDegrees.{Where, where_is}
 use Rattle.sparse_block.proofs.ComplexMatrices.{entry-stands}
 use Rattle.sparse_block.proofs.PastLemmas.{degree-from_place, entries-zeros}
 use Rattle.sparse_block.proofs.ReadingLemmas.{number-column_of}
 use Rattle.cancel_step.specs.Histories.{ComesByCancelling}
+use Rattle.cancel_step.proofs.Commuting.{come-first}
 use Rattle.cancel_step.proofs.EntryValues.{number-none}
 use Rattle.cancel_step.proofs.FinishLemmas.{complex-comes, empty-comes, places-comes}
-use Rattle.cancel_step.proofs.HistoryLemmas.{legal-append, low-replay, replay-append}
+use Rattle.cancel_step.proofs.HistoryLemmas.{degrees-replay, low-replay}
 use Rattle.cancel_step.proofs.ReadingLemmas.{zero-from_columns}
-use Rattle.cancel_step.specs.Reductions.{ReducedColumn, AreReduced, AreReducedDown, HasNoEntry, HaveNoEntryAbove, IsReducedDegree, pivots_down, pivots_of}
+use Rattle.cancel_step.specs.Reductions.{ReducedColumn, AreReduced, AreReducedUp, HasNoEntry, HaveNoEntryBelow, IsReducedDegree, pivots_from_greatest, pivots_of}
 
 -- what the reduction leaves comes by cancelling
 pub comes-reduced : (p : ℕ) (before after : Complex) (i : ℤ) (count : ℕ) (reduced : List ReducedColumn)
@@ -50,33 +53,33 @@ no_entry-end p before after i reduced field is so_far column row =
           ]
     ]
 
--- no entries above the greatest degree, nor, at the end of a degree, above the one before
-pub above-high : (p : ℕ) (complex : Complex) → IsComplex p complex → HaveNoEntryAbove complex (high_of complex)
-above-high p complex is j above column row =
+-- no entries below the least degree, nor, at the end of a degree, below the next one
+pub below-low : (p : ℕ) (complex : Complex) → IsComplex p complex → HaveNoEntryBelow complex complex.low
+below-low p complex is j below column row =
     elim (eqb_tells (entry_of complex j row column) 0) [
       | inl same ↦ same.1
       | inr other ↦
           let degree = degree-from_place complex j column (entry-stands p complex j row column is other.1).column_place in
-          absurd (omega (arith, ints, above, degree.high))
+          absurd (omega (arith, ints, below, degree.low))
     ]
 
-pub above-next : (p : ℕ) (before after : Complex) (i : ℤ) (reduced : List ReducedColumn) → IsField p → IsComplex p before
-    → IsReducedDegree p before i reduced after → HaveNoEntryAbove before i → HaveNoEntryAbove after (i -ℤ pos 1)
-above-next p before after i reduced field is so_far none j above =
+pub below-next : (p : ℕ) (before after : Complex) (i : ℤ) (reduced : List ReducedColumn) → IsField p → IsComplex p before
+    → IsReducedDegree p before i reduced after → HaveNoEntryBelow before i → HaveNoEntryBelow after (i +ℤ pos 1)
+below-next p before after i reduced field is so_far none j below =
     let comes = comes-reduced p before after i (place_count before i) reduced so_far in
-    let later : i <ℤ j → HasNoEntry after j = λ (higher : i <ℤ j). no_entry-comes p before after j field is comes (none j higher) in
+    let earlier : j <ℤ i → HasNoEntry after j = λ (less : j <ℤ i). no_entry-comes p before after j field is comes (none j less) in
     elim (where_is j i) [
       | Where.is_at here ↦
           subst (HasNoEntry after) (sym here) (no_entry-end p before after i reduced field is so_far)
-      | Where.is_after next ↦ later (omega (arith, ints, next))
-      | Where.is_before previous ↦ absurd (omega (arith, ints, previous, above))
-      | Where.is_elsewhere not_here not_next not_previous ↦ later (omega (arith, ints, above, not_here))
+      | Where.is_after next ↦ absurd (omega (arith, ints, next, below))
+      | Where.is_before previous ↦ earlier (omega (arith, ints, previous))
+      | Where.is_elsewhere not_here not_next not_previous ↦ earlier (omega (arith, ints, below, not_here))
     ]
 
--- a complex is zero where it has no entries above what is below its least degree
-pub zero-above : (p : ℕ) (complex : Complex) → IsComplex p complex → HaveNoEntryAbove complex (complex.low -ℤ pos 1)
-    → is_zero complex ≡ true
-zero-above p complex is none = zero-from_columns complex empty
+-- a complex is zero where it has no entries below what is above its greatest degree
+pub zero-below : (p : ℕ) (complex : Complex) → IsComplex p complex
+    → HaveNoEntryBelow complex (complex.low +ℤ pos (length complex.degrees)) → is_zero complex ≡ true
+zero-below p complex is none = zero-from_columns complex empty
   where
     entry-none : (j : ℤ) (row column : ℕ) → entry_of complex j row column ≡ 0
     entry-none j row column =
@@ -84,57 +87,89 @@ zero-above p complex is none = zero-from_columns complex empty
           | inl same ↦ same.1
           | inr other ↦
               let degree = degree-from_place complex j column (entry-stands p complex j row column is other.1).column_place in
-              none j (omega (arith, ints, degree.low)) column row
+              none j (omega (arith, ints, degree.high)) column row
         ]
 
     empty : (j : ℤ) (column : ℕ) → entries_of (column_of complex j column) ≡ []
     empty j column =
         entries-zeros (column_of complex j column) (λ row. number-column_of complex j row column ∙ entry-none j row column)
 
--- all degrees from one down
+-- all degrees from one up
 
-pub legal-down : (p : ℕ) (before after : Complex) (i : ℤ) (degrees : List (List ReducedColumn))
-    → AreReducedDown p before i degrees after → IsLegal p before (pivots_down i degrees)
-legal-down p before after i [] down = tt
-legal-down p before after i (reduced ∷ later) down =
-    let rest = pivots_down (i -ℤ pos 1) later in
-    legal-append p before (pivots_of i reduced) rest down.1.legal
-    (subst (λ (complex : Complex). IsLegal p complex rest) down.1.replayed (legal-down p down.0 after (i -ℤ pos 1) later down.2))
+-- the degrees of their pivots
+pub own-degrees : (i j : ℤ) (reduced : List ReducedColumn) → i ≤ℤ j → AllByRecursion (λ pivot. i ≤ℤ pivot.degree) (pivots_of j reduced)
+own-degrees i j [] within = tt
+own-degrees i j (line ∷ lines) within = (within, own-degrees i j lines within)
 
-pub replay-down : (p : ℕ) (before after : Complex) (i : ℤ) (degrees : List (List ReducedColumn))
-    → AreReducedDown p before i degrees after → after ≡ replay p before (pivots_down i degrees)
-replay-down p before after i [] down = down
-replay-down p before after i (reduced ∷ later) down =
-    let rest = pivots_down (i -ℤ pos 1) later in
-    replay-down p down.0 after (i -ℤ pos 1) later down.2
-    ∙ ap (λ (complex : Complex). replay p complex rest) down.1.replayed
-    ∙ sym (replay-append p before (pivots_of i reduced) rest)
+pub less-own : (i j : ℤ) (reduced : List ReducedColumn) → j <ℤ i → AllByRecursion (λ pivot. pivot.degree <ℤ i) (pivots_of j reduced)
+less-own i j [] less = tt
+less-own i j (line ∷ lines) less = (less, less-own i j lines less)
 
-pub comes-down : (p : ℕ) (before after : Complex) (i : ℤ) (degrees : List (List ReducedColumn))
-    → AreReducedDown p before i degrees after → ComesByCancelling p before after
-comes-down p before after i degrees down =
+greater-degrees : (i j : ℤ) (degrees : List (List ReducedColumn)) → i ≤ℤ j
+    → AllByRecursion (λ pivot. i ≤ℤ pivot.degree) (pivots_from_greatest j degrees)
+greater-degrees i j [] within = tt
+greater-degrees i j (reduced ∷ later) within =
+    AllByRecursion-append (λ pivot. i ≤ℤ pivot.degree) (pivots_from_greatest (j +ℤ pos 1) later) (pivots_of j reduced)
+    (greater-degrees i (j +ℤ pos 1) later (omega (arith, ints, within))) (own-degrees i j reduced within)
+
+pub less-degrees : (i j : ℤ) (degrees : List (List ReducedColumn)) → (j +ℤ pos (length degrees)) ≤ℤ i
+    → AllByRecursion (λ pivot. pivot.degree <ℤ i) (pivots_from_greatest j degrees)
+less-degrees i j [] less = tt
+less-degrees i j (reduced ∷ later) less =
+    AllByRecursion-append (λ pivot. pivot.degree <ℤ i) (pivots_from_greatest (j +ℤ pos 1) later) (pivots_of j reduced)
+    (less-degrees i (j +ℤ pos 1) later (omega (arith, ints, less))) (less-own i j reduced (omega (arith, ints, less)))
+
+-- so those of the greater degrees may come first
+pub up-first : (p : ℕ) (before after : Complex) (i : ℤ) (degrees : List (List ReducedColumn)) → IsField p → IsComplex p before
+    → AreReducedUp p before i degrees after
+    → IsLegal p before (pivots_from_greatest i degrees) × (after ≡ replay p before (pivots_from_greatest i degrees))
+up-first p before after i [] field is up = (tt, up)
+up-first p before after i (reduced ∷ later) field is up =
+    let comes = comes-reduced p before up.0 i (place_count before i) reduced up.1 in
+    let greater = pivots_from_greatest (i +ℤ pos 1) later in
+    let rest = up-first p up.0 after (i +ℤ pos 1) later field (complex-comes p before up.0 field is comes) up.2 in
+    let both =
+    come-first p before (i +ℤ pos 1) greater (pivots_of i reduced) field is
+    (less-own (i +ℤ pos 1) i reduced (omega (arith, ints))) (greater-degrees (i +ℤ pos 1) (i +ℤ pos 1) later (omega (arith, ints)))
+    up.1.legal
+    (subst (λ (complex : Complex). IsLegal p complex greater) up.1.replayed rest.0) in
+    (both.legal, rest.1 ∙ ap (λ (complex : Complex). replay p complex greater) up.1.replayed ∙ sym both.same)
+
+pub legal-up : (p : ℕ) (before after : Complex) (i : ℤ) (degrees : List (List ReducedColumn)) → IsField p → IsComplex p before
+    → AreReducedUp p before i degrees after → IsLegal p before (pivots_from_greatest i degrees)
+legal-up p before after i degrees field is up = (up-first p before after i degrees field is up).0
+
+pub replay-up : (p : ℕ) (before after : Complex) (i : ℤ) (degrees : List (List ReducedColumn)) → IsField p → IsComplex p before
+    → AreReducedUp p before i degrees after → after ≡ replay p before (pivots_from_greatest i degrees)
+replay-up p before after i degrees field is up = (up-first p before after i degrees field is up).1
+
+pub comes-up : (p : ℕ) (before after : Complex) (i : ℤ) (degrees : List (List ReducedColumn)) → IsField p → IsComplex p before
+    → AreReducedUp p before i degrees after → ComesByCancelling p before after
+comes-up p before after i degrees field is up =
     record {
-      history = pivots_down i degrees;
-      legal = legal-down p before after i degrees down;
-      replayed = replay-down p before after i degrees down;
+      history = pivots_from_greatest i degrees;
+      legal = legal-up p before after i degrees field is up;
+      replayed = replay-up p before after i degrees field is up;
     }
 
-above-down : (p : ℕ) (before after : Complex) (i : ℤ) (degrees : List (List ReducedColumn)) → IsField p → IsComplex p before
-    → AreReducedDown p before i degrees after → HaveNoEntryAbove before i → HaveNoEntryAbove after (i -ℤ pos (length degrees))
-above-down p before after i [] field is down none j above =
-    subst (λ (complex : Complex). HasNoEntry complex j) (sym down) (none j (omega (arith, ints, above)))
-above-down p before after i (reduced ∷ later) field is down none j above =
-    let comes = comes-reduced p before down.0 i (place_count before i) reduced down.1 in
-    above-down p down.0 after (i -ℤ pos 1) later field (complex-comes p before down.0 field is comes) down.2
-    (above-next p before down.0 i reduced field is down.1 none) j (omega (arith, ints, above))
+below-up : (p : ℕ) (before after : Complex) (i : ℤ) (degrees : List (List ReducedColumn)) → IsField p → IsComplex p before
+    → AreReducedUp p before i degrees after → HaveNoEntryBelow before i → HaveNoEntryBelow after (i +ℤ pos (length degrees))
+below-up p before after i [] field is up none j below =
+    subst (λ (complex : Complex). HasNoEntry complex j) (sym up) (none j (omega (arith, ints, below)))
+below-up p before after i (reduced ∷ later) field is up none j below =
+    let comes = comes-reduced p before up.0 i (place_count before i) reduced up.1 in
+    below-up p up.0 after (i +ℤ pos 1) later field (complex-comes p before up.0 field is comes) up.2
+    (below-next p before up.0 i reduced field is up.1 none) j (omega (arith, ints, below))
 
 -- so all degrees leave zero
-pub zero-down : (p : ℕ) (before after : Complex) (degrees : List (List ReducedColumn)) → IsField p → IsComplex p before
-    → AreReducedDown p before (high_of before) degrees after → length degrees ≡ length before.degrees → is_zero after ≡ true
-zero-down p before after degrees field is down all =
-    let comes = comes-down p before after (high_of before) degrees down in
+pub zero-up : (p : ℕ) (before after : Complex) (degrees : List (List ReducedColumn)) → IsField p → IsComplex p before
+    → AreReducedUp p before before.low degrees after → length degrees ≡ length before.degrees → is_zero after ≡ true
+zero-up p before after degrees field is up all =
+    let comes = comes-up p before after before.low degrees field is up in
     let low : after.low ≡ before.low = ap (λ (complex : Complex). complex.low) comes.replayed ∙ low-replay p before comes.history in
-    zero-above p after (complex-comes p before after field is comes)
-    (λ j above.
-    above-down p before after (high_of before) degrees field is down (above-high p before is) j
-    (omega (arith, ints, above, low, all)))
+    let size : length after.degrees ≡ length before.degrees =
+    ap (λ (complex : Complex). length complex.degrees) comes.replayed ∙ degrees-replay p before comes.history in
+    zero-below p after (complex-comes p before after field is comes)
+    (λ j below.
+    below-up p before after before.low degrees field is up (below-low p before is) j
+    (omega (arith, ints, below, low, size, all)))

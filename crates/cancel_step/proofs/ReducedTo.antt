@@ -5,26 +5,25 @@
 -- next degree the columns that are last rows of theirs are now dead and 0; further up nothing changes. Their pivots come before those
 -- of the smaller degrees, since cancellations in two degrees may change places. In the end there is no entry out of any degree, and the
 -- complex is zero.
-use Rattle.std.proofs.Common.{◌≡◌, ℕ, ◌+◌, ◌∙◌, ◌⊎◌, inl, inr, List, [], ◌∷◌, ◌++◌, ℤ, pos, ◌+ℤ◌, ◌-ℤ◌, ◌<ℤ◌, ◌≤ℤ◌, length, refl, ap, ap₂, sym, subst, arith, Bool, true, false}
+use Rattle.std.proofs.Common.{◌≡◌, ℕ, ◌+◌, ◌∙◌, inl, inr, List, [], ◌∷◌, ◌++◌, ℤ, pos, ◌+ℤ◌, ◌-ℤ◌, ◌<ℤ◌, ◌≤ℤ◌, length, refl, ap, ap₂, sym, subst, arith, Bool, true, false}
 use Rattle.std.specs.Prelude.{slice_index_or, if◌then◌else◌}
 use Rattle.std.specs.List.{AllByRecursion}
-use Rattle.std.proofs.lemmas.Bool.Decides.{eqb_tells, nat_tests}
+use Rattle.std.proofs.lemmas.Bool.Decides.{eqb_tells}
 use Rattle.std.proofs.lemmas.Int.{ints}
-use Rattle.std.proofs.lemmas.List.{get_or_default}
+use Rattle.std.proofs.lemmas.List.{get_or_default, length-append}
 use Rattle.kh_types.specs.Complex.{Complex, Degree, IsComplex, Pivot, degree_of, entry_in, entry_of, is_zero}
 use Rattle.kh_types.specs.History.{replay}
-use Rattle.kh_types.proofs.Lists.{AllByRecursion-append}
 use Rattle.prime_field.specs.Residues.{IsField}
 use Rattle.sparse_block.specs.Complexes.{place_count}
 use Rattle.sparse_block.specs.Entries.{Entry, value_at}
 use Rattle.sparse_block.proofs.CancelledDegrees.{Where, where_is}
 use Rattle.sparse_block.proofs.ComplexMatrices.{entry-stands}
-use Rattle.sparse_block.proofs.PastLemmas.{degree-from_place}
+use Rattle.cancel_step.proofs.Chains.{greatest-longer, reduced-longer}
 use Rattle.cancel_step.proofs.Commuting.{come-first}
 use Rattle.cancel_step.proofs.HistoryLemmas.{complex-replay, degrees-replay, low-replay, places-replay}
-use Rattle.cancel_step.specs.Reductions.{AreReduced, HasNoEntry, IsReducedDegree, is_last_row, is_place_alive, pivots_of, ReducedColumn}
+use Rattle.cancel_step.specs.Reductions.{AreReduced, AreReducedUp, HaveNoEntryBelow, IsReducedComplex, IsReducedDegree, is_last_row, is_place_alive, pivots_from_greatest, pivots_of}
 use Rattle.cancel_step.specs.StoredColumns.{AreFirstReduced, HasColumns, IsReducedTo, StoredColumn, alive_in, reduced_columns, stored_pivots, with_pairs}
-use Rattle.cancel_step.proofs.Ends.{above-high, comes-reduced, no_entry-comes, no_entry-end, zero-above}
+use Rattle.cancel_step.proofs.Ends.{below-low, below-next, less-degrees, own-degrees, zero-below}
 use Rattle.cancel_step.proofs.LastEntries.{value_at-live}
 use Rattle.cancel_step.proofs.Marks.{alive-number, alive_in-pairs}
 use Rattle.cancel_step.proofs.Others.{next-alive, next-entries, other-degrees}
@@ -45,29 +44,27 @@ entries-alive p complex i row column is = at (is_place_alive complex i column) r
               (get_or_default (degree_of complex i).alive column true false stands.column_place ∙ dead)
         ]
 
--- below the least degree there is none
-none-below : (p : ℕ) (complex : Complex) (j : ℤ) → IsComplex p complex → j <ℤ complex.low → HasNoEntry complex j
-none-below p complex j is before column row =
-    elim (eqb_tells (entry_of complex j row column) 0) [
-      | inl none ↦ none.1
-      | inr other ↦
-          let degree = degree-from_place complex j column (entry-stands p complex j row column is other.1).column_place in
-          absurd (omega (arith, ints, before, degree.low))
-    ]
-
 -- at first no degree is reduced
 pub reduced_to-first : (p : ℕ) (complex : Complex) (places : List (List Bool)) → IsComplex p complex → places ≡ alive_in complex
     → IsReducedTo p complex 0 places []
 reduced_to-first p complex places is alive =
     record {
+      degrees = [];
+      count = refl;
+      up = refl;
+      listed = refl;
       legal = tt;
-      degrees = tt;
       alive = alive;
-      below = λ j before. none-below p complex j is (omega (arith, ints, before));
+      below = subst (HaveNoEntryBelow complex) (omega (arith, ints)) (below-low p complex is);
       above = λ j later row column. entries-alive p complex j row column is;
     }
 
 -- in the end all are
+pub reduced_to-all : (p k : ℕ) (complex : Complex) (places : List (List Bool)) (pivots : List Pivot) → k ≡ length complex.degrees
+    → IsReducedTo p complex k places pivots → IsReducedComplex p complex pivots (replay p complex pivots)
+reduced_to-all p k complex places pivots all reduced =
+    record { degrees = reduced.degrees; count = reduced.count ∙ all; up = reduced.up; listed = reduced.listed }
+
 pub reduced_to-zero : (p k : ℕ) (complex : Complex) (places : List (List Bool)) (pivots : List Pivot) → IsField p → IsComplex p complex
     → k ≡ length complex.degrees → IsReducedTo p complex k places pivots → is_zero (replay p complex pivots) ≡ true
 reduced_to-zero p k complex places pivots field is all reduced =
@@ -75,15 +72,8 @@ reduced_to-zero p k complex places pivots field is all reduced =
     let is_left = complex-replay p complex pivots field is reduced.legal in
     let low = low-replay p complex pivots in
     let count = degrees-replay p complex pivots in
-    zero-above p left is_left
-    (λ j above.
-    elim (int_tells j (complex.low +ℤ pos k)) [
-      | inl before ↦ reduced.below j before
-      | inr later ↦ above-high p left is_left j (omega (arith, ints, later, low, count, all))
-    ])
-  where
-    int_tells : (i j : ℤ) → (i <ℤ j) ⊎ (j ≤ℤ i)
-    int_tells i j = grind (arith, nat_tests)
+    zero-below p left is_left
+    (subst (HaveNoEntryBelow left) (omega (arith, ints, low, count, all)) reduced.below)
 
 -- one degree more
 module _ (p k : ℕ) (complex : Complex) (i : ℤ) (places : List (List Bool)) (pivots : List Pivot) (lines : List (List Entry))
@@ -122,19 +112,6 @@ module _ (p k : ℕ) (complex : Complex) (i : ℤ) (places : List (List Bool)) (
   step : IsReducedDegree p now i (reduced_columns stored) after
   step = subst (λ (n : ℕ). AreReduced p now i n (reduced_columns stored) after) (sym has.count) (are now i is_now has)
 
-  -- no entries below
-  below_after : (j : ℤ) → j ≤ℤ i → HasNoEntry after j
-  below_after j before =
-      let comes = comes-reduced p now after i (place_count now i) (reduced_columns stored) step in
-      let earlier : j <ℤ i → HasNoEntry after j =
-      λ (less : j <ℤ i). no_entry-comes p now after j field is_now comes (so_far.below j (omega (arith, ints, less, here))) in
-      elim (where_is j i) [
-        | Where.is_at same ↦ subst (HasNoEntry after) (sym same) (no_entry-end p now after i (reduced_columns stored) field is_now step)
-        | Where.is_after next ↦ absurd (omega (arith, ints, before, next))
-        | Where.is_before next ↦ earlier (omega (arith, ints, next))
-        | Where.is_elsewhere not_at not_after not_before ↦ earlier (omega (arith, ints, before, not_at))
-      ]
-
   chosen : (b a : Bool) (x : ℕ) → (if b then 0 else (if a then x else 0)) ≡ (if (if b then false else a) then x else 0)
   chosen true a x = refl
   chosen false a x = refl
@@ -165,29 +142,33 @@ module _ (p k : ℕ) (complex : Complex) (i : ℤ) (places : List (List Bool)) (
             ∙ ap (λ (degree : Degree). if slice_index_or degree.alive column false then x else 0) (sym same)
       ]
 
-  -- the degrees of the pivots
-  own_degrees : (reduced : List ReducedColumn) → AllByRecursion (λ pivot. pivot.degree <ℤ (complex.low +ℤ pos (k + 1))) (pivots_of i reduced)
-  own_degrees [] = tt
-  own_degrees (line ∷ lines) = (omega (arith, ints, here), own_degrees lines)
-
-  earlier_degrees : (pivots : List Pivot) → AllByRecursion (λ pivot. pivot.degree <ℤ (complex.low +ℤ pos k)) pivots
-      → AllByRecursion (λ pivot. pivot.degree <ℤ (complex.low +ℤ pos (k + 1))) pivots
-  earlier_degrees [] are = tt
-  earlier_degrees (pivot ∷ pivots) are = (omega (arith, ints, are.0), earlier_degrees pivots are.1)
+  -- the pivots so far are of smaller degrees
+  smaller : AllByRecursion (λ pivot. pivot.degree <ℤ i) pivots
+  smaller =
+      subst (AllByRecursion (λ pivot. pivot.degree <ℤ i)) (sym so_far.listed)
+      (less-degrees i complex.low so_far.degrees (omega (arith, ints, here, so_far.count)))
 
   pub reduced_to-next : IsReducedTo p complex (k + 1) (with_pairs k places stored) (stored_pivots i stored ++ pivots)
   reduced_to-next =
-      let less : AllByRecursion (λ pivot. pivot.degree <ℤ i) pivots =
-      subst (λ (m : ℤ). AllByRecursion (λ pivot. pivot.degree <ℤ m) pivots) (sym here) so_far.degrees in
-      let both = come-first p complex i (reduced_columns stored) pivots field is less so_far.legal step.legal in
+      let both =
+      come-first p complex i (stored_pivots i stored) pivots field is smaller (own-degrees i i (reduced_columns stored) (omega (arith, ints))) so_far.legal
+      step.legal in
+      let last : i ≡ complex.low +ℤ pos (length so_far.degrees) = omega (arith, ints, here, so_far.count) in
+      let next : i +ℤ pos 1 ≡ complex.low +ℤ pos (k + 1) = omega (arith, ints, here) in
       record {
+        degrees = so_far.degrees ++ reduced_columns stored ∷ [];
+        count = omega (arith, length-append so_far.degrees (reduced_columns stored ∷ []), so_far.count);
+        up = subst (AreReducedUp p complex complex.low (so_far.degrees ++ reduced_columns stored ∷ [])) (sym both.same)
+            (reduced-longer p complex now after complex.low i so_far.degrees (reduced_columns stored) so_far.up last step);
+        listed = ap (λ (pivots : List Pivot). stored_pivots i stored ++ pivots) so_far.listed
+            ∙ sym (greatest-longer complex.low i so_far.degrees (reduced_columns stored) last);
         legal = both.legal;
-        degrees = AllByRecursion-append (λ pivot. pivot.degree <ℤ (complex.low +ℤ pos (k + 1))) (stored_pivots i stored) pivots
-            (own_degrees (reduced_columns stored)) (earlier_degrees pivots so_far.degrees);
         alive = ap (λ (places : List (List Bool)). with_pairs k places stored) so_far.alive
             ∙ alive_in-pairs p k now i stored (omega (arith, ints, here, low_now)) ∙ ap alive_in (sym both.same);
-        below = λ j before.
-            subst (λ (made : Complex). HasNoEntry made j) (sym both.same) (below_after j (omega (arith, ints, before, here)));
+        below = subst (λ (made : Complex). HaveNoEntryBelow made (complex.low +ℤ pos (k + 1))) (sym both.same)
+            (subst (HaveNoEntryBelow after) next
+            (below-next p now after i (reduced_columns stored) field is_now step
+            (subst (HaveNoEntryBelow now) (sym here) so_far.below)));
         above = λ j later row column.
             subst
             (λ (made : Complex).

@@ -1,7 +1,7 @@
 -- The complex that names and columns make: its columns, its places, and its reduction by the columns of one degree after another.
 -- At first all its places are alive; each degree has as many places as columns, and its entries are those that the columns list,
 -- and 0 past the last row. So what is shown of the reduction of a complex applies to it: it begins with no degree reduced, and
--- reduced columns of the degree above give one degree more. The rows of a degree's columns are the places of the next degree,
+-- reduced columns of the next degree give one degree more. The rows of a degree's columns are the places of the next degree,
 -- also while it is reduced, and there are few enough columns to be counted. The last part is of lists in memory: one degree's
 -- columns after another are taken from them.
 use Rattle.std.proofs.Common.{◌≡◌, ℕ, ◌+◌, ◌<◌, ◌^◌, ◌∙◌, inl, inr, List, [], ◌∷◌, ◌++◌, ℤ, pos, ◌+ℤ◌, length, map, refl, ap, sym, subst, arith, append_assoc, Bool, true}
@@ -24,9 +24,10 @@ use Rattle.sparse_block.proofs.DegreeLemmas.{degree_of-at, length-at, length-deg
 use Rattle.sparse_block.proofs.MatrixLemmas.{entry-matrix_from, entry-past_rows, length-matrix_from}
 use Rattle.cancel_step.proofs.EntryValues.{value_at-past}
 use Rattle.cancel_step.proofs.HistoryLemmas.{low-replay, places-replay}
+use Rattle.cancel_step.specs.Reductions.{IsReducedComplex}
 use Rattle.cancel_step.specs.StoredColumns.{AreFirstReduced, IsReducedTo, StoredColumn, alive_in, stored_pivots, with_pairs}
 use Rattle.cancel_step.proofs.Marks.{alive-number}
-use Rattle.cancel_step.proofs.ReducedTo.{reduced_to-first, reduced_to-next, reduced_to-zero}
+use Rattle.cancel_step.proofs.ReducedTo.{reduced_to-all, reduced_to-first, reduced_to-next, reduced_to-zero}
 
 module _ (p : ℕ) (low : ℤ) (names : List (List Generator)) (lines : List (List (List Entry))) (field : IsField p)
     (can : MakeComplex p low names lines) where
@@ -133,6 +134,11 @@ module _ (p : ℕ) (low : ℤ) (names : List (List Generator)) (lines : List (Li
       → is_zero (replay p (sparse_complex low names lines).complex pivots) ≡ true
   sparse-zero k places pivots all =
       reduced_to-zero p k complex places pivots field complex-sparse (omega (arith, all, line_count, degree_count))
+
+  pub sparse-all : (k : ℕ) (places : List (List Bool)) (pivots : List Pivot) → k ≡ length lines
+      → IsReducedTo p (sparse_complex low names lines).complex k places pivots
+      → IsReducedComplex p (sparse_complex low names lines).complex pivots (replay p (sparse_complex low names lines).complex pivots)
+  sparse-all k places pivots all = reduced_to-all p k complex places pivots (omega (arith, all, line_count, degree_count))
 
   -- what is known of the columns of a degree, whose rows are places of the next
   pub sparse-rows : (k height : ℕ) (places : List (List Bool)) (pivots : List Pivot)

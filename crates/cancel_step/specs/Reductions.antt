@@ -1,6 +1,6 @@
 -- Column reduction: each column of a matrix less a combination of reduced columns before it, so that no two end at one row (Zomorodian
 -- and Carlsson 2005, section 4; here with columns and rows as in a complex).
-use Rattle.std.specs.Prelude.{◌≡◌, ◌≢◌, ℕ, ◌+◌, ◌*◌, ◌<◌, ◌≤◌, ℤ, pos, ◌-ℤ◌, ◌<ℤ◌, List, [], ◌∷◌, ◌++◌, map, nat_eq, Bool, true, false, slice_index_or}
+use Rattle.std.specs.Prelude.{◌≡◌, ◌≢◌, ℕ, ◌+◌, ◌*◌, ◌<◌, ◌≤◌, ℤ, pos, ◌+ℤ◌, ◌<ℤ◌, List, [], ◌∷◌, ◌++◌, length, map, nat_eq, Bool, true, false, slice_index_or}
 use Rattle.std.specs.List.{list_any, AllByRecursion}
 use Rattle.kh_types.specs.Complex.{Complex, Pivot, degree_of, entry_of, pivot_at}
 use Rattle.kh_types.specs.History.{IsLegal, replay}
@@ -103,21 +103,28 @@ IsReducedDegree p before i reduced after = AreReduced p before i (place_count be
 abbrev pub HasNoEntry : Complex → ℤ → Type 0
 HasNoEntry complex i = (column : ℕ) → IsZeroLine (column_numbers complex i column)
 
--- the matrices out of the degrees above i have only entries 0
-abbrev pub HaveNoEntryAbove : Complex → ℤ → Type 0
-HaveNoEntryAbove complex i = (j : ℤ) → i <ℤ j → HasNoEntry complex j
+-- the matrices out of the degrees below i have only entries 0
+abbrev pub HaveNoEntryBelow : Complex → ℤ → Type 0
+HaveNoEntryBelow complex i = (j : ℤ) → j <ℤ i → HasNoEntry complex j
 
 -- a place of degree i is alive
 abbrev pub is_place_alive : Complex → ℤ → ℕ → Bool
 is_place_alive complex i place = slice_index_or (degree_of complex i).alive place false
 
--- from degree i down, one degree after another is reduced
-abbrev pub AreReducedDown : ℕ → Complex → ℤ → List (List ReducedColumn) → Complex → Type 0
-AreReducedDown p before i [] after = after ≡ before
-AreReducedDown p before i (reduced ∷ later) after =
-    (between : Complex) × IsReducedDegree p before i reduced between × AreReducedDown p between (i -ℤ pos 1) later after
+-- from degree i up, one degree after another is reduced
+abbrev pub AreReducedUp : ℕ → Complex → ℤ → List (List ReducedColumn) → Complex → Type 0
+AreReducedUp p before i [] after = after ≡ before
+AreReducedUp p before i (reduced ∷ later) after =
+    (between : Complex) × IsReducedDegree p before i reduced between × AreReducedUp p between (i +ℤ pos 1) later after
 
--- the pivots of reduced degrees, from degree i down
-abbrev pub pivots_down : ℤ → List (List ReducedColumn) → List Pivot
-pivots_down i [] = []
-pivots_down i (reduced ∷ later) = pivots_of i reduced ++ pivots_down (i -ℤ pos 1) later
+-- the pivots of reduced degrees, from degree i up, but those of the greatest degree first
+abbrev pub pivots_from_greatest : ℤ → List (List ReducedColumn) → List Pivot
+pivots_from_greatest i [] = []
+pivots_from_greatest i (reduced ∷ later) = pivots_from_greatest (i +ℤ pos 1) later ++ pivots_of i reduced
+
+-- all degrees of a complex are reduced, from the least up, and these are their pivots, those of the greatest degree first
+pub record IsReducedComplex (p : ℕ) (before : Complex) (pivots : List Pivot) (after : Complex) : Type 0 where
+  pub degrees : List (List ReducedColumn)
+  pub count : length degrees ≡ length before.degrees
+  pub up : AreReducedUp p before before.low degrees after
+  pub listed : pivots ≡ pivots_from_greatest before.low degrees

@@ -1,13 +1,13 @@
 -- Reduced columns as they are stored, each with its entries, and what a search among them finds.
 use Rattle.std.specs.Prelude.{◌≡◌, ℕ, ◌+◌, ◌<◌, ℤ, pos, ◌+ℤ◌, ◌<ℤ◌, ◌≤ℤ◌, List, [], ◌∷◌, ◌++◌, length, map, get_or, slice_index_or, Option, Some, None, Bool, false, All, if◌then◌else◌}
-use Rattle.std.specs.List.{fold, AllByRecursion}
+use Rattle.std.specs.List.{fold}
 use Rattle.std.specs.Global.{Vec}
 use Rattle.kh_types.specs.Complex.{Complex, IsComplex, Pivot, entry_of}
 use Rattle.kh_types.specs.History.{IsLegal, replay}
 use Rattle.sparse_block.specs.Clearing.{with_dead}
 use Rattle.sparse_block.specs.Complexes.{place_count}
 use Rattle.sparse_block.specs.Entries.{Entry, AreEntries, value_at}
-use Rattle.cancel_step.specs.Reductions.{AreReduced, AreReducedColumns, EndsAt, HasNoEntry, IsLeftOf, ReducedColumn, is_last_row, is_place_alive, pivots_of}
+use Rattle.cancel_step.specs.Reductions.{AreReduced, AreReducedColumns, AreReducedUp, EndsAt, HaveNoEntryBelow, IsLeftOf, ReducedColumn, is_last_row, is_place_alive, pivots_from_greatest, pivots_of}
 
 -- a reduced column as it is stored: its number in the matrix, the row of its last entry, and its entries
 pub record StoredColumn : Type 0 where
@@ -105,12 +105,16 @@ abbrev pub from_greatest : List (List Pivot) → List Pivot
 from_greatest [] = []
 from_greatest (degree ∷ greater) = from_greatest greater ++ degree
 
--- a history reduces the degrees of a complex before number k: it is legal, and its pivots are of these degrees; these places are alive
--- after it; there is no entry out of these degrees, and the entries out of all others are as they were, but 0 in columns that are dead
+-- a history reduces the degrees of a complex before number k: it has their pivots, those of the greatest degree first, and is legal; these
+-- places are alive after it; there is no entry out of these degrees, and the entries out of all others are as they were, but 0 in columns
+-- that are dead
 pub record IsReducedTo (p : ℕ) (complex : Complex) (k : ℕ) (places : List (List Bool)) (pivots : List Pivot) : Type 0 where
+  pub degrees : List (List ReducedColumn)
+  pub count : length degrees ≡ k
+  pub up : AreReducedUp p complex complex.low degrees (replay p complex pivots)
+  pub listed : pivots ≡ pivots_from_greatest complex.low degrees
   pub legal : IsLegal p complex pivots
-  pub degrees : AllByRecursion (λ pivot. pivot.degree <ℤ (complex.low +ℤ pos k)) pivots
   pub alive : places ≡ alive_in (replay p complex pivots)
-  pub below : (j : ℤ) → j <ℤ (complex.low +ℤ pos k) → HasNoEntry (replay p complex pivots) j
+  pub below : HaveNoEntryBelow (replay p complex pivots) (complex.low +ℤ pos k)
   pub above : (j : ℤ) → (complex.low +ℤ pos k) ≤ℤ j → (row column : ℕ) → entry_of (replay p complex pivots) j row column
       ≡ (if is_place_alive (replay p complex pivots) j column then entry_of complex j row column else 0)

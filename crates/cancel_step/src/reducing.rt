@@ -1,7 +1,8 @@
 //! Column reduction of a whole complex: of each degree the columns in order, and of each column the
 //! last entry. Degrees are reduced from the least up, so that a row that is the last of a column
 //! is dead when its own column's turn comes; most columns that would be reduced to nothing are
-//! passed over so. Pivots are named from the greatest degree down, as a search finds them.
+//! passed over so (Chen and Kerber 2011, who call it clearing). Pivots are listed from the greatest
+//! degree down: so a search finds them, as tests show, and no clause says.
 
 ghost use Rattle.std.specs.Prelude.{◌≡◌, ◌<◌, ◌^◌, [], ◌∷◌, ◌++◌, true, pos, ◌+ℤ◌, ◌≤ℤ◌, IfOk, OnOk};
 ghost use Rattle.std.specs.Prelude.{slice_index_or};
@@ -10,6 +11,7 @@ ghost use Rattle.kh_types.specs.History.{IsLegal, replay};
 ghost use Rattle.sparse_block.specs.Clearing.{with_dead};
 ghost use Rattle.sparse_block.specs.Complexes.{MakeComplex, all_alive, sparse_complex};
 ghost use Rattle.sparse_block.specs.Inside.{lines_in, lists_in};
+ghost use Rattle.cancel_step.specs.Reductions.{IsReducedComplex};
 ghost use Rattle.cancel_step.specs.StoredColumns.{alive_in, from_greatest, pivots_in};
 ghost use Rattle.cancel_step.specs.StoredColumns.{stored_pivots, with_pairs};
 
@@ -33,11 +35,13 @@ pub struct Reduced<F: PrimeField> {
 }
 
 /// Reduces the columns of a complex until it is zero. Pivots are listed from the greatest degree
-/// down, those of each in the order of their columns.
+/// down, those of each degree in the order of their columns.
 pub fn reduce<F: PrimeField>(
     alloc: Global,
     complex: ColumnComplex<F>,
 ) -> Result<Reduced<F>, NoMemory>
+    ensures reduced { IfOk result (λ made. IsReducedComplex F.P complex.complex
+        made.pivots.items made.complex.complex) }
     ensures legal { IfOk result (λ made. IsLegal F.P complex.complex made.pivots.items) }
     ensures left { IfOk result (λ made.
         made.complex.complex ≡ replay F.P complex.complex made.pivots.items) }
@@ -70,6 +74,11 @@ fn reduce_columns<F: PrimeField>(
     columns: Vec<Vec<SmallVec<Entry, INLINE_ENTRIES>>>,
 ) -> Result<Reduction, NoMemory>
     requires { MakeComplex F.P low (lists_in names.now) (lines_in columns.items) }
+    ensures reduced { IfOk result (λ made. IsReducedComplex F.P
+        (sparse_complex low (lists_in names.now) (lines_in columns.items)).complex
+        (from_greatest (pivots_in made.pivots.items)) (replay F.P
+        (sparse_complex low (lists_in names.now) (lines_in columns.items)).complex
+        (from_greatest (pivots_in made.pivots.items)))) }
     ensures legal { IfOk result (λ made. IsLegal F.P
         (sparse_complex low (lists_in names.now) (lines_in columns.items)).complex
         (from_greatest (pivots_in made.pivots.items))) }

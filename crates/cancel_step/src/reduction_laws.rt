@@ -1,7 +1,6 @@
 //! What column reduction finds: the pivots of the reduced columns are a legal history, which leaves
 //! no entry. What is left of the next column ends at an entry that the column then has, its last one,
-//! and that is the next pivot. That `reduce` names just these pivots, and in this order, no clause
-//! says.
+//! and that is the next pivot.
 
 ghost use Rattle.std.specs.Prelude.{◌≡◌, ◌≢◌, ℕ, ◌+◌, ◌*◌, ◌<◌, ℤ, pos, ◌+ℤ◌, ◌-ℤ◌, ◌<ℤ◌};
 ghost use Rattle.std.specs.Prelude.{List, [], ◌∷◌, ◌++◌, length, get_or, false, true};
@@ -11,18 +10,18 @@ ghost use Rattle.kh_types.specs.Complex.{degree_of, entry_of, is_zero, pivot_at}
 ghost use Rattle.kh_types.specs.History.{IsLegal, replay};
 ghost use Rattle.kh_types.specs.Rank.{minus_mod};
 ghost use Rattle.prime_field.specs.Residues.{IsField};
-ghost use Rattle.sparse_block.specs.Complexes.{high_of, place_count};
+ghost use Rattle.sparse_block.specs.Complexes.{place_count};
 ghost use Rattle.sparse_block.specs.Entries.{AreEntries, entries_of, value_at};
 ghost use Rattle.sparse_block.specs.Entries.{Entry};
 ghost use Rattle.cancel_step.specs.Histories.{ComesByCancelling};
 ghost use Rattle.cancel_step.specs.Lines.{line_less};
 ghost use Rattle.cancel_step.specs.Reductions.{AreReduced, AreReducedColumns};
-ghost use Rattle.cancel_step.specs.Reductions.{AreReducedDown, EndsAt, HasNoEntry};
-ghost use Rattle.cancel_step.specs.Reductions.{HaveNoEntryAbove, IsDeadIn, IsLeftOf};
+ghost use Rattle.cancel_step.specs.Reductions.{AreReducedUp, EndsAt, HasNoEntry};
+ghost use Rattle.cancel_step.specs.Reductions.{HaveNoEntryBelow, IsDeadIn, IsLeftOf};
 ghost use Rattle.cancel_step.specs.Reductions.{IsLineBelow, IsReducedDegree, IsZeroLine};
 ghost use Rattle.cancel_step.specs.Reductions.{ReducedColumn, column_numbers};
 ghost use Rattle.cancel_step.specs.Reductions.{is_last_row, is_pivot_column};
-ghost use Rattle.cancel_step.specs.Reductions.{is_place_alive, pivots_down, with_column};
+ghost use Rattle.cancel_step.specs.Reductions.{is_place_alive, pivots_from_greatest, with_column};
 ghost use Rattle.cancel_step.specs.WorkedColumns.{three_columns, three_rows, three_rows_after};
 
 /// What is left of a line as multiples of reduced columns are taken away: at first the whole line.
@@ -138,9 +137,9 @@ pub fn reductions_kill_columns_and_last_rows()
         → (degree_of after (i -ℤ pos 1)).alive ≡ (degree_of before (i -ℤ pos 1)).alive }
 {}
 
-/// Cancellations in two degrees may change places. The pivot of the greater degree is one before the
-/// other is cancelled, the other is one after it, and both orders leave the same complex.
-pub fn cancellations_in_two_degrees_change_places()
+/// Cancellations in two degrees commute. The pivot of the greater degree is one before the other is
+/// cancelled, the other is one after it, and both orders leave the same complex.
+pub fn cancellations_in_two_degrees_commute()
     ensures greater { (p : ℕ) (complex : Complex) (less greater : Pivot) → IsField p
         → IsComplex p complex → IsPivot complex less → IsPivot (cancel p complex less) greater
         → less.degree <ℤ greater.degree → IsPivot complex greater }
@@ -153,45 +152,49 @@ pub fn cancellations_in_two_degrees_change_places()
         ≡ cancel p (cancel p complex less) greater }
 {}
 
-/// One degree after another, from the greatest down: above the greatest there is no entry; where
-/// there is none above a degree, and this is reduced, there is none above the one before; and where
-/// there is none above the one before the least, the complex is zero.
-pub fn degrees_are_reduced_downwards()
+/// One degree after another, from the least up: below the least there is no entry; where there is
+/// none below a degree, and this is reduced, there is none below the next; and where there is none
+/// below what is above the greatest, the complex is zero.
+pub fn degrees_are_reduced_upwards()
     ensures first { (p : ℕ) (complex : Complex) → IsComplex p complex
-        → HaveNoEntryAbove complex (high_of complex) }
+        → HaveNoEntryBelow complex complex.low }
     ensures next { (p : ℕ) (before after : Complex) (i : ℤ) (reduced : List ReducedColumn)
         → IsField p → IsComplex p before → IsReducedDegree p before i reduced after
-        → HaveNoEntryAbove before i → HaveNoEntryAbove after (i -ℤ pos 1) }
+        → HaveNoEntryBelow before i → HaveNoEntryBelow after (i +ℤ pos 1) }
     ensures zero { (p : ℕ) (complex : Complex) → IsComplex p complex
-        → HaveNoEntryAbove complex (complex.low -ℤ pos 1) → is_zero complex ≡ true }
+        → HaveNoEntryBelow complex (complex.low +ℤ pos (length complex.degrees))
+        → is_zero complex ≡ true }
 {}
 
 /// Degrees are reduced one after another: at first none, and then one more at the end. What is
-/// below the degree next to the last one stays as it was.
+/// above the degree next to the last one stays as it was.
 pub fn degrees_are_reduced_one_by_one()
-    ensures none { (p : ℕ) (complex : Complex) (i : ℤ) → AreReducedDown p complex i [] complex }
+    ensures none { (p : ℕ) (complex : Complex) (i : ℤ) → AreReducedUp p complex i [] complex }
     ensures longer { (p : ℕ) (before between after : Complex) (i j : ℤ)
         (degrees : List (List ReducedColumn)) (reduced : List ReducedColumn)
-        → AreReducedDown p before i degrees between → j ≡ i -ℤ pos (length degrees)
+        → AreReducedUp p before i degrees between → j ≡ i +ℤ pos (length degrees)
         → IsReducedDegree p between j reduced after
-        → AreReducedDown p before i (degrees ++ reduced ∷ []) after }
-    ensures below { (p : ℕ) (before after : Complex) (i j : ℤ)
-        (degrees : List (List ReducedColumn)) → AreReducedDown p before i degrees after
-        → (j +ℤ pos (length degrees)) <ℤ i → degree_of after j ≡ degree_of before j }
+        → AreReducedUp p before i (degrees ++ reduced ∷ []) after }
+    ensures above { (p : ℕ) (before after : Complex) (i j : ℤ)
+        (degrees : List (List ReducedColumn)) → AreReducedUp p before i degrees after
+        → (i +ℤ pos (length degrees)) <ℤ j → degree_of after j ≡ degree_of before j }
 {}
 
-/// All degrees together, from the greatest down: their pivots are a legal history of the complex,
-/// and what it leaves is zero.
+/// All degrees together, from the least up: their pivots, those of the greatest degree first, are a
+/// legal history of the complex, and what it leaves is zero.
 pub fn reductions_end_at_zero()
     ensures legal { (p : ℕ) (before after : Complex) (i : ℤ) (degrees : List (List ReducedColumn))
-        → AreReducedDown p before i degrees after → IsLegal p before (pivots_down i degrees) }
+        → IsField p → IsComplex p before → AreReducedUp p before i degrees after
+        → IsLegal p before (pivots_from_greatest i degrees) }
     ensures replayed { (p : ℕ) (before after : Complex) (i : ℤ)
-        (degrees : List (List ReducedColumn)) → AreReducedDown p before i degrees after
-        → after ≡ replay p before (pivots_down i degrees) }
+        (degrees : List (List ReducedColumn)) → IsField p → IsComplex p before
+        → AreReducedUp p before i degrees after
+        → after ≡ replay p before (pivots_from_greatest i degrees) }
     ensures comes { (p : ℕ) (before after : Complex) (i : ℤ) (degrees : List (List ReducedColumn))
-        → AreReducedDown p before i degrees after → ComesByCancelling p before after }
+        → IsField p → IsComplex p before → AreReducedUp p before i degrees after
+        → ComesByCancelling p before after }
     ensures zero { (p : ℕ) (before after : Complex) (degrees : List (List ReducedColumn))
-        → IsField p → IsComplex p before → AreReducedDown p before (high_of before) degrees after
+        → IsField p → IsComplex p before → AreReducedUp p before before.low degrees after
         → length degrees ≡ length before.degrees → is_zero after ≡ true }
 {}
 

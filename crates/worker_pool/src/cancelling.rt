@@ -58,8 +58,9 @@ pub fn cancel_small_alone<F: PrimeField>(
     with_table(alloc, cube.diagram(), done)
 }
 
-/// Cancels all blocks of a diagram to zero, by so many workers that share them. With one worker the
-/// caller does all the work, and no commit is counted. This project's rule.
+/// Cancels all blocks of a diagram to zero, by so many workers that share them; that they share the
+/// work a test shows, and no clause. With one worker the caller does it, and no commit is counted.
+/// This project's rule.
 pub fn cancel_all<R: Threads + Wait + Sync, F: PrimeField + Send + Sync, G: Gate + Sync>(
     rt: &R,
     alloc: Global,

@@ -1,11 +1,12 @@
 use Rattle.std.proofs.Common.{◌≡◌, ◌∙◌, List, ℤ, ap, arith, sym, subst, subst₂, to_z, of_z, w16, true}
 use Rattle.std.specs.Global.{Vec}
 use Rattle.std.proofs.lemmas.Int.{ints}
-use Rattle.kh_types.specs.Complex.{Complex, is_zero}
+use Rattle.kh_types.specs.Complex.{Complex, Pivot, is_zero}
 use Rattle.kh_types.specs.Generators.{Generator}
 use Rattle.kh_types.specs.History.{IsLegal, replay}
 use Rattle.sparse_block.specs.Complexes.{NamedComplex, sparse_complex, zero_complex}
 use Rattle.sparse_block.specs.Inside.{lines_in, lists_in}
+use Rattle.cancel_step.specs.Reductions.{IsReducedComplex}
 use Rattle.cancel_step.specs.StoredColumns.{alive_in, from_greatest, pivots_in}
 use Rattle.cancel_step.proofs.ZeroLeft.{complex-left, sizes-left}
 use Rattle.cancel_step.proofs.reducing.reduce.Goals as goal
@@ -66,3 +67,27 @@ returns-clause-zero g c =
     (subst₂
     (λ (low : ℤ) (names : List (Vec Generator)). is_zero (replay p (sparse_complex low (lists_in names) columns).complex pivots) ≡ true)
     same c.deref.ensures.value c.in_ok-alive.ensures.zero)
+
+pub returns-clause-reduced : goal.returns-clause-reduced
+returns-clause-reduced g c =
+    let p = g.F.PrimeField.P in
+    let low = c.args.complex.complex.low in
+    let parts = c.into_parts-names.result in
+    let columns = lines_in parts.columns.items in
+    let pivots = from_greatest (pivots_in c.in_ok-alive.field-0.pivots.items) in
+    let fits : to_z w16 (of_z w16 c.low-low.result) ≡ c.low-low.result = omega (arith, ints, c.low-low.type_inv) in
+    let same : to_z w16 (of_z w16 c.low-low.result) ≡ low = fits ∙ c.low-low.ensures in
+    let reduced : IsReducedComplex p (sparse_complex low (lists_in parts.names.items) columns).complex pivots
+    (replay p (sparse_complex low (lists_in parts.names.items) columns).complex pivots) =
+    subst₂
+    (λ (low : ℤ) (names : List (Vec Generator)).
+    IsReducedComplex p (sparse_complex low (lists_in names) columns).complex pivots
+    (replay p (sparse_complex low (lists_in names) columns).complex pivots)) same c.deref.ensures.value c.in_ok-alive.ensures.reduced in
+    let whole : IsReducedComplex p c.args.complex.complex pivots (replay p c.args.complex.complex pivots) =
+    subst (λ (complex : NamedComplex). IsReducedComplex p complex.complex pivots (replay p complex.complex pivots))
+    c.into_parts-names.ensures.complex reduced in
+    let named : IsReducedComplex p c.args.complex.complex c.in_ok-pivots.pivots.items
+    (replay p c.args.complex.complex c.in_ok-pivots.pivots.items) =
+    subst (λ (pivots : List Pivot). IsReducedComplex p c.args.complex.complex pivots (replay p c.args.complex.complex pivots))
+    (sym c.in_ok-pivots.ensures) whole in
+    subst (IsReducedComplex p c.args.complex.complex c.in_ok-pivots.pivots.items) (sym (returns-clause-left g c)) named

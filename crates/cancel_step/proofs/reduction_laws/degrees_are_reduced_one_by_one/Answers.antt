@@ -1,5 +1,5 @@
 use Rattle.std.proofs.Common.{refl}
-use Rattle.cancel_step.proofs.Chains.{degree-below, reduced-longer}
+use Rattle.cancel_step.proofs.Chains.{degree-above, reduced-longer}
 use Rattle.cancel_step.proofs.reduction_laws.degrees_are_reduced_one_by_one.Goals as goal
 
 pub returns-clause-none : goal.returns-clause-none
@@ -8,5 +8,5 @@ returns-clause-none c = λ p complex i. refl
 pub returns-clause-longer : goal.returns-clause-longer
 returns-clause-longer c = reduced-longer
 
-pub returns-clause-below : goal.returns-clause-below
-returns-clause-below c = degree-below
+pub returns-clause-above : goal.returns-clause-above
+returns-clause-above c = degree-above

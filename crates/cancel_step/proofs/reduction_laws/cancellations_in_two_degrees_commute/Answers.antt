@@ -1,5 +1,5 @@
 use Rattle.cancel_step.proofs.Commuting.{cancel-swapped, first-later, second-alone}
-use Rattle.cancel_step.proofs.reduction_laws.cancellations_in_two_degrees_change_places.Goals as goal
+use Rattle.cancel_step.proofs.reduction_laws.cancellations_in_two_degrees_commute.Goals as goal
 
 pub returns-clause-greater : goal.returns-clause-greater
 returns-clause-greater c = second-alone
