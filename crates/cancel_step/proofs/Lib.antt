@@ -5,7 +5,7 @@ pub mod DegreeRanks
 pub mod RankSumLemmas
 pub mod HistoryLemmas
 pub mod Greatest
-mod HistoryEnds
+pub mod HistoryEnds
 pub mod EntryValues
 pub mod ReadingLemmas
 pub mod UpdateLemmas
@@ -15,7 +15,7 @@ pub mod PairLemmas
 pub mod AgreeLemmas
 pub mod ForeignLemmas
 pub mod Commuting
-mod CopiedLemmas
+pub mod CopiedLemmas
 pub mod ChangedLemmas
 pub mod SameLemmas
 pub mod FinishLemmas
