@@ -3,8 +3,8 @@
 
     bench/all.py [RUNS] [--program PATH] [--only WORD] [--no-results] [OTHER]
 
-OTHER, or `KH_BASELINE`, is what `kh` is measured against: an unverified C++ program of the same method, which builds the cube block by
-block and cancels each block exactly, by columns and rows. It is no part of this repository. Whatever stands in for it reads a planar
+OTHER, or `KH_BASELINE`, is what `kh` is measured against: an unverified C++ program that builds the same cube block by block, and
+cancels each block by columns and rows. It is no part of this repository. Whatever stands in for it reads a planar
 diagram text on standard input, with these words, and writes to standard output:
 
     [--field P]           what `kh homology` writes, but for its first line: `field P`, the rows, the Jones line; or the line of the limit
@@ -37,8 +37,8 @@ from version import version
 RESULTS = os.path.join(TOP, "bench", "RESULTS.md")
 OTHERS = "## By other scripts"
 THE_OTHER = """\
-*The other* is an unverified C++ program of the same method: it builds the cube block by block and cancels each block exactly, by columns
-and rows. It is no part of this repository; what it has to read and to write is said at the head of `bench/all.py`.
+*The other* is an unverified C++ program that builds the same cube block by block, and cancels each block by columns and rows. (One worker
+of `kh` reduces columns.) It is no part of this repository; what it has to read and to write is said at the head of `bench/all.py`.
 """
 LARGEST = 10
 LEAST_CROSSINGS = 11
@@ -98,8 +98,8 @@ def homology(bench):
                     ratios.append(mine / other)
                 print(f"  {name} over {field}: {mine:.3f} s, other {other:.3f} s, {mine / max(other, 0.001):.2f}", flush=True)
     middle, worst = statistics.median(ratios), max(ratios)
-    bench.note("homology, one worker: times of the other, median", f"{middle:.2f}", "1.3", middle <= 1.3)
-    bench.note("homology, one worker: worst", f"{worst:.2f}", "1.6", worst <= 1.6)
+    bench.note("homology, one worker: times of the other, median", f"{middle:.2f}", "1.1", middle <= 1.1)
+    bench.note("homology, one worker: worst", f"{worst:.2f}", "1.4", worst <= 1.4)
     bench.note("homology, one worker: other answers", differ, "0", differ == 0)
 
 
@@ -114,7 +114,7 @@ def seventeen(bench):
             ratios.append(mine / other)
         print(f"  {count} crossings on {braid[0]} strands: {mine:.3f} s, other {other:.3f} s, {'same' if same else 'OTHER'}", flush=True)
     worst = max(ratios)
-    bench.note("homology, 17 crossings: times of the other, worst", f"{worst:.2f}", "1.6", worst <= 1.6)
+    bench.note("homology, 17 crossings: times of the other, worst", f"{worst:.2f}", "1.4", worst <= 1.4)
     growth = statistics.median(each[17]) / statistics.median(each[14])
     bench.note("a generator at 17 crossings: times one at 14", f"{growth:.2f}", "1.3", growth <= 1.3)
 

@@ -5,16 +5,17 @@ crossings.
     bench/cube.py [RUNS] [--only WORD] [--field P] [--program PATH] OTHER
 
 The wanted limit: at most twice the other's time, on each diagram. `kh` has no command that only builds, so its functions that build
-(those of `cube_signs`: circles, edges, generators and columns of all blocks; one worker makes no rows) are timed in whole runs, with one
-worker. gdb stops the run where they are called and where they return, and adds up the processor time of its thread in between;
-allocation, page faults and all that these functions call count, cancelling and the release of a block do not. Calls that the compiler has put inline can not be timed: where a block has no call of its own, the script ends with an
-error.
+(those of `cube_signs`: circles, edges, generators and columns of all blocks; one worker makes no rows, where the other may) are timed in
+whole runs, with one worker. gdb stops the run where they are called and where they return, and adds up the processor time of its thread in
+between; allocation, page faults and all that these functions call count, cancelling and the release of a block do not. Calls that the
+compiler has put inline can not be timed: where a block has no call of its own, the script ends with an error.
 
 OTHER is a program (`bench/all.py` says which one there is) that reads a planar diagram text, is given `--field` and a field and
 `--stats`, and tells of itself `states SECONDSs build SECONDSs` on its error output: the time for the circles of all states, and the
-processor time for columns of all blocks, and for their rows, if it makes some. Both build a block, cancel it and go on to the next. Runs of the two are alternated,
-and the least of each is taken. For each diagram it prints the two times, their ratio, and what part of the run of `kh` it is; at the end
-the greatest ratio. It wants gdb with Python, and nm. Build the program first, by `./build`. The gate does not run it.
+processor time for columns of all blocks, and for their rows, if it makes some. Both build a block, cancel it and go on to the next. Runs
+of the two are alternated, and the least of each is taken. For each diagram it prints the two times, their ratio, and what part of the run
+of `kh` it is; at the end the greatest ratio. It wants gdb with Python, and nm. Build the program first, by `./build`. The gate does not
+run it.
 """
 import argparse
 import json
