@@ -16,7 +16,7 @@ use Rattle.sparse_block.proofs.CancelledDegrees.{degree-at_pivot}
 use Rattle.sparse_block.proofs.CancelledMatrices.{leaves-cancel, pivot_column-cancel, pivot_row-cancel}
 use Rattle.cancel_step.proofs.ChangedLemmas.{entry-stays}
 use Rattle.cancel_step.proofs.HistoryLemmas.{complex-replay, legal-push, replay-push}
-use Rattle.cancel_step.specs.Reductions.{ReducedColumn, IsLineBelow, AreReduced, ComeInOrder, EndsAt, IsLeftOf, IsReducedColumn, IsZeroLine, combination, is_last_row, column_numbers, pivots_of, with_column}
+use Rattle.cancel_step.specs.Reductions.{ReducedColumn, IsLineBelow, AreReduced, ComeInOrder, EndsAt, LeaveNothing, IsLeftOf, IsReducedColumn, IsZeroLine, combination, is_last_row, column_numbers, pivots_of, with_column}
 use Rattle.cancel_step.proofs.Combinations.{apart-push, combination-push, combination-scaled, combination-sum, is_last_row-push, with_factor}
 use Rattle.cancel_step.proofs.Endings.{ends-left, value-left, zero-left}
 use Rattle.cancel_step.proofs.Lefts.{left-between, left-whole}
@@ -28,7 +28,7 @@ reduced-none p before i =
       legal = tt;
       replayed = refl;
       columns = record { each = tt; apart = tt };
-      order = omega arith;
+      order = (omega arith, λ column later within. absurd (omega (arith, within)));
       dead = λ column row last. absurd (true≢false (sym last));
       cleared = λ column within row. absurd (omega (arith, within));
       left = λ column later. left-whole p [] (column_numbers before i column);
@@ -36,10 +36,28 @@ reduced-none p before i =
 
 -- the order of reduced columns, with one column more, of which nothing is left, or which is the last of them
 order-later : (p : ℕ) (before : Complex) (i : ℤ) (count least : ℕ) (earlier lines : List ReducedColumn)
+    → IsLeftOf p (earlier ++ lines) (column_numbers before i count) (λ row. 0)
     → ComeInOrder p before i count least earlier lines → ComeInOrder p before i (count + 1) least earlier lines
-order-later p before i count least earlier [] order = omega (arith, order)
-order-later p before i count least earlier (line ∷ lines) order =
-    (order.0, order.1, order-later p before i count (line.column + 1) (earlier ++ line ∷ []) lines order.2)
+order-later p before i count least earlier [] nothing order = (
+  omega (arith, order.0),
+  λ column later within.
+      elim (leb_tells count column) [
+        | inr before_count ↦ order.1 column later before_count.1
+        | inl here ↦
+            let same : count ≡ column = omega (arith, within, here.1) in
+            subst (λ (k : ℕ). IsLeftOf p earlier (column_numbers before i k) (λ row. 0)) same
+            (subst (λ (lines : List ReducedColumn). IsLeftOf p lines (column_numbers before i count) (λ row. 0)) (append-nil earlier)
+            nothing)
+      ],
+)
+order-later p before i count least earlier (line ∷ lines) nothing order = (
+  order.0,
+  order.1,
+  order.2,
+  order-later p before i count (line.column + 1) (earlier ++ line ∷ []) lines
+      (subst (λ (lines : List ReducedColumn). IsLeftOf p lines (column_numbers before i count) (λ row. 0))
+      (sym (append_assoc earlier (line ∷ []) lines)) nothing) order.3,
+)
 
 order-push : (p : ℕ) (before : Complex) (i : ℤ) (count least : ℕ) (earlier lines : List ReducedColumn) (last : ReducedColumn)
     → last.column ≡ count → IsLeftOf p (earlier ++ lines) (column_numbers before i count) last.values
@@ -48,13 +66,20 @@ order-push p before i count least earlier [] last here is_left order =
     let own : IsLeftOf p earlier (column_numbers before i last.column) last.values =
     subst (λ (lines : List ReducedColumn). IsLeftOf p lines (column_numbers before i last.column) last.values) (append-nil earlier)
     (subst (λ (column : ℕ). IsLeftOf p (earlier ++ []) (column_numbers before i column) last.values) (sym here) is_left) in
-    (omega (arith, order, here), own, omega (arith, here))
+    let nothing : LeaveNothing p before i least last.column earlier =
+    λ column later within. order.1 column later (omega (arith, within, here)) in (
+      omega (arith, order.0, here),
+      nothing,
+      own,
+      (omega (arith, here), λ column later within. absurd (omega (arith, later, within, here))),
+    )
 order-push p before i count least earlier (line ∷ lines) last here is_left order = (
   order.0,
   order.1,
+  order.2,
   order-push p before i count (line.column + 1) (earlier ++ line ∷ []) lines last here
       (subst (λ (lines : List ReducedColumn). IsLeftOf p lines (column_numbers before i count) last.values)
-      (sym (append_assoc earlier (line ∷ []) lines)) is_left) order.2,
+      (sym (append_assoc earlier (line ∷ []) lines)) is_left) order.3,
 )
 
 -- the pivots of one column more
@@ -95,7 +120,11 @@ module _ (p : ℕ) (before after : Complex) (i : ℤ) (count : ℕ) (reduced : L
           legal = so_far.legal;
           replayed = so_far.replayed;
           columns = so_far.columns;
-          order = order-later p before i count 0 [] reduced so_far.order;
+          order = order-later p before i count 0 [] reduced
+              (record {
+                factor = is_left.factor;
+                sum = λ row. is_left.sum row ∙ ap (λ (x : ℕ). (x + combination is_left.factor reduced row) % p) (zeros row);
+              }) so_far.order;
           dead = so_far.dead;
           cleared = λ column within row.
               elim (leb_tells count column) [

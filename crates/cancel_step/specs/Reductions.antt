@@ -71,17 +71,23 @@ column_numbers complex i column row = entry_of complex i row column
 abbrev pub pivots_of : ℤ → List ReducedColumn → List Pivot
 pivots_of i reduced = map (λ line. pivot_at i line.column line.row) reduced
 
--- reduced columns come in the order of their columns, which are below count and at least `least`, and each is what those before it leave
--- of its own column
+-- reduced columns leave nothing of the columns of degree i from `least` on, before `next`
+abbrev pub LeaveNothing : ℕ → Complex → ℤ → ℕ → ℕ → List ReducedColumn → Type 0
+LeaveNothing p before i least next reduced =
+    (column : ℕ) → least ≤ column → column < next → IsLeftOf p reduced (column_numbers before i column) (λ row. 0)
+
+-- the columns of degree i from `least` on, before `count`, in their order: each reduced column is what those before it leave of its own,
+-- and of the columns between them they leave nothing
 abbrev pub ComeInOrder : ℕ → Complex → ℤ → ℕ → ℕ → List ReducedColumn → List ReducedColumn → Type 0
-ComeInOrder p before i count least earlier [] = least ≤ count
+ComeInOrder p before i count least earlier [] = (least ≤ count) × LeaveNothing p before i least count earlier
 ComeInOrder p before i count least earlier (line ∷ lines) =
-    (least ≤ line.column) × IsLeftOf p earlier (column_numbers before i line.column) line.values
+    (least ≤ line.column) × LeaveNothing p before i least line.column earlier
+    × IsLeftOf p earlier (column_numbers before i line.column) line.values
     × ComeInOrder p before i count (line.column + 1) (earlier ++ line ∷ []) lines
 
--- the first columns of degree i, as many as count, are reduced: each reduced column is what those before it leave of its own, and
--- `after` is what the pivots leave: they are a legal history; its entries are 0 in the last rows and in the first columns; and each later
--- column of `after` is what is left of the one of `before`
+-- the first columns of degree i, as many as count, are reduced, one after another, and `after` is what the pivots leave: they are a
+-- legal history; the entries of `after` are 0 in the last rows and in the first columns; and each later column of `after` is what is left
+-- of the same column of `before`
 pub record AreReduced (p : ℕ) (before : Complex) (i : ℤ) (count : ℕ) (reduced : List ReducedColumn) (after : Complex) : Type 0 where
   pub legal : IsLegal p before (pivots_of i reduced)
   pub replayed : after ≡ replay p before (pivots_of i reduced)
