@@ -93,6 +93,9 @@ is_last_row-push row column last reduced values is_last =
           ]
     ]
 
+pub turned : (x y : ℕ) → nat_eq x y ≡ false → nat_eq y x ≡ false
+turned x y differ = ne_eqb y x (λ same. true≢false (sym (eq-eqb x y (sym same)) ∙ differ))
+
 pub apart-push : (reduced : List ReducedColumn) (column last : ℕ) (values : ℕ → ℕ) → EndApart reduced
     → is_last_row last reduced ≡ false → EndApart (with_column reduced column last values)
 apart-push [] column last values apart none = (refl, tt)
@@ -104,7 +107,3 @@ apart-push (line ∷ lines) column last values apart none =
           (or_from (nat_eq line.row last) false (turned last line.row parts.0) refl),
       apart-push lines column last values apart.1 parts.1,
     )
-  where
-    turned : (x y : ℕ) → nat_eq x y ≡ false → nat_eq y x ≡ false
-    turned x y differ =
-        ne_eqb y x (λ same. true≢false (sym (eq-eqb x y (sym same)) ∙ differ))

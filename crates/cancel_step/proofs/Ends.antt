@@ -4,7 +4,7 @@ use Rattle.std.proofs.Common.{◌≡◌, ℕ, ◌∙◌, inl, inr, List, [], ◌
 use Rattle.std.specs.List.{AllByRecursion}
 use Rattle.std.proofs.lemmas.Bool.Decides.{eqb_tells, leb_tells}
 use Rattle.std.proofs.lemmas.Int.{ints}
-use Rattle.kh_types.specs.Complex.{Complex, IsComplex, entry_of, is_zero}
+use Rattle.kh_types.specs.Complex.{Complex, IsComplex, Pivot, entry_of, is_zero}
 use Rattle.kh_types.specs.History.{IsLegal, replay}
 use Rattle.kh_types.proofs.Lists.{AllByRecursion-append}
 use Rattle.prime_field.specs.Residues.{IsField}
@@ -20,7 +20,7 @@ use Rattle.cancel_step.proofs.EntryValues.{number-none}
 use Rattle.cancel_step.proofs.FinishLemmas.{complex-comes, empty-comes, places-comes}
 use Rattle.cancel_step.proofs.HistoryLemmas.{degrees-replay, low-replay}
 use Rattle.cancel_step.proofs.ReadingLemmas.{zero-from_columns}
-use Rattle.cancel_step.specs.Reductions.{ReducedColumn, AreReduced, AreReducedUp, HasNoEntry, HaveNoEntryBelow, IsReducedDegree, pivots_from_greatest, pivots_of}
+use Rattle.cancel_step.specs.Reductions.{ReducedColumn, AreReduced, AreReducedUp, HasNoEntry, HaveNoEntryBelow, IsReducedComplex, IsReducedDegree, pivots_from_greatest, pivots_of}
 
 -- what the reduction leaves comes by cancelling
 pub comes-reduced : (p : ℕ) (before after : Complex) (i : ℤ) (count : ℕ) (reduced : List ReducedColumn)
@@ -173,3 +173,13 @@ zero-up p before after degrees field is up all =
     (λ j below.
     below-up p before after before.low degrees field is up (below-low p before is) j
     (omega (arith, ints, below, low, size, all)))
+
+-- so a reduced complex has a legal history, and is zero
+pub legal-reduced : (p : ℕ) (before after : Complex) (pivots : List Pivot) → IsField p → IsComplex p before
+    → IsReducedComplex p before pivots after → IsLegal p before pivots
+legal-reduced p before after pivots field is reduced =
+    subst (IsLegal p before) (sym reduced.listed) (legal-up p before after before.low reduced.degrees field is reduced.up)
+
+pub zero-reduced : (p : ℕ) (before after : Complex) (pivots : List Pivot) → IsField p → IsComplex p before
+    → IsReducedComplex p before pivots after → is_zero after ≡ true
+zero-reduced p before after pivots field is reduced = zero-up p before after reduced.degrees field is reduced.up reduced.count

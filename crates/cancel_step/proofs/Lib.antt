@@ -28,6 +28,7 @@ pub mod Steps
 pub mod Others
 pub mod Ends
 pub mod Chains
+pub mod Determined
 pub mod Alike
 pub mod Stored
 pub mod LastEntries

@@ -11,7 +11,7 @@ use Rattle.std.specs.List.{AllByRecursion}
 use Rattle.std.proofs.lemmas.Bool.Decides.{eqb_tells}
 use Rattle.std.proofs.lemmas.Int.{ints}
 use Rattle.std.proofs.lemmas.List.{get_or_default, length-append}
-use Rattle.kh_types.specs.Complex.{Complex, Degree, IsComplex, Pivot, degree_of, entry_in, entry_of, is_zero}
+use Rattle.kh_types.specs.Complex.{Complex, Degree, IsComplex, Pivot, degree_of, entry_in, entry_of}
 use Rattle.kh_types.specs.History.{replay}
 use Rattle.prime_field.specs.Residues.{IsField}
 use Rattle.sparse_block.specs.Complexes.{place_count}
@@ -20,10 +20,10 @@ use Rattle.sparse_block.proofs.CancelledDegrees.{Where, where_is}
 use Rattle.sparse_block.proofs.ComplexMatrices.{entry-stands}
 use Rattle.cancel_step.proofs.Chains.{greatest-longer, reduced-longer}
 use Rattle.cancel_step.proofs.Commuting.{come-first}
-use Rattle.cancel_step.proofs.HistoryLemmas.{complex-replay, degrees-replay, low-replay, places-replay}
+use Rattle.cancel_step.proofs.HistoryLemmas.{complex-replay, low-replay, places-replay}
 use Rattle.cancel_step.specs.Reductions.{AreReduced, AreReducedUp, HaveNoEntryBelow, IsReducedComplex, IsReducedDegree, is_last_row, is_place_alive, pivots_from_greatest, pivots_of}
 use Rattle.cancel_step.specs.StoredColumns.{AreFirstReduced, HasColumns, IsReducedTo, StoredColumn, alive_in, reduced_columns, stored_pivots, with_pairs}
-use Rattle.cancel_step.proofs.Ends.{below-low, below-next, less-degrees, own-degrees, zero-below}
+use Rattle.cancel_step.proofs.Ends.{below-low, below-next, less-degrees, own-degrees}
 use Rattle.cancel_step.proofs.LastEntries.{value_at-live}
 use Rattle.cancel_step.proofs.Marks.{alive-number, alive_in-pairs}
 use Rattle.cancel_step.proofs.Others.{next-alive, next-entries, other-degrees}
@@ -64,16 +64,6 @@ pub reduced_to-all : (p k : ℕ) (complex : Complex) (places : List (List Bool))
     → IsReducedTo p complex k places pivots → IsReducedComplex p complex pivots (replay p complex pivots)
 reduced_to-all p k complex places pivots all reduced =
     record { degrees = reduced.degrees; count = reduced.count ∙ all; up = reduced.up; listed = reduced.listed }
-
-pub reduced_to-zero : (p k : ℕ) (complex : Complex) (places : List (List Bool)) (pivots : List Pivot) → IsField p → IsComplex p complex
-    → k ≡ length complex.degrees → IsReducedTo p complex k places pivots → is_zero (replay p complex pivots) ≡ true
-reduced_to-zero p k complex places pivots field is all reduced =
-    let left = replay p complex pivots in
-    let is_left = complex-replay p complex pivots field is reduced.legal in
-    let low = low-replay p complex pivots in
-    let count = degrees-replay p complex pivots in
-    zero-below p left is_left
-    (subst (HaveNoEntryBelow left) (omega (arith, ints, low, count, all)) reduced.below)
 
 -- one degree more
 module _ (p k : ℕ) (complex : Complex) (i : ℤ) (places : List (List Bool)) (pivots : List Pivot) (lines : List (List Entry))

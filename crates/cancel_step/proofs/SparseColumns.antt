@@ -11,7 +11,7 @@ use Rattle.std.proofs.Math.Seq.{get_or-append_seam}
 use Rattle.std.proofs.lemmas.Bool.Decides.{leb_tells}
 use Rattle.std.proofs.lemmas.List.{ext_get_or, get_or_past, length-append, length-map}
 use Rattle.smallvec.specs.SmallVec.{SmallVec}
-use Rattle.kh_types.specs.Complex.{Complex, Degree, IsComplex, Pivot, degree_of, entry_in, entry_of, is_zero}
+use Rattle.kh_types.specs.Complex.{Complex, Degree, IsComplex, Pivot, degree_of, entry_in, entry_of}
 use Rattle.kh_types.specs.Generators.{Generator}
 use Rattle.kh_types.specs.History.{replay}
 use Rattle.prime_field.specs.Residues.{IsField}
@@ -27,7 +27,7 @@ use Rattle.cancel_step.proofs.HistoryLemmas.{low-replay, places-replay}
 use Rattle.cancel_step.specs.Reductions.{IsReducedComplex}
 use Rattle.cancel_step.specs.StoredColumns.{AreFirstReduced, IsReducedTo, StoredColumn, alive_in, stored_pivots, with_pairs}
 use Rattle.cancel_step.proofs.Marks.{alive-number}
-use Rattle.cancel_step.proofs.ReducedTo.{reduced_to-all, reduced_to-first, reduced_to-next, reduced_to-zero}
+use Rattle.cancel_step.proofs.ReducedTo.{reduced_to-all, reduced_to-first, reduced_to-next}
 
 module _ (p : ℕ) (low : ℤ) (names : List (List Generator)) (lines : List (List (List Entry))) (field : IsField p)
     (can : MakeComplex p low names lines) where
@@ -128,12 +128,6 @@ module _ (p : ℕ) (low : ℤ) (names : List (List Generator)) (lines : List (Li
   pub sparse-first : (places : List (List Bool)) → places ≡ all_alive names
       → IsReducedTo p (sparse_complex low names lines).complex 0 places []
   sparse-first places alive = reduced_to-first p complex places complex-sparse (alive ∙ alive-sparse)
-
-  pub sparse-zero : (k : ℕ) (places : List (List Bool)) (pivots : List Pivot) → k ≡ length lines
-      → IsReducedTo p (sparse_complex low names lines).complex k places pivots
-      → is_zero (replay p (sparse_complex low names lines).complex pivots) ≡ true
-  sparse-zero k places pivots all =
-      reduced_to-zero p k complex places pivots field complex-sparse (omega (arith, all, line_count, degree_count))
 
   pub sparse-all : (k : ℕ) (places : List (List Bool)) (pivots : List Pivot) → k ≡ length lines
       → IsReducedTo p (sparse_complex low names lines).complex k places pivots

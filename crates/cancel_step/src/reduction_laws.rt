@@ -18,7 +18,8 @@ ghost use Rattle.cancel_step.specs.Lines.{line_less};
 ghost use Rattle.cancel_step.specs.Reductions.{AreReduced, AreReducedColumns};
 ghost use Rattle.cancel_step.specs.Reductions.{AreReducedUp, EndsAt, HasNoEntry};
 ghost use Rattle.cancel_step.specs.Reductions.{HaveNoEntryBelow, IsDeadIn, IsLeftOf};
-ghost use Rattle.cancel_step.specs.Reductions.{IsLineBelow, IsReducedDegree, IsZeroLine};
+ghost use Rattle.cancel_step.specs.Reductions.{IsLineBelow, IsReducedComplex, IsReducedDegree};
+ghost use Rattle.cancel_step.specs.Reductions.{IsZeroLine};
 ghost use Rattle.cancel_step.specs.Reductions.{ReducedColumn, column_numbers};
 ghost use Rattle.cancel_step.specs.Reductions.{is_last_row, is_pivot_column};
 ghost use Rattle.cancel_step.specs.Reductions.{is_place_alive, pivots_from_greatest, with_column};
@@ -196,6 +197,13 @@ pub fn reductions_end_at_zero()
     ensures zero { (p : ℕ) (before after : Complex) (degrees : List (List ReducedColumn))
         → IsField p → IsComplex p before → AreReducedUp p before before.low degrees after
         → length degrees ≡ length before.degrees → is_zero after ≡ true }
+{}
+
+/// A complex is reduced in one way: two reductions of all its degrees list the same pivots.
+pub fn complexes_are_reduced_in_one_way()
+    ensures { (p : ℕ) (before first second : Complex) (pivots others : List Pivot) → IsField p
+        → IsReducedComplex p before pivots first → IsReducedComplex p before others second
+        → pivots ≡ others }
 {}
 
 /// A complex is known by its least degree, how many degrees and places it has, which places are

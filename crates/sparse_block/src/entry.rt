@@ -17,9 +17,9 @@ pub const MOST_PLACES: u32 = 536_870_912;
 /// Values of entries are below this number, 2 to the 3.
 pub const MOST_VALUES: u8 = 8;
 
-/// An entry other than zero of a column or a row: its place, which is its row where it stands in a
-/// column, and its column where it stands in a row, from 0; and its value, an element of the field,
-/// 1 to `P` - 1. Contracts see the two apart; in memory they share four bytes.
+/// An entry of a column or a row: its place, which is its row where it stands in a column, and its
+/// column where it stands in a row, from 0; and its value, an element of the field, 1 to `P` - 1
+/// in the lines of a complex. Contracts see the two apart; in memory they share four bytes.
 #[derive(Clone, Copy, Debug, Default)]
 pub struct Entry {
     /// The place times `MOST_VALUES`, and the value.

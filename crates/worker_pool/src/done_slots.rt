@@ -6,8 +6,7 @@ ghost use Rattle.worker_pool.specs.Outcomes.{AreBlocksAt, AreDegreesOf, AreDone,
 ghost use Rattle.worker_pool.specs.Outcomes.{origin_of};
 ghost use Rattle.worker_pool.specs.Slots.{AreDoneSlots};
 
-use crate::building::build_one;
-use crate::finished::{DoneBlock, Finished, finished_one};
+use crate::finished::{DoneBlock, Finished, done_alone};
 use crate::slots::take_slot;
 use cube_signs::Cube;
 use kh_types::NoMemory;
@@ -36,7 +35,7 @@ pub(crate) fn put<F: PrimeField>(
     }
 }
 
-/// The blocks in the order of their degrees. What is missing is built, and cancelled by the caller.
+/// The blocks in the order of their degrees. The caller makes what is missing.
 pub(crate) fn in_order<F: PrimeField>(
     alloc: Global,
     cube: &Cube,
@@ -55,7 +54,7 @@ pub(crate) fn in_order<F: PrimeField>(
     Ok(done)
 }
 
-/// The block at one place, out of its slot, or else built and cancelled.
+/// The block at one place, out of its slot, or else made by the caller.
 fn done_at<F: PrimeField>(
     alloc: Global,
     cube: &Cube,
@@ -73,6 +72,6 @@ fn done_at<F: PrimeField>(
 {
     match take_slot(slots, place) {
         Some(one) => Ok(one),
-        None => finished_one(alloc, build_one(alloc, cube, degrees, place)?),
+        None => done_alone(alloc, cube, degrees, place),
     }
 }

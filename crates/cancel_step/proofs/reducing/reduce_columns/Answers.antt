@@ -10,7 +10,7 @@ use Rattle.sparse_block.specs.Entries.{Entry, AreEntries}
 use Rattle.sparse_block.specs.Inside.{entries_in, lines_in, lists_in}
 use Rattle.cancel_step.specs.StoredColumns.{AreFirstReduced, IsReducedTo, StoredColumn, from_greatest, pivots_in, stored_pivots, with_pairs}
 use Rattle.cancel_step.proofs.Greatest.{from_greatest-push}
-use Rattle.cancel_step.proofs.SparseColumns.{empty-list, is-next, line_count, sparse-all, sparse-count, sparse-first, sparse-rows, sparse-step, sparse-zero}
+use Rattle.cancel_step.proofs.SparseColumns.{empty-list, is-next, line_count, sparse-all, sparse-count, sparse-first, sparse-rows, sparse-step}
 use Rattle.cancel_step.proofs.reducing.reduce_columns.Goals as goal
 
 pub degrees-init : goal.degrees-init
@@ -212,28 +212,6 @@ returns-clause-reduced g c =
     let places = lists_in c.degrees.made.alive.items in
     let pivots = from_greatest (pivots_in c.degrees.made.pivots.items) in
     sparse-all p c.args.low names columns field c.requires (length c.degrees.made.pivots.items) places pivots
-    (c.degrees.invariant.2 ∙ sym (ap length all))
-    (subst (λ (low : ℤ). IsReducedTo p (sparse_complex low names columns).complex (length c.degrees.made.pivots.items) places pivots) same
-    c.degrees.invariant.3)
-
-pub returns-clause-zero : goal.returns-clause-zero
-returns-clause-zero g c =
-    let p = g.F.PrimeField.P in
-    let names = lists_in c.args.names.now in
-    let columns = lines_in c.args.columns.items in
-    let low : ℤ = to_z w16 (of_z w16 c.args.low) in
-    let same : low ≡ c.args.low = omega (arith, ints, c.ranges.low) in
-    let field = c.element_laws.ensures.field in
-    let goes = c.in-None.ensures.goes in
-    let steps = c.in-None.ensures.steps in
-    let count : length c.degrees.degree-iterator.rest.items ≡ 0 = search rules in
-    let none : c.degrees.degree-iterator.rest.items ≡ [] = empty-list c.degrees.degree-iterator.rest.items count in
-    let all : columns ≡ c.degrees.invariant.0 =
-    c.degrees.invariant.1 ∙ ap (λ (rest : List (Vec (SmallVec Entry))). c.degrees.invariant.0 ++ lines_in rest) none
-    ∙ append-nil c.degrees.invariant.0 in
-    let places = lists_in c.degrees.made.alive.items in
-    let pivots = from_greatest (pivots_in c.degrees.made.pivots.items) in
-    sparse-zero p c.args.low names columns field c.requires (length c.degrees.made.pivots.items) places pivots
     (c.degrees.invariant.2 ∙ sym (ap length all))
     (subst (λ (low : ℤ). IsReducedTo p (sparse_complex low names columns).complex (length c.degrees.made.pivots.items) places pivots) same
     c.degrees.invariant.3)
