@@ -247,8 +247,8 @@ degree-same p before one two i count first second field is_one is_two =
 -- and of all degrees
 up-same : (p : ℕ) (before one two : Complex) (i : ℤ) (degrees others : List (List ReducedColumn)) → IsField p
     → length degrees ≡ length others → AreReducedUp p before i degrees one → AreReducedUp p before i others two
-    → pivots_from_greatest i degrees ≡ pivots_from_greatest i others
-up-same p before one two i [] [] field size up_one up_two = refl
+    → (pivots_from_greatest i degrees ≡ pivots_from_greatest i others) × (one ≡ two)
+up-same p before one two i [] [] field size up_one up_two = (refl, up_one ∙ sym up_two)
 up-same p before one two i [] (second ∷ others) field size up_one up_two = absurd (omega (arith, size))
 up-same p before one two i (first ∷ degrees) [] field size up_one up_two = absurd (omega (arith, size))
 up-same p before one two i (first ∷ degrees) (second ∷ others) field size up_one up_two =
@@ -257,11 +257,16 @@ up-same p before one two i (first ∷ degrees) (second ∷ others) field size up
     let above =
     up-same p up_one.0 one two (i +ℤ pos 1) degrees others field (omega (arith, size)) up_one.2
     (subst (λ (complex : Complex). AreReducedUp p complex (i +ℤ pos 1) others two) between up_two.2) in
-    ap₂ (λ (greater own : List Pivot). greater ++ own) above here
+    (ap₂ (λ (greater own : List Pivot). greater ++ own) above.0 here, above.1)
 
 -- so a complex is reduced in one way
-pub reduced-once : (p : ℕ) (before one two : Complex) (pivots others : List Pivot) → IsField p → IsReducedComplex p before pivots one
-    → IsReducedComplex p before others two → pivots ≡ others
-reduced-once p before one two pivots others field first second =
-    first.listed ∙ up-same p before one two before.low first.degrees second.degrees field (first.count ∙ sym second.count) first.up second.up
-    ∙ sym second.listed
+module _ (p : ℕ) (before one two : Complex) (pivots others : List Pivot) (field : IsField p)
+    (first : IsReducedComplex p before pivots one) (second : IsReducedComplex p before others two) where
+  same : (pivots_from_greatest before.low first.degrees ≡ pivots_from_greatest before.low second.degrees) × (one ≡ two)
+  same = up-same p before one two before.low first.degrees second.degrees field (first.count ∙ sym second.count) first.up second.up
+
+  pub pivots-once : pivots ≡ others
+  pivots-once = first.listed ∙ same.0 ∙ sym second.listed
+
+  pub left-once : one ≡ two
+  left-once = same.1

@@ -199,11 +199,15 @@ pub fn reductions_end_at_zero()
         → length degrees ≡ length before.degrees → is_zero after ≡ true }
 {}
 
-/// A complex is reduced in one way: two reductions of all its degrees list the same pivots.
+/// A complex is reduced in one way: two reductions of all its degrees list the same pivots, and
+/// leave the same.
 pub fn complexes_are_reduced_in_one_way()
-    ensures { (p : ℕ) (before first second : Complex) (pivots others : List Pivot) → IsField p
-        → IsReducedComplex p before pivots first → IsReducedComplex p before others second
-        → pivots ≡ others }
+    ensures pivots { (p : ℕ) (before first second : Complex) (pivots others : List Pivot)
+        → IsField p → IsReducedComplex p before pivots first
+        → IsReducedComplex p before others second → pivots ≡ others }
+    ensures left { (p : ℕ) (before first second : Complex) (pivots others : List Pivot)
+        → IsField p → IsReducedComplex p before pivots first
+        → IsReducedComplex p before others second → first ≡ second }
 {}
 
 /// A complex is known by its least degree, how many degrees and places it has, which places are
