@@ -5,7 +5,7 @@
 -- next degree the columns that are last rows of theirs are now dead and 0; further up nothing changes. Their pivots come before those
 -- of the smaller degrees, since cancellations in two degrees may change places. In the end there is no entry out of any degree, and the
 -- complex is zero.
-use Rattle.std.proofs.Common.{◌≡◌, ℕ, ◌+◌, ◌∙◌, inl, inr, List, [], ◌∷◌, ◌++◌, ℤ, pos, ◌+ℤ◌, ◌-ℤ◌, ◌<ℤ◌, ◌≤ℤ◌, length, refl, ap, ap₂, sym, subst, arith, Bool, true, false}
+use Rattle.std.proofs.Common.{◌≡◌, ℕ, ◌+◌, ◌∙◌, inl, inr, List, [], ◌∷◌, ◌++◌, ℤ, pos, ◌+ℤ◌, ◌<ℤ◌, length, refl, ap, ap₂, sym, subst, arith, Bool, true, false}
 use Rattle.std.specs.Prelude.{slice_index_or, if◌then◌else◌}
 use Rattle.std.specs.List.{AllByRecursion}
 use Rattle.std.proofs.lemmas.Bool.Decides.{eqb_tells}
@@ -21,7 +21,7 @@ use Rattle.sparse_block.proofs.ComplexMatrices.{entry-stands}
 use Rattle.cancel_step.proofs.Chains.{greatest-longer, reduced-longer}
 use Rattle.cancel_step.proofs.Commuting.{come-first}
 use Rattle.cancel_step.proofs.HistoryLemmas.{complex-replay, low-replay, places-replay}
-use Rattle.cancel_step.specs.Reductions.{AreReduced, AreReducedUp, HaveNoEntryBelow, IsReducedComplex, IsReducedDegree, is_last_row, is_place_alive, pivots_from_greatest, pivots_of}
+use Rattle.cancel_step.specs.Reductions.{AreReduced, AreReducedUp, HaveNoEntryBelow, IsReducedComplex, IsReducedDegree, is_last_row, is_place_alive}
 use Rattle.cancel_step.specs.StoredColumns.{AreFirstReduced, HasColumns, IsReducedTo, StoredColumn, alive_in, reduced_columns, stored_pivots, with_pairs}
 use Rattle.cancel_step.proofs.Ends.{below-low, below-next, less-degrees, own-degrees}
 use Rattle.cancel_step.proofs.LastEntries.{value_at-live}

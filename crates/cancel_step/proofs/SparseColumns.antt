@@ -4,11 +4,12 @@
 -- reduced columns of the next degree give one degree more. The rows of a degree's columns are the places of the next degree,
 -- also while it is reduced, and there are few enough columns to be counted. The last part is of lists in memory: one degree's
 -- columns after another are taken from them.
-use Rattle.std.proofs.Common.{◌≡◌, ℕ, ◌+◌, ◌<◌, ◌^◌, ◌∙◌, inl, inr, List, [], ◌∷◌, ◌++◌, ℤ, pos, ◌+ℤ◌, length, map, refl, ap, sym, subst, arith, append_assoc, Bool, true}
+use Rattle.std.proofs.Common.{◌≡◌, ℕ, ◌+◌, ◌<◌, ◌^◌, ◌∙◌, inl, inr, List, [], ◌∷◌, ◌++◌, ℤ, pos, ◌+ℤ◌, ◌≤ℤ◌, length, map, refl, ap, sym, subst, arith, append_assoc, Bool, true}
 use Rattle.std.specs.Prelude.{slice_index_or, All}
 use Rattle.std.specs.Global.{Vec}
 use Rattle.std.proofs.Math.Seq.{get_or-append_seam}
 use Rattle.std.proofs.lemmas.Bool.Decides.{leb_tells}
+use Rattle.std.proofs.lemmas.Int.{ints}
 use Rattle.std.proofs.lemmas.List.{ext_get_or, get_or_past, length-append, length-map}
 use Rattle.smallvec.specs.SmallVec.{SmallVec}
 use Rattle.kh_types.specs.Complex.{Complex, Degree, IsComplex, Pivot, degree_of, entry_in, entry_of}
@@ -176,6 +177,37 @@ is-next all done before rest degree columns k whole first are is_k =
           ∙ ap (λ (n : ℕ). slice_index_or (done ++ entries_in columns ∷ lines_in rest) n []) is_k
           ∙ get_or-append_seam done (entries_in columns) (lines_in rest) []);
       within = omega (arith, ap length split, length-append done (entries_in columns ∷ lines_in rest), is_k);
+    }
+
+-- where the reduction of all degrees stands: the columns of those before number k are done, and those of number k have been taken
+pub record IsAt (p : ℕ) (low : ℤ) (names : List (List Generator)) (all done : List (List (List Entry)))
+    (rest : List (Vec (SmallVec Entry))) (k : ℕ) (columns : List (SmallVec Entry)) (places : List (List Bool)) (pivots : List Pivot) : Type 0
+  where
+    pub make : MakeComplex p low names all
+    pub next : IsNext all done rest k (entries_in columns)
+    pub so_far : IsReducedTo p (sparse_complex low names all).complex k places pivots
+    pub count : length columns < 2 ^ 32
+    pub end : (low +ℤ pos k) ≤ℤ pos 32767
+
+pub is-at : (p : ℕ) (arg low : ℤ) (names : List (List Generator)) (all done : List (List (List Entry)))
+    (before rest : List (Vec (SmallVec Entry))) (degree : Vec (SmallVec Entry)) (columns : List (SmallVec Entry)) (k count : ℕ)
+    (places : List (List Bool)) (pivots : List Pivot) → IsField p → arg ≡ low → MakeComplex p arg names all
+    → (all ≡ done ++ lines_in before) × (count ≡ length done)
+    × IsReducedTo p (sparse_complex low names all).complex count places pivots
+    → before ≡ degree ∷ rest → columns ≡ degree.items → k ≡ count → IsAt p low names all done rest k columns places pivots
+is-at p arg low names all done before rest degree columns k count places pivots field same given stands first are is_k =
+    let make : MakeComplex p low names all = subst (λ (low : ℤ). MakeComplex p low names all) same given in
+    let next = is-next all done before rest degree columns k stands.0 first are (is_k ∙ stands.1) in
+    record {
+      make = make;
+      next = next;
+      so_far = subst (λ (n : ℕ). IsReducedTo p (sparse_complex low names all).complex n places pivots) (sym is_k) stands.2;
+      count = subst (λ (n : ℕ). n < 2 ^ 32) (sym (ap length next.own) ∙ length-map columns (λ (line : SmallVec Entry). line.items))
+          (sparse-count p low names all field make k next.within);
+      end =
+          let within : k < length names = omega (arith, next.within, line_count p low names all field make) in
+          let last : (low +ℤ pos (length names)) ≤ℤ pos 32767 = make.end in
+          omega (arith, ints, within, last);
     }
 
 -- and at last none is left

@@ -93,23 +93,28 @@ stored-at p at stored owners are within =
     subst (λ (line : ReducedColumn). EndsAt line.row line.values) found
     (All-from_recursion (IsReducedColumn p) (reduced_columns stored) are.columns.each at (reduced_column no_column) (omega (arith, within, length-map stored reduced_column))).ends
 
-pub next-line : (p size at : ℕ) (stored : List StoredColumn) (owners : List (Option ℕ)) (whole before after : List Entry) → IsField p
-    → AreStored p stored owners → size ≡ length owners → at < length stored
-    → EndsAt (get_or stored at no_column).row (value_at before) → AreEntries p size before
+-- what is left as the multiple of a stored column is taken away, where the column is known by its place
+pub next-line : (p at : ℕ) (stored : List StoredColumn) (owners : List (Option ℕ)) (line : StoredColumn) (whole before after : List Entry)
+    → IsField p → AreStored p stored owners → at < length stored → line ≡ get_or stored at no_column
+    → EndsAt (get_or stored at no_column).row (value_at before) → AreEntries p (length owners) before
     → IsLeftOf p (reduced_columns stored) (value_at whole) (value_at before)
-    → after ≡ entries_of (line_less p size before
-    (factor_at p (get_or stored at no_column).entries before (get_or stored at no_column).row) (get_or stored at no_column).entries)
-    → IsNextLine p size stored whole before after
-next-line p size at stored owners whole before after field are is_size within ends are_before is_left is_after =
-    let line = get_or stored at no_column in
+    → (AreEntries p (length owners) line.entries
+    → after ≡ entries_of (line_less p (length owners) before (factor_at p line.entries before line.row) line.entries))
+    → IsNextLine p (length owners) stored whole before after
+next-line p at stored owners line whole before after field are within is_line ends_own are_before is_left taken =
+    let size = length owners in
     let others = line.entries in
     let factor = factor_at p others before line.row in
     let next = entries_of (line_less p size before factor others) in
     let are_others : AreEntries p size others =
-    subst (λ (n : ℕ). AreEntries p n others) (sym is_size) (are.entries at no_column within) in
+    subst (λ (line : StoredColumn). AreEntries p size line.entries) (sym is_line) (are.entries at no_column within) in
+    let ends : EndsAt line.row (value_at before) =
+    subst (λ (line : StoredColumn). EndsAt line.row (value_at before)) (sym is_line) ends_own in
+    let ends_others : EndsAt line.row (value_at others) =
+    subst (λ (line : StoredColumn). EndsAt line.row (value_at line.entries)) (sym is_line) (stored-at p at stored owners are within) in
     let are_next : AreEntries p size next = entries-less p size factor before others (omega (arith, field.above_one)) in
     let found : get_or (reduced_columns stored) at (reduced_column no_column) ≡ reduced_column line =
-    get_or-map reduced_column stored at no_column in
+    get_or-map reduced_column stored at no_column ∙ ap reduced_column (sym is_line) in
     let step : IsNextLine p size stored whole before next =
     record {
       left = stored-less p size at factor (reduced_columns stored) (reduced_column no_column) (value_at whole) before others field
@@ -118,8 +123,7 @@ next-line p size at stored owners whole before after field are is_size within en
       entries = are_next;
       smaller =
           let less : end_of next ≤ line.row =
-          end_of-zeros p size line.row next are_next
-          (zeros-taken p size line.row before others field are_before are_others ends (stored-at p at stored owners are within)) in
+          end_of-zeros p size line.row next are_next (zeros-taken p size line.row before others field are_before are_others ends ends_others) in
           omega (arith, less, end_of-ends p size line.row before are_before ends);
     } in
-    subst (IsNextLine p size stored whole before) (sym is_after) step
+    subst (IsNextLine p size stored whole before) (sym (taken are_others)) step

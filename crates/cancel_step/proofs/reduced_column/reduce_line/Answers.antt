@@ -1,11 +1,10 @@
-use Rattle.std.proofs.Common.{◌≡◌, ◌∙◌, List, length, get_or, sym, subst, refl}
+use Rattle.std.proofs.Common.{◌≡◌, ◌∙◌, List, length, get_or, sym, subst}
 use Rattle.std.proofs.lemmas.List.{get_or_default}
-use Rattle.sparse_block.specs.Entries.{Entry, AreEntries, entries_of, value_at}
-use Rattle.cancel_step.specs.Lines.{factor_at, line_less}
+use Rattle.sparse_block.specs.Entries.{Entry, AreEntries, value_at}
 use Rattle.cancel_step.specs.Reductions.{EndsAt}
 use Rattle.cancel_step.specs.StoredColumns.{StoredColumn, no_column, reduced_columns}
 use Rattle.cancel_step.proofs.Lefts.{left-whole}
-use Rattle.cancel_step.proofs.Taking.{IsNextLine, next-line, stored-at}
+use Rattle.cancel_step.proofs.Taking.{next-line, stored-at}
 use Rattle.cancel_step.proofs.reduced_column.reduce_line.Goals as goal
 
 pub taking-init : goal.taking-init
@@ -39,52 +38,30 @@ take_away-requires-clause-stored_ends g c =
 
 pub taking-smaller : goal.taking-smaller
 taking-smaller g c =
-    let p = g.F.PrimeField.P in
     let columns = c.args.stored.now.columns.items in
     let owners = c.args.stored.now.owners.items in
-    let number = c.in-Some.number in
-    let within = c.in-Some.ensures.some.0 in
     let line = c.index.result.now in
-    let before = c.taking.scratch.left.items in
-    let after = c.take_away.new.scratch.left.items in
-    let is_line : line ≡ get_or columns number no_column = c.index.ensures ∙ get_or_default columns number line no_column within in
-    let own = get_or columns number no_column in
-    let ends : EndsAt own.row (value_at before) =
-    subst (λ (es : List Entry). EndsAt own.row (value_at es)) c.deref.ensures.value c.in-Some.ensures.some.1 in
-    let are_own : AreEntries p (length owners) own.entries = c.requires.stored.entries number no_column within in
-    let taken : AreEntries p (length owners) own.entries
-    → after ≡ entries_of (line_less p (length owners) before (factor_at p own.entries before own.row) own.entries) =
-    subst
-    (λ (line : StoredColumn).
-    AreEntries p (length owners) line.entries
-    → after ≡ entries_of (line_less p (length owners) before (factor_at p line.entries before line.row) line.entries)) is_line
-    (c.in_ok-take_away.ensures (length owners) c.taking.invariant.entries) in
-    (next-line p (length owners) number columns owners c.args.scratch.now.left.items before after c.element_laws.ensures.field
-    c.requires.stored refl within ends c.taking.invariant.entries c.taking.invariant.left (taken are_own)).smaller
+    let within = c.in-Some.ensures.some.0 in
+    let ends : EndsAt (get_or columns c.in-Some.number no_column).row (value_at c.taking.scratch.left.items) =
+    subst (λ (es : List Entry). EndsAt (get_or columns c.in-Some.number no_column).row (value_at es)) c.deref.ensures.value
+    c.in-Some.ensures.some.1 in
+    (next-line g.F.PrimeField.P c.in-Some.number columns owners line c.args.scratch.now.left.items c.taking.scratch.left.items
+    c.take_away.new.scratch.left.items c.element_laws.ensures.field c.requires.stored within
+    (c.index.ensures ∙ get_or_default columns c.in-Some.number line no_column within) ends c.taking.invariant.entries c.taking.invariant.left
+    (c.in_ok-take_away.ensures (length owners) c.taking.invariant.entries)).smaller
 
 pub taking-preserved : goal.taking-preserved
 taking-preserved g c =
-    let p = g.F.PrimeField.P in
     let columns = c.args.stored.now.columns.items in
     let owners = c.args.stored.now.owners.items in
-    let number = c.in-Some.number in
-    let within = c.in-Some.ensures.some.0 in
     let line = c.index.result.now in
-    let before = c.taking.scratch.left.items in
-    let after = c.take_away.new.scratch.left.items in
-    let is_line : line ≡ get_or columns number no_column = c.index.ensures ∙ get_or_default columns number line no_column within in
-    let own = get_or columns number no_column in
-    let ends : EndsAt own.row (value_at before) =
-    subst (λ (es : List Entry). EndsAt own.row (value_at es)) c.deref.ensures.value c.in-Some.ensures.some.1 in
-    let are_own : AreEntries p (length owners) own.entries = c.requires.stored.entries number no_column within in
-    let taken : AreEntries p (length owners) own.entries
-    → after ≡ entries_of (line_less p (length owners) before (factor_at p own.entries before own.row) own.entries) =
-    subst
-    (λ (line : StoredColumn).
-    AreEntries p (length owners) line.entries
-    → after ≡ entries_of (line_less p (length owners) before (factor_at p line.entries before line.row) line.entries)) is_line
+    let within = c.in-Some.ensures.some.0 in
+    let ends : EndsAt (get_or columns c.in-Some.number no_column).row (value_at c.taking.scratch.left.items) =
+    subst (λ (es : List Entry). EndsAt (get_or columns c.in-Some.number no_column).row (value_at es)) c.deref.ensures.value
+    c.in-Some.ensures.some.1 in
+    let next =
+    next-line g.F.PrimeField.P c.in-Some.number columns owners line c.args.scratch.now.left.items c.taking.scratch.left.items
+    c.take_away.new.scratch.left.items c.element_laws.ensures.field c.requires.stored within
+    (c.index.ensures ∙ get_or_default columns c.in-Some.number line no_column within) ends c.taking.invariant.entries c.taking.invariant.left
     (c.in_ok-take_away.ensures (length owners) c.taking.invariant.entries) in
-    let next : IsNextLine p (length owners) columns c.args.scratch.now.left.items before after =
-    next-line p (length owners) number columns owners c.args.scratch.now.left.items before after c.element_laws.ensures.field
-    c.requires.stored refl within ends c.taking.invariant.entries c.taking.invariant.left (taken are_own) in
     record { left = next.left; entries = next.entries }

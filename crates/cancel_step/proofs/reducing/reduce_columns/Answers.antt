@@ -1,8 +1,8 @@
-use Rattle.std.proofs.Common.{◌≡◌, ◌++◌, ◌+◌, ◌<◌, ◌∙◌, [], ◌∷◌, List, ℕ, ℤ, pos, ◌+ℤ◌, ◌≤ℤ◌, ◌^◌, length, ap, sym, subst, arith, append-nil, to_z, of_z, w16, Bool, rules}
+use Rattle.std.proofs.Common.{◌≡◌, ◌++◌, ◌+◌, ◌∙◌, [], ◌∷◌, List, ℕ, ℤ, pos, ◌+ℤ◌, length, ap, sym, subst, arith, append-nil, to_z, of_z, w16, Bool, rules}
 use Rattle.std.specs.Prelude.{slice_index_or, All}
 use Rattle.std.specs.Global.{Vec}
 use Rattle.std.proofs.lemmas.Int.{ints}
-use Rattle.std.proofs.lemmas.List.{length-append, length-map, map_push}
+use Rattle.std.proofs.lemmas.List.{length-append, length-map}
 use Rattle.smallvec.specs.SmallVec.{SmallVec}
 use Rattle.kh_types.specs.Complex.{Pivot}
 use Rattle.sparse_block.specs.Complexes.{MakeComplex, sparse_complex}
@@ -10,7 +10,7 @@ use Rattle.sparse_block.specs.Entries.{Entry, AreEntries}
 use Rattle.sparse_block.specs.Inside.{entries_in, lines_in, lists_in}
 use Rattle.cancel_step.specs.StoredColumns.{AreFirstReduced, IsReducedTo, StoredColumn, from_greatest, pivots_in, stored_pivots, with_pairs}
 use Rattle.cancel_step.proofs.Greatest.{from_greatest-push}
-use Rattle.cancel_step.proofs.SparseColumns.{empty-list, is-next, line_count, sparse-all, sparse-count, sparse-first, sparse-rows, sparse-step}
+use Rattle.cancel_step.proofs.SparseColumns.{empty-list, is-at, sparse-all, sparse-first, sparse-rows, sparse-step}
 use Rattle.cancel_step.proofs.reducing.reduce_columns.Goals as goal
 
 pub degrees-init : goal.degrees-init
@@ -37,135 +37,84 @@ degrees-init g c =
 pub reduce_degree-requires-clause-count : goal.reduce_degree-requires-clause-count
 reduce_degree-requires-clause-count g c =
     let p = g.F.PrimeField.P in
-    let names = lists_in c.args.names.now in
-    let columns = lines_in c.args.columns.items in
     let low : ℤ = to_z w16 (of_z w16 c.args.low) in
-    let same : c.args.low ≡ low = omega (arith, ints, c.ranges.low) in
-    let field = c.element_laws.ensures.field in
-    let can : MakeComplex p low names columns = subst (λ (low : ℤ). MakeComplex p low names columns) same c.requires in
-    let k = c.len-k.result in
-    let is_k : k ≡ length c.degrees.made.pivots.items = omega (arith, c.len-k.ensures, c.degrees.made.pivots.ok.0) in
-    let own = c.deref-in-degrees-2.result.now in
-    let goes = c.in-Some.ensures.goes in
-    let steps = c.in-Some.ensures.steps in
-    let first : c.degrees.degree-iterator.rest.items ≡ c.in-Some.degree ∷ c.next.new.self.rest.items = search rules in
-    let next =
-    is-next columns c.degrees.invariant.0 c.degrees.degree-iterator.rest.items c.next.new.self.rest.items c.in-Some.degree own k
-    c.degrees.invariant.1 first c.deref-in-degrees-2.ensures.value (is_k ∙ c.degrees.invariant.2) in
-    let few : length (slice_index_or columns k []) < 2 ^ 32 = sparse-count p low names columns field can k next.within in
-    let size : length (entries_in own) ≡ length own = length-map own (λ (line : SmallVec Entry). line.items) in
-    subst (λ (n : ℕ). n < 2 ^ 32) (sym (ap length next.own) ∙ size) few
+    let at =
+    is-at p c.args.low low (lists_in c.args.names.now) (lines_in c.args.columns.items) c.degrees.invariant.0
+    c.degrees.degree-iterator.rest.items c.next.new.self.rest.items c.in-Some.degree c.deref-in-degrees-2.result.now c.len-k.result
+    (length c.degrees.made.pivots.items) (lists_in c.degrees.made.alive.items) (from_greatest (pivots_in c.degrees.made.pivots.items))
+    c.element_laws.ensures.field (omega (arith, ints, c.ranges.low)) c.requires (c.degrees.invariant.1, c.degrees.invariant.2, c.degrees.invariant.3) c.in-Some.ensures.steps.0
+    c.deref-in-degrees-2.ensures.value (omega (arith, c.len-k.ensures, c.degrees.made.pivots.ok.0)) in
+    at.count
 
 pub reduce_degree-requires-clause-entries : goal.reduce_degree-requires-clause-entries
 reduce_degree-requires-clause-entries g c =
     let p = g.F.PrimeField.P in
-    let names = lists_in c.args.names.now in
-    let columns = lines_in c.args.columns.items in
     let low : ℤ = to_z w16 (of_z w16 c.args.low) in
-    let same : c.args.low ≡ low = omega (arith, ints, c.ranges.low) in
-    let field = c.element_laws.ensures.field in
-    let can : MakeComplex p low names columns = subst (λ (low : ℤ). MakeComplex p low names columns) same c.requires in
+    let at =
+    is-at p c.args.low low (lists_in c.args.names.now) (lines_in c.args.columns.items) c.degrees.invariant.0
+    c.degrees.degree-iterator.rest.items c.next.new.self.rest.items c.in-Some.degree c.deref-in-degrees-2.result.now c.len-k.result
+    (length c.degrees.made.pivots.items) (lists_in c.degrees.made.alive.items) (from_greatest (pivots_in c.degrees.made.pivots.items))
+    c.element_laws.ensures.field (omega (arith, ints, c.ranges.low)) c.requires (c.degrees.invariant.1, c.degrees.invariant.2, c.degrees.invariant.3) c.in-Some.ensures.steps.0
+    c.deref-in-degrees-2.ensures.value (omega (arith, c.len-k.ensures, c.degrees.made.pivots.ok.0)) in
     let k = c.len-k.result in
-    let is_k : k ≡ length c.degrees.made.pivots.items = omega (arith, c.len-k.ensures, c.degrees.made.pivots.ok.0) in
-    let own = c.deref-in-degrees-2.result.now in
-    let goes = c.in-Some.ensures.goes in
-    let steps = c.in-Some.ensures.steps in
-    let first : c.degrees.degree-iterator.rest.items ≡ c.in-Some.degree ∷ c.next.new.self.rest.items = search rules in
-    let next =
-    is-next columns c.degrees.invariant.0 c.degrees.degree-iterator.rest.items c.next.new.self.rest.items c.in-Some.degree own k
-    c.degrees.invariant.1 first c.deref-in-degrees-2.ensures.value (is_k ∙ c.degrees.invariant.2) in
-    let places = lists_in c.degrees.made.alive.items in
-    let pivots = from_greatest (pivots_in c.degrees.made.pivots.items) in
-    let so_far : IsReducedTo p (sparse_complex low names columns).complex k places pivots =
-    subst (λ (n : ℕ). IsReducedTo p (sparse_complex low names columns).complex n places pivots) (sym is_k) c.degrees.invariant.3 in
     let height = length c.alive_at-height.result.now in
-    let is_height : c.alive_at-height.result.now ≡ slice_index_or places (k + 1) [] =
+    let is_height : c.alive_at-height.result.now ≡ slice_index_or (lists_in c.degrees.made.alive.items) (k + 1) [] =
     c.alive_at-height.ensures ∙ ap (λ (degrees : List (Vec Bool)). slice_index_or (lists_in degrees) (k + 1) []) c.deref.ensures.value in
-    subst (All (AreEntries p height)) (sym next.own)
-    (sparse-rows p low names columns field can k height places pivots so_far (ap length is_height))
+    subst (All (AreEntries p height)) (sym at.next.own)
+    (sparse-rows p low (lists_in c.args.names.now) (lines_in c.args.columns.items) c.element_laws.ensures.field at.make k height
+    (lists_in c.degrees.made.alive.items) (from_greatest (pivots_in c.degrees.made.pivots.items)) at.so_far (ap length is_height))
 
 pub degree_at-requires : goal.degree_at-requires
 degree_at-requires g c =
     let p = g.F.PrimeField.P in
-    let names = lists_in c.args.names.now in
-    let columns = lines_in c.args.columns.items in
     let low : ℤ = to_z w16 (of_z w16 c.args.low) in
-    let same : c.args.low ≡ low = omega (arith, ints, c.ranges.low) in
-    let field = c.element_laws.ensures.field in
-    let can : MakeComplex p low names columns = subst (λ (low : ℤ). MakeComplex p low names columns) same c.requires in
-    let k = c.len-k.result in
-    let is_k : k ≡ length c.degrees.made.pivots.items = omega (arith, c.len-k.ensures, c.degrees.made.pivots.ok.0) in
-    let own = c.deref-in-degrees-2.result.now in
-    let goes = c.in-Some.ensures.goes in
-    let steps = c.in-Some.ensures.steps in
-    let first : c.degrees.degree-iterator.rest.items ≡ c.in-Some.degree ∷ c.next.new.self.rest.items = search rules in
-    let next =
-    is-next columns c.degrees.invariant.0 c.degrees.degree-iterator.rest.items c.next.new.self.rest.items c.in-Some.degree own k
-    c.degrees.invariant.1 first c.deref-in-degrees-2.ensures.value (is_k ∙ c.degrees.invariant.2) in
-    let within : k < length names = omega (arith, next.within, line_count p low names columns field can) in
-    let end : (low +ℤ pos (length names)) ≤ℤ pos 32767 = can.end in
-    omega (arith, ints, within, end)
+    let at =
+    is-at p c.args.low low (lists_in c.args.names.now) (lines_in c.args.columns.items) c.degrees.invariant.0
+    c.degrees.degree-iterator.rest.items c.next.new.self.rest.items c.in-Some.degree c.deref-in-degrees-2.result.now c.len-k.result
+    (length c.degrees.made.pivots.items) (lists_in c.degrees.made.alive.items) (from_greatest (pivots_in c.degrees.made.pivots.items))
+    c.element_laws.ensures.field (omega (arith, ints, c.ranges.low)) c.requires (c.degrees.invariant.1, c.degrees.invariant.2, c.degrees.invariant.3) c.in-Some.ensures.steps.0
+    c.deref-in-degrees-2.ensures.value (omega (arith, c.len-k.ensures, c.degrees.made.pivots.ok.0)) in
+    at.end
 
 pub note_pivots-requires : goal.note_pivots-requires
 note_pivots-requires g c =
     let p = g.F.PrimeField.P in
-    let names = lists_in c.args.names.now in
-    let columns = lines_in c.args.columns.items in
     let low : ℤ = to_z w16 (of_z w16 c.args.low) in
-    let same : c.args.low ≡ low = omega (arith, ints, c.ranges.low) in
-    let field = c.element_laws.ensures.field in
-    let can : MakeComplex p low names columns = subst (λ (low : ℤ). MakeComplex p low names columns) same c.requires in
-    let k = c.len-k.result in
-    let is_k : k ≡ length c.degrees.made.pivots.items = omega (arith, c.len-k.ensures, c.degrees.made.pivots.ok.0) in
-    let own = c.deref-in-degrees-2.result.now in
-    let goes = c.in-Some.ensures.goes in
-    let steps = c.in-Some.ensures.steps in
-    let first : c.degrees.degree-iterator.rest.items ≡ c.in-Some.degree ∷ c.next.new.self.rest.items = search rules in
-    let next =
-    is-next columns c.degrees.invariant.0 c.degrees.degree-iterator.rest.items c.next.new.self.rest.items c.in-Some.degree own k
-    c.degrees.invariant.1 first c.deref-in-degrees-2.ensures.value (is_k ∙ c.degrees.invariant.2) in
-    let within : k < length names = omega (arith, next.within, line_count p low names columns field can) in
-    let end : (low +ℤ pos (length names)) ≤ℤ pos 32767 = can.end in
-    omega (arith, ints, within, end, same, c.ranges.low)
+    let at =
+    is-at p c.args.low low (lists_in c.args.names.now) (lines_in c.args.columns.items) c.degrees.invariant.0
+    c.degrees.degree-iterator.rest.items c.next.new.self.rest.items c.in-Some.degree c.deref-in-degrees-2.result.now c.len-k.result
+    (length c.degrees.made.pivots.items) (lists_in c.degrees.made.alive.items) (from_greatest (pivots_in c.degrees.made.pivots.items))
+    c.element_laws.ensures.field (omega (arith, ints, c.ranges.low)) c.requires (c.degrees.invariant.1, c.degrees.invariant.2, c.degrees.invariant.3) c.in-Some.ensures.steps.0
+    c.deref-in-degrees-2.ensures.value (omega (arith, c.len-k.ensures, c.degrees.made.pivots.ok.0)) in
+    omega (arith, ints, at.end, c.ranges.low)
 
 pub degrees-preserved : goal.degrees-preserved
 degrees-preserved g c =
     let p = g.F.PrimeField.P in
+    let low : ℤ = to_z w16 (of_z w16 c.args.low) in
+    let at =
+    is-at p c.args.low low (lists_in c.args.names.now) (lines_in c.args.columns.items) c.degrees.invariant.0
+    c.degrees.degree-iterator.rest.items c.next.new.self.rest.items c.in-Some.degree c.deref-in-degrees-2.result.now c.len-k.result
+    (length c.degrees.made.pivots.items) (lists_in c.degrees.made.alive.items) (from_greatest (pivots_in c.degrees.made.pivots.items))
+    c.element_laws.ensures.field (omega (arith, ints, c.ranges.low)) c.requires (c.degrees.invariant.1, c.degrees.invariant.2, c.degrees.invariant.3) c.in-Some.ensures.steps.0
+    c.deref-in-degrees-2.ensures.value (omega (arith, c.len-k.ensures, c.degrees.made.pivots.ok.0)) in
     let names = lists_in c.args.names.now in
     let columns = lines_in c.args.columns.items in
-    let low : ℤ = to_z w16 (of_z w16 c.args.low) in
-    let same : c.args.low ≡ low = omega (arith, ints, c.ranges.low) in
-    let field = c.element_laws.ensures.field in
-    let can : MakeComplex p low names columns = subst (λ (low : ℤ). MakeComplex p low names columns) same c.requires in
     let k = c.len-k.result in
-    let is_k : k ≡ length c.degrees.made.pivots.items = omega (arith, c.len-k.ensures, c.degrees.made.pivots.ok.0) in
     let own = c.deref-in-degrees-2.result.now in
-    let goes = c.in-Some.ensures.goes in
-    let steps = c.in-Some.ensures.steps in
-    let first : c.degrees.degree-iterator.rest.items ≡ c.in-Some.degree ∷ c.next.new.self.rest.items = search rules in
-    let next =
-    is-next columns c.degrees.invariant.0 c.degrees.degree-iterator.rest.items c.next.new.self.rest.items c.in-Some.degree own k
-    c.degrees.invariant.1 first c.deref-in-degrees-2.ensures.value (is_k ∙ c.degrees.invariant.2) in
-    let within : k < length names = omega (arith, next.within, line_count p low names columns field can) in
-    let end : (low +ℤ pos (length names)) ≤ℤ pos 32767 = can.end in
     let places = lists_in c.degrees.made.alive.items in
-    let pivots = from_greatest (pivots_in c.degrees.made.pivots.items) in
-    let so_far : IsReducedTo p (sparse_complex low names columns).complex k places pivots =
-    subst (λ (n : ℕ). IsReducedTo p (sparse_complex low names columns).complex n places pivots) (sym is_k) c.degrees.invariant.3 in
+    let lists = pivots_in c.degrees.made.pivots.items in
     let is_alive : c.alive_at.result.now ≡ slice_index_or places k [] =
     c.alive_at.ensures ∙ ap (λ (degrees : List (Vec Bool)). slice_index_or (lists_in degrees) k []) c.deref-in-degrees.ensures.value in
-    let is_degree : c.degree_at.result ≡ low +ℤ pos k = c.degree_at.ensures in
     let i : ℤ = to_z w16 (of_z w16 c.degree_at.result) in
-    let here : i ≡ low +ℤ pos k = omega (arith, ints, is_degree, within, end, same, c.ranges.low) in
+    let here : i ≡ low +ℤ pos k = omega (arith, ints, c.degree_at.ensures, at.end, c.ranges.low) in
     let stored = c.in_ok-stored.stored.items in
     let size : length (entries_in own) ≡ length own = length-map own (λ (line : SmallVec Entry). line.items) in
     let are =
     subst (λ (n : ℕ). AreFirstReduced p c.alive_at.result.now (entries_in own) n stored) (sym size) c.in_ok-stored.ensures in
-    let lists = pivots_in c.degrees.made.pivots.items in
     let lists_after : pivots_in c.note_pivots.new.made.pivots.items ≡ lists ++ stored_pivots i stored ∷ [] =
     c.in_ok-note_pivots.ensures.pivots
     ∙ ap (λ (stored : List StoredColumn). lists ++ stored_pivots i stored ∷ []) c.deref-in-degrees-3.ensures.value in
-    let are_pivots = ap from_greatest lists_after ∙ from_greatest-push lists (stored_pivots i stored) in
     let are_places : lists_in c.note_pivots.new.made.alive.items ≡ with_pairs k places stored =
     c.in_ok-note_pivots.ensures.alive ∙ ap (with_pairs k places) c.deref-in-degrees-3.ensures.value in
     let count_of : (pivots : List (Vec Pivot)) → length (pivots_in pivots) ≡ length pivots =
@@ -175,22 +124,23 @@ degrees-preserved g c =
       arith,
       count_of c.note_pivots.new.made.pivots.items,
       count_of c.degrees.made.pivots.items,
-      is_k,
+      c.len-k.ensures,
+      c.degrees.made.pivots.ok.0,
       ap length lists_after,
       length-append lists (stored_pivots i stored ∷ []),
     ) in
-    let reduced : IsReducedTo p (sparse_complex low names columns).complex (k + 1) (lists_in c.note_pivots.new.made.alive.items)
-    (from_greatest (pivots_in c.note_pivots.new.made.pivots.items)) =
-    sparse-step p low names columns field can k i places (lists_in c.note_pivots.new.made.alive.items) pivots
-    (from_greatest (pivots_in c.note_pivots.new.made.pivots.items)) stored (entries_in own) c.alive_at.result.now here next.own is_alive
-    so_far are are_pivots are_places in (
+    let pivots = from_greatest (pivots_in c.note_pivots.new.made.pivots.items) in
+    let reduced =
+    sparse-step p low names columns c.element_laws.ensures.field at.make k i places (lists_in c.note_pivots.new.made.alive.items)
+    (from_greatest lists) pivots stored (entries_in own) c.alive_at.result.now here at.next.own is_alive at.so_far are
+    (ap from_greatest lists_after ∙ from_greatest-push lists (stored_pivots i stored)) are_places in (
       c.degrees.invariant.0 ++ entries_in own ∷ [],
-      next.parts,
-      omega (arith, count, next.count),
+      at.next.parts,
+      omega (arith, count, at.next.count),
       subst
           (λ (n : ℕ).
-          IsReducedTo p (sparse_complex low names columns).complex n (lists_in c.note_pivots.new.made.alive.items)
-          (from_greatest (pivots_in c.note_pivots.new.made.pivots.items))) (sym count) reduced,
+          IsReducedTo p (sparse_complex low names columns).complex n (lists_in c.note_pivots.new.made.alive.items) pivots)
+          (sym count) reduced,
     )
 
 -- no degree is left
