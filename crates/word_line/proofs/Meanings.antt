@@ -7,8 +7,11 @@ use Rattle.std.proofs.lemmas.Bool.Decides.{nat_tests}
 use Rattle.std.proofs.Common.{◌≡◌, ℕ, ◌+◌, ◌≤◌, ◌&&◌, ◌⊎◌, inl, inr, Bool, true, List, [], ◌∷◌, length, Option, Some, None, refl, ap, subst, cond, ◌∙◌, arith, nat_le}
 use Rattle.std.specs.Prelude.{codes, slice_get}
 use Rattle.std.proofs.lemmas.Option.{none-some}
+use Rattle.std.specs.List.{All}
 use Rattle.std.proofs.lemmas.Slice.Eq.{bytes_eq-Decides}
 use Rattle.std.specs.Str.{bytes_eq}
+use Rattle.clap.specs.Walk.{Text}
+use Rattle.word_line.specs.Pieces.{HasNoDash}
 use Rattle.word_line.specs.declared.command.Task.{Task}
 use Rattle.word_line.specs.declared.command.Task.TheVariants.{Homology, Jones, Check, Convert, Edit, Draw, Schedule, Bench, Certify, Verify, Reduced, Mirror, Reverse, Union}
 use Rattle.word_line.specs.declared.command.Form.{Form}
@@ -115,6 +118,11 @@ read-IsGiven names reading default means values x given = grind (arith, nat_test
 pub IsGiven-once : {X : Type 0} (names : List ℕ → X → Type 0) (default : X) (values : List (List ℕ)) (x : X) → IsGiven names default values x → length values ≤ 1
 IsGiven-once names default values x given = grind (arith, nat_tests)
 
+-- what holds of the default and of all that is named holds of what is given
+pub of_given : {X : Type 0} (names : Text → X → Type 0) (default : X) (P : X → Type 0) → ((value : Text) (x : X) → names value x → P x) → P default
+    → (values : List Text) (x : X) → IsGiven names default values x → P x
+of_given names default P of start values x given = grind (arith, nat_tests)
+
 -- `bench` has a number, and `reduced` a mark
 pub needs-read : (command made : Command) (task : Task) (number mark : Option ℕ) → finished_with command task number mark ≡ Some made
     → HasNumber task number × HasMark task mark × (command ≡ made)
@@ -123,3 +131,12 @@ needs-read command made task number mark same = grind (arith, nat_tests)
 pub read-needs : (command : Command) (task : Task) (number mark : Option ℕ) → HasNumber task number → HasMark task mark
     → finished_with command task number mark ≡ Some command
 read-needs command task number mark needed marked = grind (arith, nat_tests)
+
+-- ---- no legal value begins with `-`
+
+pub field_no_dash : (value : Text) (size : ℕ) → NamesField value size → HasNoDash value
+field_no_dash value size names = grind (arith, nat_tests)
+
+pub given_no_dash : {X : Type 0} (names : Text → X → Type 0) (default : X) → ((value : Text) (x : X) → names value x → HasNoDash value)
+    → (values : List Text) (x : X) → IsGiven names default values x → All HasNoDash values
+given_no_dash names default plain values x given = grind (arith, nat_tests)

@@ -5,15 +5,13 @@ use Rattle.std.proofs.lemmas.Bool.{cases_lt, eqb-true}
 use Rattle.std.proofs.lemmas.List.Sums.{fails_before_first, passes_at_first, split_at_first}
 use Rattle.clap.proofs.CutLemmas.{Lacks, before_first-Lacks, list_any-Lacks, list_any-at}
 use Rattle.std.proofs.lemmas.Option.{none-some, same_Some}
-use Rattle.std.proofs.lemmas.Slice.Eq.{bytes_eq-Decides}
 use Rattle.std.specs.Prelude.{codes}
 use Rattle.std.specs.List.{after_first, before_first, position_or_len}
 use Rattle.std.specs.Option.{option_and_then}
 use Rattle.std.specs.Str.{bytes_eq}
 use Rattle.clap.specs.Lexer.{has_byte, long_of, long_of_rest, name_and_value, strip_byte}
 use Rattle.clap.specs.Walk.{Text}
-use Rattle.word_line.specs.Pieces.{HasNoDash, Key, field, workers, to, number, mark, key_name}
-use Rattle.word_line.proofs.Rules.{key_of}
+use Rattle.word_line.specs.Pieces.{HasNoDash, Key, key_name}
 use Rattle.word_line.proofs.Machine.{IsText}
 
 -- ---- the looks of words
@@ -71,18 +69,3 @@ long_of-joined key value = grind (arith, nat_tests)
 
 pub dashes-name : (key : Key) (more : Text) → bytes_eq (codes "--" ++ (key_name key ++ more)) (45 ∷ 45 ∷ []) ≡ false
 dashes-name key more = grind (arith, nat_tests)
-
-pub key_of-name : (key : Key) → key_of (key_name key) ≡ Some key
-key_of-name key = grind (arith, nat_tests)
-
-chosen_key : {P : Type 0} (b : Bool) (x : Key) (o : Option Key) (y : Key) → cond b (Some x) o ≡ Some y → (b ≡ true → x ≡ y → P) → (o ≡ Some y → P) → P
-chosen_key b x o y same this other = grind (arith, nat_tests)
-
-pub key_of-is : (name : Text) (key : Key) → key_of name ≡ Some key → name ≡ key_name key
-key_of-is name key same =
-    chosen_key (bytes_eq (codes "field") name) field _ key same (λ is same. sym ((bytes_eq-Decides (codes "field") name).0 is) ∙ ap key_name same) (λ same.
-    chosen_key (bytes_eq (codes "workers") name) workers _ key same (λ is same. sym ((bytes_eq-Decides (codes "workers") name).0 is) ∙ ap key_name same) (λ same.
-    chosen_key (bytes_eq (codes "to") name) to _ key same (λ is same. sym ((bytes_eq-Decides (codes "to") name).0 is) ∙ ap key_name same) (λ same.
-    chosen_key (bytes_eq (codes "number") name) number _ key same (λ is same. sym ((bytes_eq-Decides (codes "number") name).0 is) ∙ ap key_name same) (λ same.
-    chosen_key (bytes_eq (codes "mark") name) mark _ key same (λ is same. sym ((bytes_eq-Decides (codes "mark") name).0 is) ∙ ap key_name same) (λ same.
-    absurd (none-some key same))))))

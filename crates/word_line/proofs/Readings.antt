@@ -1,18 +1,17 @@
 -- Words mean a command exactly where `clap` takes them and the texts that it finds give the command.
 -- `clap` does what the machine does, and the machine goes over lines. Each slot has one text at most, and the texts give a command
--- exactly where each says what the command has there (`Gives`). Both ways (`command_is`, `command_rows`) make the clauses of the
--- reading, and that words mean one command or none.
+-- exactly where each says what the command has there (`Gives`). Both ways (`kh_reads`) make the clauses of the reading, and that words
+-- mean one command or none.
 use Rattle.std.proofs.lemmas.Bool.Decides.{nat_tests}
-use Rattle.std.proofs.Common.{◌≡◌, ℕ, ◌≤◌, ◌⊎◌, inl, inr, Bool, true, false, List, [], ◌∷◌, ◌++◌, length, Option, Some, None, refl, sym, ap, subst, cond, ◌∙◌, arith}
-use Rattle.std.proofs.lemmas.Option.{cond_some, none-some, option_and_then_some, same_Some}
-use Rattle.std.specs.Prelude.{codes, is_some, slice_get}
+use Rattle.std.proofs.Common.{◌≡◌, ℕ, ◌≤◌, ◌⊎◌, Bool, true, List, [], ◌∷◌, ◌++◌, length, Option, Some, None, refl, sym, ap, subst, cond, not, ◌∙◌, arith}
+use Rattle.std.proofs.lemmas.List.Elements.{All-cons, All-nil}
+use Rattle.std.proofs.lemmas.Option.{none-some, option_and_then_some, same_Some}
+use Rattle.std.specs.Prelude.{codes, slice_get}
 use Rattle.std.specs.List.{All}
 use Rattle.std.specs.Option.{option_and_then}
-use Rattle.clap.specs.Walk as steps
-use Rattle.clap.specs.Walk.{Row, Text, walk, first_of, idle, nothing_held, rows_of}
-use Rattle.clap.specs.Simple.{App, entered, matches_of, names_of}
-use Rattle.clap.specs.Faults.{entered_fault, fault_of, level_fault}
-use Rattle.clap.specs.Kinds.{Kinds}
+use Rattle.clap.specs.Walk.{Row, Text, first_of, rows_of}
+use Rattle.clap.specs.Simple.{matches_of}
+use Rattle.clap.specs.Faults.{fault_of}
 use Rattle.clap.specs.declared.parser.matches.Found.{Found}
 use Rattle.clap.proofs.WalkLemmas.{first_value-rows}
 use Rattle.word_line.specs.declared.command.Command.{Command}
@@ -22,18 +21,19 @@ use Rattle.word_line.specs.declared.command.Form.{Form}
 use Rattle.word_line.specs.declared.command.Form.TheVariants.{Pd}
 use Rattle.word_line.specs.Commands.{IsCommand}
 use Rattle.word_line.specs.Line.{command_found, kh_line}
-use Rattle.word_line.specs.Pieces.{HasNoDash, IsLine, Key, Piece, key_name, positionals}
+use Rattle.word_line.specs.Pieces.{HasNoDash, Key, Piece, apart, joined, positional, positionals}
 use Rattle.word_line.specs.Pieces as key
 use Rattle.word_line.specs.Reading.{command_given, command_with, field_in, field_of, finished, form_in, form_of, mark_given, number_given, value_mark, value_number, task_of, workers_in, workers_of}
 use Rattle.kh_lex.specs.Numerals.{WritesNumber}
 use Rattle.word_line.specs.Values.{AreWorkers, IsFieldSize, IsGiven, NamesField, NamesForm, NamesMark, NamesNumber, NamesWorkers, form_name, task_name, values_in}
-use Rattle.word_line.proofs.Lines.{line_of, line_taken, taken_line}
+use Rattle.word_line.proofs.Findings.{Reads, faultless, means-decided, means-one, rows_mean, rows_mean_none, rows_uses}
+use Rattle.word_line.proofs.KhRules.{kh}
+use Rattle.word_line.proofs.Lines.{line_of, line_taken}
+use Rattle.word_line.proofs.Parts.{IsPart, taken_line}
 use Rattle.word_line.proofs.Uses.{Distinct, first_of-values, has-some, tasks_of-line, uses_behind, uses_of, values_of, values_of-line}
-use Rattle.word_line.proofs.Agreement.{found_is_taken}
-use Rattle.word_line.proofs.Machine.{passed, fault_from, walk_of, ready, rows_taken, taken, walk_at, with_task}
-use Rattle.word_line.proofs.Meanings.{needs-read, IsGiven-read, NamesField-read, NamesForm-read, NamesMark-read, NamesNumber-read, NamesWorkers-read, name_of-task, read-needs, read-IsGiven, read-NamesField, read-NamesForm, read-NamesMark, read-NamesNumber, read-NamesWorkers, task_of-name}
+use Rattle.word_line.proofs.Machine.{ready, taken, with_task}
+use Rattle.word_line.proofs.Meanings.{needs-read, IsGiven-read, field_no_dash, given_no_dash, NamesField-read, NamesForm-read, NamesMark-read, NamesNumber-read, NamesWorkers-read, name_of-task, read-needs, read-IsGiven, read-NamesField, read-NamesForm, read-NamesMark, read-NamesNumber, read-NamesWorkers, task_of-name}
 use Rattle.word_line.proofs.Rows.{Use, has, rows_at}
-use Rattle.word_line.proofs.Rules.{built_is, shape}
 
 -- ---- no legal text begins with `-`
 
@@ -42,9 +42,6 @@ task_no_dash task = grind (arith, nat_tests)
 
 digits_no_dash : (limit : ℕ) (value : Text) (number : ℕ) → WritesNumber limit value number → HasNoDash value
 digits_no_dash limit value number written = grind (arith, nat_tests)
-
-field_no_dash : (value : Text) (size : ℕ) → NamesField value size → HasNoDash value
-field_no_dash value size names = grind (arith, nat_tests)
 
 workers_no_dash : (value : Text) (count : ℕ) → NamesWorkers value count → HasNoDash value
 workers_no_dash value count names = digits_no_dash WORKERS_DIGITS value count names.0
@@ -61,16 +58,13 @@ number_no_dash value number names = grind (arith, nat_tests)
 mark_no_dash : (value : Text) (mark : Option ℕ) → NamesMark value mark → HasNoDash value
 mark_no_dash value mark names = grind (arith, nat_tests)
 
-given_no_dash : {X : Type 0} (names : Text → X → Type 0) (default : X) → ((value : Text) (x : X) → names value x → HasNoDash value)
-    → (values : List Text) (x : X) → IsGiven names default values x → All HasNoDash values
-given_no_dash names default plain values x given = grind (arith, nat_tests)
-
 -- ---- the texts of uses
 
 -- the command of the texts that were given
 abbrev command_of : List Use → Option Command
 command_of uses = command_given (slice_get (values_of None uses) 0) (slice_get (values_of (Some key.field) uses) 0)
-    (slice_get (values_of (Some key.workers) uses) 0) (slice_get (values_of (Some key.to) uses) 0) (slice_get (values_of (Some key.number) uses) 0)
+    (slice_get (values_of (Some key.workers) uses) 0) (slice_get (values_of (Some key.to) uses) 0)
+    (slice_get (values_of (Some key.number) uses) 0)
     (slice_get (values_of (Some key.mark) uses) 0)
 
 -- the same of rows
@@ -79,10 +73,26 @@ command_in rows = command_given (first_of (codes "task") rows) (first_of (codes 
     (first_of (codes "workers") rows) (first_of (codes "to") rows) (first_of (codes "number") rows) (first_of (codes "mark") rows)
 
 command_in-uses : (uses : List Use) → command_in (rows_at uses) ≡ command_of uses
-command_in-uses uses = rw (first_of-values None uses, first_of-values (Some key.field) uses, first_of-values (Some key.workers) uses, first_of-values (Some key.to) uses, first_of-values (Some key.number) uses, first_of-values (Some key.mark) uses) refl
+command_in-uses uses =
+    rw (
+      first_of-values None uses,
+      first_of-values (Some key.field) uses,
+      first_of-values (Some key.workers) uses,
+      first_of-values (Some key.to) uses,
+      first_of-values (Some key.number) uses,
+      first_of-values (Some key.mark) uses,
+    ) refl
 
 pub command_found-rows : (found : Found) → command_found found ≡ command_in (rows_of found)
-command_found-rows found = rw (first_value-rows found (codes "task"), first_value-rows found (codes "field"), first_value-rows found (codes "workers"), first_value-rows found (codes "to"), first_value-rows found (codes "number"), first_value-rows found (codes "mark")) refl
+command_found-rows found =
+    rw (
+      first_value-rows found (codes "task"),
+      first_value-rows found (codes "field"),
+      first_value-rows found (codes "workers"),
+      first_value-rows found (codes "to"),
+      first_value-rows found (codes "number"),
+      first_value-rows found (codes "mark"),
+    ) refl
 
 -- what texts have where they give a command
 record Gives (name field workers to number mark : Option Text) (command : Command) : Type 0 where
@@ -144,47 +154,73 @@ command_gives name field workers to number mark command same =
 
 -- ---- words and commands
 
+one_no_dash : (text : Text) → HasNoDash text → All HasNoDash (text ∷ [])
+one_no_dash text plain = All-cons HasNoDash text [] plain (All-nil HasNoDash)
+
+-- `kh` knows all options
+all_known : (pieces : List Piece) → All (IsPart kh.knows) pieces
+all_known [] = All-nil (IsPart kh.knows)
+all_known (piece ∷ pieces) = All-cons (IsPart kh.knows) piece pieces (known piece) (all_known pieces)
+  where
+    known : (piece : Piece) → IsPart kh.knows piece
+    known (positional word) = tt
+    known (apart k value) = tt
+    known (joined k value) = tt
+
 one_text : (texts : List Text) (text : Text) → length texts ≤ 1 → slice_get texts 0 ≡ Some text → texts ≡ text ∷ []
 one_text [] text few same = absurd (none-some text same)
 one_text (first ∷ []) text few same = ap (λ t. t ∷ []) (same_Some first text same)
 one_text (first ∷ second ∷ more) text few same = absurd (omega arith)
 
-command_is : (words : List Text) (uses : List Use) (command : Command) → taken ready [] words ≡ Some uses → command_of uses ≡ Some command → IsCommand words command
+command_is : (words : List Text) (uses : List Use) (command : Command) → taken kh ready [] words ≡ Some uses
+    → command_of uses ≡ Some command → IsCommand words command
 command_is words uses command took same =
-    let line = taken_line words uses took in
-    let gives = command_gives (slice_get (values_of None uses) 0) (slice_get (values_of (Some key.field) uses) 0) (slice_get (values_of (Some key.workers) uses) 0)
-    (slice_get (values_of (Some key.to) uses) 0) (slice_get (values_of (Some key.number) uses) 0) (slice_get (values_of (Some key.mark) uses) 0)
+    let line = taken_line kh words uses took in
+    let gives = command_gives (slice_get (values_of None uses) 0) (slice_get (values_of (Some key.field) uses) 0)
+    (slice_get (values_of (Some key.workers) uses) 0)
+    (slice_get (values_of (Some key.to) uses) 0) (slice_get (values_of (Some key.number) uses) 0)
+    (slice_get (values_of (Some key.mark) uses) 0)
     command same in
-    let tasks : values_of None uses ≡ positionals line.pieces ++ line.behind = ap (values_of None) line.is ∙ tasks_of-line line.pieces line.behind in
+    let tasks : values_of None uses ≡ positionals line.pieces ++ line.behind =
+    ap (values_of None) line.is ∙ tasks_of-line line.pieces line.behind in
     let one : values_of None uses ≡ gives.text ∷ [] = one_text (values_of None uses) gives.text (line.distinct None) gives.is in
     let named : gives.text ≡ task_name command.task = name_of-task gives.text command.task gives.task in
     let only : positionals line.pieces ++ line.behind ≡ task_name command.task ∷ [] = sym tasks ∙ one ∙ ap (λ t. t ∷ []) named in
     let needs = needs-read command command command.task command.number command.mark gives.done in
-    let values : (k : Key) → values_of (Some k) uses ≡ values_in k line.pieces = λ k. ap (values_of (Some k)) line.is ∙ values_of-line k line.pieces line.behind in
+    let values : (k : Key) → values_of (Some k) uses ≡ values_in k line.pieces =
+    λ k. ap (values_of (Some k)) line.is ∙ values_of-line k line.pieces line.behind in
     record {
       pieces = line.pieces;
       behind = line.behind;
-      line = line_of words uses line (task_name command.task) (task_no_dash command.task) only;
+      line = line_of kh words uses line
+          (subst (All HasNoDash) (sym only) (one_no_dash (task_name command.task) (task_no_dash command.task)));
       task = only;
       field = subst (λ v. IsGiven NamesField 2 v command.field) (values key.field)
-          (IsGiven-read NamesField field_of 2 NamesField-read (values_of (Some key.field) uses) command.field (line.distinct (Some key.field)) gives.of_field);
+          (IsGiven-read NamesField field_of 2 NamesField-read (values_of (Some key.field) uses) command.field
+          (line.distinct (Some key.field)) gives.of_field);
       workers = subst (λ v. IsGiven NamesWorkers 1 v command.workers) (values key.workers)
-          (IsGiven-read NamesWorkers workers_of 1 NamesWorkers-read (values_of (Some key.workers) uses) command.workers (line.distinct (Some key.workers)) gives.of_workers);
+          (IsGiven-read NamesWorkers workers_of 1 NamesWorkers-read (values_of (Some key.workers) uses) command.workers
+          (line.distinct (Some key.workers)) gives.of_workers);
       to = subst (λ v. IsGiven NamesForm Pd v command.to) (values key.to)
-          (IsGiven-read NamesForm form_of Pd NamesForm-read (values_of (Some key.to) uses) command.to (line.distinct (Some key.to)) gives.of_to);
+          (IsGiven-read NamesForm form_of Pd NamesForm-read (values_of (Some key.to) uses) command.to
+          (line.distinct (Some key.to)) gives.of_to);
       number = subst (λ v. IsGiven NamesNumber None v command.number) (values key.number)
-          (IsGiven-read NamesNumber value_number None NamesNumber-read (values_of (Some key.number) uses) command.number (line.distinct (Some key.number)) gives.of_number);
+          (IsGiven-read NamesNumber value_number None NamesNumber-read (values_of (Some key.number) uses) command.number
+          (line.distinct (Some key.number)) gives.of_number);
       mark = subst (λ v. IsGiven NamesMark None v command.mark) (values key.mark)
-          (IsGiven-read NamesMark value_mark None NamesMark-read (values_of (Some key.mark) uses) command.mark (line.distinct (Some key.mark)) gives.of_mark);
+          (IsGiven-read NamesMark value_mark None NamesMark-read (values_of (Some key.mark) uses) command.mark
+          (line.distinct (Some key.mark)) gives.of_mark);
       needed = needs.0;
       marked = needs.1;
     }
 
 values_no_dash : (words : List Text) (command : Command) (is : IsCommand words command) (k : Key) → All HasNoDash (values_in k is.pieces)
 values_no_dash words command is key.field = given_no_dash NamesField 2 field_no_dash (values_in key.field is.pieces) command.field is.field
-values_no_dash words command is key.workers = given_no_dash NamesWorkers 1 workers_no_dash (values_in key.workers is.pieces) command.workers is.workers
+values_no_dash words command is key.workers =
+    given_no_dash NamesWorkers 1 workers_no_dash (values_in key.workers is.pieces) command.workers is.workers
 values_no_dash words command is key.to = given_no_dash NamesForm Pd form_no_dash (values_in key.to is.pieces) command.to is.to
-values_no_dash words command is key.number = given_no_dash NamesNumber None number_no_dash (values_in key.number is.pieces) command.number is.number
+values_no_dash words command is key.number =
+    given_no_dash NamesNumber None number_no_dash (values_in key.number is.pieces) command.number is.number
 values_no_dash words command is key.mark = given_no_dash NamesMark None mark_no_dash (values_in key.mark is.pieces) command.mark is.mark
 
 values_once : (words : List Text) (command : Command) (is : IsCommand words command) (k : Key) → length (values_in k is.pieces) ≤ 1
@@ -196,18 +232,23 @@ line_uses words command is = uses_of is.pieces ++ uses_behind is.behind
 line_distinct : (words : List Text) (command : Command) (is : IsCommand words command) → Distinct (line_uses words command is)
 line_distinct words command is None = grind (arith, nat_tests, values_of, tasks_of-line)
 line_distinct words command is (Some k) =
-    let same : length (values_of (Some k) (line_uses words command is)) ≡ length (values_in k is.pieces) = ap length (values_of-line k is.pieces is.behind) in
+    let same : length (values_of (Some k) (line_uses words command is)) ≡ length (values_in k is.pieces) =
+    ap length (values_of-line k is.pieces is.behind) in
     let once = values_once words command is k in omega (arith, same, once)
 
-command_taken : (words : List Text) (command : Command) (is : IsCommand words command) → taken ready [] words ≡ Some (line_uses words command is)
-command_taken words command is = line_taken words is.pieces is.behind is.line (values_no_dash words command is) (line_distinct words command is)
+command_taken : (words : List Text) (command : Command) (is : IsCommand words command)
+    → taken kh ready [] words ≡ Some (line_uses words command is)
+command_taken words command is =
+    line_taken kh words is.pieces is.behind is.line (all_known is.pieces) (values_no_dash words command is) (line_distinct words command is)
 
-command_of-line : (words : List Text) (command : Command) (is : IsCommand words command) → command_of (line_uses words command is) ≡ Some command
+command_of-line : (words : List Text) (command : Command) (is : IsCommand words command)
+    → command_of (line_uses words command is) ≡ Some command
 command_of-line words command is =
     let uses = line_uses words command is in
     let values : (k : Key) → values_in k is.pieces ≡ values_of (Some k) uses = λ k. sym (values_of-line k is.pieces is.behind) in
     let tasks : values_of None uses ≡ task_name command.task ∷ [] = tasks_of-line is.pieces is.behind ∙ is.task in
-    gives_command (slice_get (values_of None uses) 0) (slice_get (values_of (Some key.field) uses) 0) (slice_get (values_of (Some key.workers) uses) 0)
+    gives_command (slice_get (values_of None uses) 0) (slice_get (values_of (Some key.field) uses) 0)
+    (slice_get (values_of (Some key.workers) uses) 0)
     (slice_get (values_of (Some key.to) uses) 0) (slice_get (values_of (Some key.number) uses) 0)
     (slice_get (values_of (Some key.mark) uses) 0) command (record {
       text = task_name command.task;
@@ -226,106 +267,47 @@ command_of-line words command is =
       done = read-needs command command.task command.number command.mark is.needed is.marked;
     })
 
--- words mean one command at most
-pub IsCommand-one : (words : List Text) (first second : Command) → IsCommand words first → IsCommand words second → first ≡ second
-IsCommand-one words first second is_first is_second =
-    let same : line_uses words first is_first ≡ line_uses words second is_second =
-    same_Some _ _ (sym (command_taken words first is_first) ∙ command_taken words second is_second) in
-    same_Some first second (sym (command_of-line words first is_first) ∙ ap command_of same ∙ command_of-line words second is_second)
-
--- ---- `clap`
-
-abbrev line_built : App
-line_built = record { top = shape; subs = [] }
-
-start_fault : (words : List Text) (stop : Option (Text × List Text))
-    → level_fault shape [] nothing_held words (is_some (entered line_built stop)) (entered_fault line_built stop)
-    ≡ fault_from (walk_at idle false 1 nothing_held) words
-start_fault words stop = grind (arith, nat_tests)
-
-pub fault_is : (words : List Text) → fault_of kh_line words ≡ fault_from (walk_at idle false 1 nothing_held) words
-fault_is words = grind (arith, nat_tests, built_is, start_fault, shape)
-
-pub matches_is : (words : List Text) → matches_of kh_line words ≡ steps.finished shape.rules (walk_of (walk_at idle false 1 nothing_held) words).held
-matches_is words = ap (λ (a : App). steps.rows_after a.top.rules (names_of a) words) built_is
-
-passed_none : (kinds : Kinds) (rows : List Row) → kinds ≡ [] → passed kinds rows ≡ Some rows
-passed_none kinds rows none = rw none refl
-
-none_passed : (kinds : Kinds) (rows made : List Row) → passed kinds rows ≡ Some made → kinds ≡ []
-none_passed kinds rows made same = grind (arith, nat_tests)
-
--- words that `clap` takes, with what it finds
-pub taken_rows : (words : List Text) (rows : List Row) → fault_of kh_line words ≡ [] → rows ≡ matches_of kh_line words → rows_taken ready [] words ≡ Some rows
-taken_rows words rows none are =
-    sym (found_is_taken words)
-    ∙ passed_none (fault_from (walk_at idle false 1 nothing_held) words) _ (sym (fault_is words) ∙ none)
-    ∙ ap Some (sym (matches_is words) ∙ sym are)
-
--- where `clap` takes words, its rows give the command that they mean, if there is one
-pub rows_command : (words : List Text) (rows : List Row) (command : Command) → rows_taken ready [] words ≡ Some rows → command_in rows ≡ Some command
-    → IsCommand words command
-rows_command words rows command took same =
-    option_and_then_some with_task (taken ready [] words) rows took (λ uses is_uses is_rows.
-    let rows_are : rows_at uses ≡ rows = with_task-rows uses rows is_rows in
-    command_is words uses command is_uses (sym (command_in-uses uses) ∙ ap command_in rows_are ∙ same))
-  where
-    with_task-rows : (uses : List Use) (rows : List Row) → with_task uses ≡ Some rows → rows_at uses ≡ rows
-    with_task-rows uses rows same = (cond_some (has None uses) (rows_at uses) rows same).1
-
--- words that mean a command are taken, and the rows give it
-pub command_rows : (words : List Text) (command : Command) → IsCommand words command
-    → (rows : List Row) × (rows_taken ready [] words ≡ Some rows) × (command_in rows ≡ Some command)
-command_rows words command is =
-    let uses = line_uses words command is in
-    let given : has None uses ≡ true = has-some None uses (task_name command.task) (tasks_of-line is.pieces is.behind ∙ is.task) in (
-      rows_at uses,
-      ap (option_and_then with_task) (command_taken words command is) ∙ ap (λ (b : Bool). cond b (Some (rows_at uses)) None) given,
-      command_in-uses uses ∙ command_of-line words command is,
-    )
-
--- words that mean a command have no fault for `clap`
-pub command_faultless : (words : List Text) (command : Command) → IsCommand words command → fault_of kh_line words ≡ []
-command_faultless words command is =
-    let found = command_rows words command is in
-    fault_is words ∙ none_passed _ _ found.0 (found_is_taken words ∙ found.1)
+-- words mean a command exactly where the rows give it
+pub kh_reads : Reads kh IsCommand command_in
+kh_reads = record {
+  from_rows = λ words rows command took same.
+      let uses = rows_uses kh words rows took in
+      command_is words uses.0 command uses.1 (sym (command_in-uses uses.0) ∙ ap command_in uses.2 ∙ same);
+  to_rows = λ words command is.
+      let uses = line_uses words command is in
+      let given : has None uses ≡ true = has-some None uses (task_name command.task) (tasks_of-line is.pieces is.behind ∙ is.task) in (
+        rows_at uses,
+        ap (option_and_then (with_task kh)) (command_taken words command is)
+            ∙ ap (λ (b : Bool). cond (not b) None (Some (rows_at uses))) given,
+        command_in-uses uses ∙ command_of-line words command is,
+      );
+}
 
 -- ---- the clauses of the reading
 
-pub found_command : (words : List Text) (found : Found) (command : Command) → fault_of kh_line words ≡ [] → rows_of found ≡ matches_of kh_line words
+pub command_faultless : (words : List Text) (command : Command) → IsCommand words command → fault_of kh_line words ≡ []
+command_faultless = faultless kh_reads
+
+pub found_command : (words : List Text) (found : Found) (command : Command) → fault_of kh_line words ≡ []
+    → rows_of found ≡ matches_of kh_line words
     → command_found found ≡ Some command → IsCommand words command
-found_command words found command none are same = grind (arith, nat_tests, rows_command, taken_rows, command_found-rows)
+found_command words found command none are same =
+    rows_mean kh_reads words (rows_of found) command none are (sym (command_found-rows found) ∙ same)
 
 pub found_none : (words : List Text) (found : Found) → fault_of kh_line words ≡ [] → rows_of found ≡ matches_of kh_line words
     → command_found found ≡ None → (command : Command) → IsCommand words command → ⊥
-found_none words found none are same command is =
-    let rows = command_rows words command is in
-    let rows_are : rows_of found ≡ rows.0 = same_Some (rows_of found) rows.0 (sym (taken_rows words (rows_of found) none are) ∙ rows.1) in
-    none-some command (sym same ∙ command_found-rows found ∙ ap command_in rows_are ∙ rows.2)
+found_none words found none are same = rows_mean_none kh_reads words (rows_of found) none are (sym (command_found-rows found) ∙ same)
 
 -- the sizes of a command
-of_given : {X : Type 0} (names : Text → X → Type 0) (default : X) (P : X → Type 0) → ((value : Text) (x : X) → names value x → P x) → P default
-    → (values : List Text) (x : X) → IsGiven names default values x → P x
-of_given names default P of start values x given = grind (arith, nat_tests)
-
-pub IsCommand-sizes : (words : List Text) (command : Command) → IsCommand words command → IsFieldSize command.field × AreWorkers command.workers
+pub IsCommand-sizes : (words : List Text) (command : Command) → IsCommand words command
+    → IsFieldSize command.field × AreWorkers command.workers
 IsCommand-sizes words command is = grind (arith, nat_tests)
 
--- ---- words that are written out
-
-pub means_none : (words : List Text) → option_and_then command_in (rows_taken ready [] words) ≡ None → (command : Command) → IsCommand words command → ⊥
-means_none words none command is =
-    let rows = command_rows words command is in
-    none-some command (sym none ∙ ap (option_and_then command_in) rows.1 ∙ rows.2)
-
-pub means_this : (words : List Text) (command : Command) → option_and_then command_in (rows_taken ready [] words) ≡ Some command → IsCommand words command
-means_this words command same = option_and_then_some command_in (rows_taken ready [] words) command same (λ rows is_rows is. rows_command words rows command is_rows is)
-
 -- words mean a command, or they mean none
-pub IsCommand-decided : (words : List Text) → ((command : Command) × IsCommand words command) ⊎ ((command : Command) → IsCommand words command → ⊥)
-IsCommand-decided words = go (option_and_then command_in (rows_taken ready [] words)) refl
-  where
-    go : (found : Option Command) → option_and_then command_in (rows_taken ready [] words) ≡ found
-        → ((command : Command) × IsCommand words command) ⊎ ((command : Command) → IsCommand words command → ⊥)
-    go None none = inr (means_none words none)
-    go (Some command) some = inl (command, means_this words command some)
+pub IsCommand-decided : (words : List Text) → ((command : Command) × IsCommand words command)
+    ⊎ ((command : Command) → IsCommand words command → ⊥)
+IsCommand-decided = means-decided kh_reads
+
+-- words mean one command at most
+pub IsCommand-one : (words : List Text) (first second : Command) → IsCommand words first → IsCommand words second → first ≡ second
+IsCommand-one = means-one kh_reads

@@ -7,7 +7,7 @@ use Rattle.word_line.specs.Line.{stop_of}
 use Rattle.word_line.specs.declared.command.Command.{Command}
 use Rattle.word_line.specs.declared.command.WordStop.{WordStop}
 use Rattle.word_line.specs.declared.command.WordStop.TheVariants.{NoMemory, Usage}
-use Rattle.word_line.proofs.Rules.{is_free, is_plain}
+use Rattle.word_line.proofs.KhRules.{kh}
 use Rattle.word_line.proofs.Readings.{IsCommand-sizes, command_faultless, found_command, found_none}
 use Rattle.word_line.proofs.reader.read_words.Goals as goal
 
@@ -20,8 +20,8 @@ pub returns-in-Some-clause-command : goal.returns-in-Some-clause-command
 returns-in-Some-clause-command c =
     let line_is = c.in_ok-line.ensures in
     let words_are : map (λ s. s.now) c.as_slice.result.now ≡ c.args.words.now = search rules in
-    let none = c.in-Ok.ensures.kinds (ap is_simple_and_free line_is ∙ is_free) in
-    let rows = (c.in-Ok.ensures.matches (ap is_simple line_is ∙ is_plain)).0 in
+    let none = c.in-Ok.ensures.kinds (ap is_simple_and_free line_is ∙ kh.is_free) in
+    let rows = (c.in-Ok.ensures.matches (ap is_simple line_is ∙ kh.is_plain)).0 in
     found_command c.args.words.now (found_of c.in-Ok.matches) c.in-Some.command
     (sym (ap₂ fault_of line_is words_are) ∙ none) (rows ∙ ap₂ matches_of line_is words_are) (sym c.command_in.ensures ∙ c.in-Some.is)
 
@@ -30,8 +30,8 @@ pub returns-in-Ok-clause-usage : goal.returns-in-Ok-clause-usage
 returns-in-Ok-clause-usage c =
     let line_is = c.in_ok-line.ensures in
     let words_are : map (λ s. s.now) c.as_slice.result.now ≡ c.args.words.now = search rules in
-    let none = c.in-Ok.ensures.kinds (ap is_simple_and_free line_is ∙ is_free) in
-    let rows = (c.in-Ok.ensures.matches (ap is_simple line_is ∙ is_plain)).0 in
+    let none = c.in-Ok.ensures.kinds (ap is_simple_and_free line_is ∙ kh.is_free) in
+    let rows = (c.in-Ok.ensures.matches (ap is_simple line_is ∙ kh.is_plain)).0 in
     λ _. found_none c.args.words.now (found_of c.in-Ok.matches)
     (sym (ap₂ fault_of line_is words_are) ∙ none) (rows ∙ ap₂ matches_of line_is words_are) (sym c.command_in.ensures ∙ c.in-None.is)
 
@@ -40,7 +40,7 @@ pub returns-clause-usage : goal.returns-clause-usage
 returns-clause-usage c =
     let line_is = c.in_ok-line.ensures in
     let words_are : map (λ s. s.now) c.as_slice.result.now ≡ c.args.words.now = search rules in
-    let kind = c.in-Err.ensures.kinds (ap is_simple_and_free line_is ∙ is_free) in
+    let kind = c.in-Err.ensures.kinds (ap is_simple_and_free line_is ∙ kh.is_free) in
     λ same command is. elim kind [
       | inl memory ↦
           let ends : c.stop_of.result ≡ NoMemory = c.stop_of.ensures ∙ ap stop_of (c.kind.ensures ∙ memory) in
