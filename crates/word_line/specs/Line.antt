@@ -19,13 +19,13 @@ task_rule = record (new_rule (codes "task")) { required = true }
 abbrev pub option_rule : List ℕ → Rule
 option_rule name = record (new_rule name) { long = Some name }
 
--- a line that all words are of, without help
-abbrev pub bare_line : App
-bare_line = on_top (λ s. record s { no_binary_name = true; disable_help_flag = true }) (new_app (codes "kh"))
+-- a line of a program that all words are of, without help
+abbrev pub bare_line : List ℕ → App
+bare_line program = on_top (λ s. record s { no_binary_name = true; disable_help_flag = true }) (new_app program)
 
 -- the line with the positional alone
 abbrev pub task_line : App
-task_line = with_rule bare_line task_rule
+task_line = with_rule (bare_line (codes "kh")) task_rule
 
 -- the command line: one required positional, and five options with a value; all words are its own, and it has no help
 abbrev pub kh_line : App

@@ -3,9 +3,13 @@
 ghost use Rattle.std.specs.Prelude.{◌≡◌, ◌⊎◌, ℕ, List, [], ◌∷◌, None, Some, codes};
 ghost use Rattle.word_line.specs.Commands.{IsCommand, IsUsage};
 ghost use Rattle.word_line.specs.Reading.{command_with};
+ghost use Rattle.word_line.specs.ScanCommands.{IsScanCommand, IsScanUsage};
 ghost use Rattle.word_line.specs.declared.command.Command.{Command};
 ghost use Rattle.word_line.specs.declared.command.Form.TheVariants.{Pd, Gauss};
 ghost use Rattle.word_line.specs.declared.command.Task.TheVariants.{Bench, Certify, Homology, Convert, Jones, Reduced, Verify};
+ghost use Rattle.word_line.specs.declared.scan_command.Fields.TheVariants.{All, One};
+ghost use Rattle.word_line.specs.declared.scan_command.ScanCommand.{ScanCommand};
+ghost use Rattle.word_line.specs.declared.scan_command.ScanCommand.TheVariants.{Alone, Each};
 
 use crate::limits::{MARK_DIGITS, MARK_LIMIT, NUMBER_DIGITS, WORKERS_DIGITS};
 
@@ -72,4 +76,49 @@ pub fn worked_usage()
     ensures dashes { IsUsage (codes "--field" ∷ codes "--" ∷ codes "homology" ∷ []) }
     ensures dash { IsUsage (codes "-" ∷ []) }
     ensures second { IsUsage (codes "homology" ∷ codes "--" ∷ codes "--field" ∷ []) }
+{}
+
+/// Words mean one command of `kh-scan` at most.
+pub fn scan_words_mean_one_command()
+    ensures one { (words : List (List ℕ)) (first second : ScanCommand)
+        → IsScanCommand words first → IsScanCommand words second → first ≡ second }
+{}
+
+/// Words mean a command of `kh-scan`, or they mean none.
+pub fn scan_words_are_decided()
+    ensures decided { (words : List (List ℕ))
+        → ((command : ScanCommand) × IsScanCommand words command) ⊎ IsScanUsage words }
+{}
+
+/// Words that mean a command of `kh-scan`, worked out.
+pub fn worked_scan_commands()
+    ensures nothing { IsScanCommand [] (Alone 2) }
+    ensures list { IsScanCommand (codes "each" ∷ []) (Each (One 2)) }
+    ensures joined { IsScanCommand (codes "--field=3" ∷ []) (Alone 3) }
+    ensures apart { IsScanCommand (codes "--field" ∷ codes "5" ∷ []) (Alone 5) }
+    ensures all { IsScanCommand (codes "each" ∷ codes "--field" ∷ codes "all" ∷ [])
+        (Each All) }
+    ensures behind { IsScanCommand (codes "--" ∷ codes "each" ∷ []) (Each (One 2)) }
+    ensures ended { IsScanCommand (codes "each" ∷ codes "--" ∷ []) (Each (One 2)) }
+    ensures dashes { IsScanCommand (codes "--" ∷ []) (Alone 2) }
+    ensures first { IsScanCommand (codes "--field" ∷ codes "7" ∷ codes "each" ∷ [])
+        (Each (One 7)) }
+{}
+
+/// Words that mean no command of `kh-scan`, worked out.
+pub fn worked_scan_usage()
+    ensures homology { IsScanUsage (codes "homology" ∷ []) }
+    ensures workers { IsScanUsage (codes "--workers" ∷ codes "2" ∷ []) }
+    ensures all { IsScanUsage (codes "--field" ∷ codes "all" ∷ []) }
+    ensures second { IsScanUsage (codes "each" ∷ codes "each" ∷ []) }
+    ensures four { IsScanUsage (codes "each" ∷ codes "--field" ∷ codes "4" ∷ []) }
+    ensures twice { IsScanUsage (codes "--field" ∷ codes "2" ∷ codes "--field" ∷ codes "2" ∷ []) }
+    ensures short { IsScanUsage (codes "-h" ∷ []) }
+    ensures help { IsScanUsage (codes "--help" ∷ []) }
+    ensures shortened { IsScanUsage (codes "--fiel" ∷ codes "2" ∷ []) }
+    ensures dash { IsScanUsage (codes "-" ∷ []) }
+    ensures dashes { IsScanUsage (codes "--field" ∷ codes "--" ∷ []) }
+    ensures mark { IsScanUsage (codes "each" ∷ codes "--mark" ∷ codes "1" ∷ []) }
+    ensures alone { IsScanUsage (codes "--field" ∷ []) }
+    ensures empty { IsScanUsage ([] ∷ []) }
 {}

@@ -35,7 +35,7 @@ pub fn read_words(alloc: Global, words: &Words) -> Result<Command, WordStop>
 }
 
 /// Why words of which `clap` finds this fault give no command.
-fn stop_of(kind: ErrorKind) -> WordStop
+pub(crate) fn stop_of(kind: ErrorKind) -> WordStop
     ensures { result ≡ stop_of kind }
 {
     match kind {
@@ -45,7 +45,7 @@ fn stop_of(kind: ErrorKind) -> WordStop
 }
 
 /// The words as a list of texts.
-fn texts_of(alloc: Global, words: &Words) -> Result<Vec<&str>, AllocError>
+pub(crate) fn texts_of(alloc: Global, words: &Words) -> Result<Vec<&str>, AllocError>
     ensures { IfOk result (λ texts. map (λ s. s.now) texts.items ≡ words.now) }
 {
     let mut texts = Vec::new(alloc);

@@ -83,7 +83,7 @@ fn task_of(name: &str) -> Option<Task>
 }
 
 /// The field of a value; of two elements where there is none.
-fn field_in(value: Option<&str>) -> Option<FieldSize>
+pub(crate) fn field_in(value: Option<&str>) -> Option<FieldSize>
     ensures { result ≡ field_in (word_behind value.entry) }
 {
     match value {
@@ -93,7 +93,7 @@ fn field_in(value: Option<&str>) -> Option<FieldSize>
 }
 
 /// The number of elements that a value writes.
-fn field_of(value: &str) -> Option<FieldSize>
+pub(crate) fn field_of(value: &str) -> Option<FieldSize>
     ensures { result ≡ field_of value.now }
 {
     match value {
