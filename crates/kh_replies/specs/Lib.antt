@@ -5,6 +5,7 @@ pub mod Parts
 pub mod Inputs
 pub mod InputStops
 pub mod DiagramReplies
+pub mod LimitedReplies
 pub mod Jones
 pub mod Convert
 pub mod Draw

@@ -35,7 +35,8 @@ use Rattle.kh_work.specs.declared.order.CodeOrder.{CodeOrder}
 use Rattle.kh_work.specs.declared.order.CodeOrder.TheVariants.{Reduced}
 use Rattle.kh_work.specs.declared.order.ScriptOrder.{ScriptOrder}
 use Rattle.kh_work.specs.Orders.{order_of}
-use Rattle.kh_work.specs.Answer.{IsAnswer, IsLimitedReply, IsOrderReply}
+use Rattle.kh_replies.specs.LimitedReplies.{IsLimitedReply}
+use Rattle.kh_work.specs.Answer.{IsAnswer, IsOrderReply}
 use Rattle.kh_work.specs.ByteLimits.{byte_limit}
 use Rattle.kh_work.specs.Edit.{IsEditedReply}
 use Rattle.kh_work.specs.Homology.{homology_reply, homology_text}

@@ -37,7 +37,7 @@ field-sized size (inr (inr (inl is))) = subst IsField (sym is) field-five
 field-sized size (inr (inr (inr is))) = subst IsField (sym is) field-seven
 
 -- the state sum is the graded Euler characteristic of the table
-sum-table : (field : ℕ) (code : Code) → IsFieldSize field → IsTrue (accepted code) → length code.crossings ≤ CROSSINGS → (exponent : ℤ)
+pub sum-table : (field : ℕ) (code : Code) → IsFieldSize field → IsTrue (accepted code) → length code.crossings ≤ CROSSINGS → (exponent : ℤ)
     → state_sum code exponent ≡ euler (table field code) exponent
 sum-table field code is_field is_accepted few exponent =
     sym (euler-table field code exponent (field-sized field is_field) is_accepted few)

@@ -23,7 +23,8 @@ use Rattle.kh_replies.specs.Refusals.{too_many_bytes}
 use Rattle.kh_replies.specs.Replies.{Reply, reply_of}
 use Rattle.kh_replies.specs.DiagramReplies.{IsDiagramReply, IsOutcomeReply}
 use Rattle.kh_replies.proofs.DiagramReadings.{IsDiagramRead-one}
-use Rattle.kh_work.specs.Answer.{IsAnswer, IsCodeReply, IsCommandReply, IsInputReply, IsLimitedReply}
+use Rattle.kh_replies.specs.LimitedReplies.{IsLimitedReply}
+use Rattle.kh_work.specs.Answer.{IsAnswer, IsCodeReply, IsCommandReply, IsInputReply}
 use Rattle.kh_work.specs.Orders.{order_for}
 use Rattle.kh_work.specs.declared.order.CodeOrder.TheVariants.{Certify}
 use Rattle.kh_work.specs.Certify.{IsCertifyReply, IsCertificate}

@@ -40,7 +40,8 @@ use Rattle.kh_work.specs.declared.order.Order.TheVariants as orders
 use Rattle.kh_work.specs.declared.order.CodeOrder.TheVariants.{Certify}
 use Rattle.kh_work.specs.declared.order.ScriptOrder.TheVariants.{Edit, Schedule}
 use Rattle.kh_work.specs.Orders.{order_for, order_of}
-use Rattle.kh_work.specs.Answer.{HaveOneReply, IsAnswer, IsCodeReply, IsCommandReply, IsLimitedReply, IsOrderReply, IsScriptedReply}
+use Rattle.kh_replies.specs.LimitedReplies.{IsLimitedReply}
+use Rattle.kh_work.specs.Answer.{HaveOneReply, IsAnswer, IsCodeReply, IsCommandReply, IsOrderReply, IsScriptedReply}
 
 -- what a script was read as is answered once
 IsScriptReply-some : (field : ℕ) (code : Code) (text : List ℕ) (reading : Result (List (ℕ × ScheduleLine)) ScriptStop)

@@ -31,7 +31,8 @@ use Rattle.kh_work.specs.Bench.{bench_counts, bench_lines, bench_reply, bench_te
 use Rattle.kh_work.specs.declared.order.Order.{Order}
 use Rattle.kh_work.specs.declared.order.ScriptOrder.{ScriptOrder}
 use Rattle.kh_work.specs.declared.order.ScriptOrder.TheVariants.{Edit, Schedule}
-use Rattle.kh_work.specs.Answer.{IsInputReply, IsLimitedReply, IsOrderReply, IsScriptedReply}
+use Rattle.kh_replies.specs.LimitedReplies.{IsLimitedReply}
+use Rattle.kh_work.specs.Answer.{IsInputReply, IsOrderReply, IsScriptedReply}
 
 -- a diagram that is read is answered, and a refusal is its own answer
 pub IsDiagramReply-read : {X E : Type 0} (result : Result X E) (reply_from : X → Reply) (Answers : Code → Reply → Type 0) (text : List ℕ)

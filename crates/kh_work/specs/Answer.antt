@@ -1,13 +1,14 @@
 -- What a run answers: a relation between words, the bytes of an input, and a reply. A law says that words and bytes have exactly one
 -- reply, unless the words mean `certify`: an input that this does not refuse is answered by any log of its diagram that can be verified.
 -- All of it is this project's rule.
-use Rattle.std.specs.Prelude.{◌≡◌, ◌≢◌, ◌⊎◌, ℕ, ◌<◌, ◌≤◌, List, length, Option, Some, None}
+use Rattle.std.specs.Prelude.{◌≡◌, ◌≢◌, ◌⊎◌, ℕ, List, Some, None}
 use Rattle.kh_types.specs.Code.{Code}
 use Rattle.word_line.specs.declared.command.Task.TheVariants as tasks
 use Rattle.word_line.specs.declared.command.Command.{Command}
 use Rattle.word_line.specs.Commands.{IsCommand, IsUsage}
 use Rattle.kh_replies.specs.Replies.{Reply}
-use Rattle.kh_replies.specs.Refusals.{usage, too_many_bytes}
+use Rattle.kh_replies.specs.Refusals.{usage}
+use Rattle.kh_replies.specs.LimitedReplies.{IsLimitedReply}
 use Rattle.kh_replies.specs.Parts.{code_part, part_behind}
 use Rattle.kh_replies.specs.DiagramReplies.{IsDiagramReply}
 use Rattle.kh_replies.specs.Convert.{convert_reply}
@@ -56,12 +57,6 @@ IsOrderReply (orders.Script order) bytes reply = IsDiagramReply (IsScriptedReply
 IsOrderReply orders.Pair bytes reply = IsDiagramReply (λ code. IsUnionReply code (part_behind bytes)) (code_part bytes) reply
 IsOrderReply orders.Log bytes reply = IsVerifyReply bytes reply
 IsOrderReply (orders.Bench field workers number) bytes reply = reply ≡ bench_reply field number
-
--- bytes are more than a limit, and refused for it; or they are not, and answered
-abbrev pub IsLimitedReply : Option ℕ → List ℕ → (Reply → Type 0) → Reply → Type 0
-IsLimitedReply None bytes Answers reply = Answers reply
-IsLimitedReply (Some limit) bytes Answers reply =
-    ((limit < length bytes) × (reply ≡ too_many_bytes limit)) ⊎ ((length bytes ≤ limit) × Answers reply)
 
 -- the reply of an order to the bytes of an input, which may be more than it reads
 abbrev pub IsInputReply : Order → List ℕ → Reply → Type 0

@@ -1,4 +1,4 @@
-mod WordLemmas
 mod ScanAnswers
 mod ScanRuns
+mod ListRuns
 mod SmallTables

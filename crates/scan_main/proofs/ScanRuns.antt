@@ -1,52 +1,59 @@
--- A run of the program of scans keeps the headline.
-use Rattle.std.proofs.Common.{◌≡◌, ℕ, inl, inr, List, refl, sym, subst, ◌∙◌, Result, Ok, Err, None, Some}
+-- A run over one diagram keeps the headline, and what a run has come to.
+use Rattle.std.proofs.Common.{◌≡◌, ◌≢◌, ℕ, inl, inr, List, [], refl, sym, ap, subst, ◌∙◌, Result, Ok, Err, None, Some}
 use Rattle.std.specs.Prelude.{IfOk, IfSome, OnOk}
 use Rattle.std.specs.declared.option.Option.{Option}
 use Rattle.kh_types.specs.Code.{Code}
 use Rattle.kh_types.specs.declared.limits.TheConstants.{INPUT_BYTES}
-use Rattle.word_line.specs.declared.command.Command.{Command}
-use Rattle.word_line.specs.Commands.{IsCommand, IsUsage}
-use Rattle.word_line.proofs.Readings.{IsCommand-sizes}
+use Rattle.kh_io.specs.Faults.{Rose}
+use Rattle.line_reader.proofs.Taken.{Consumes-none}
+use Rattle.word_line.specs.declared.command.WordStop.{WordStop}
+use Rattle.word_line.specs.declared.command.WordStop.TheVariants as word_stops
+use Rattle.word_line.specs.declared.scan_command.Fields.{Fields}
+use Rattle.word_line.specs.declared.scan_command.ScanCommand.{ScanCommand}
+use Rattle.word_line.specs.declared.scan_command.ScanCommand.TheVariants.{Alone, Each}
+use Rattle.line_answers.specs.ListRuns.{IsListRun}
+use Rattle.line_answers.proofs.ListEnds.{IsListRun-unmade}
+use Rattle.word_line.specs.ScanCommands.{IsScanCommand, IsScanUsage}
 use Rattle.kh_replies.specs.declared.status.Status.{Status}
 use Rattle.kh_replies.specs.declared.status.Status.TheVariants.{Done, CodeRefused, Usage, ReadFault, WriteFault, NoMemory, Limit, MoveRefused}
 use Rattle.kh_replies.specs.DiagramReplies.{IsDiagramReply}
 use Rattle.kh_replies.specs.Inputs.{IsDiagramRead, IsDiagramText}
 use Rattle.kh_replies.specs.Jones.{jones_line}
-use Rattle.kh_replies.specs.Refusals.{usage}
 use Rattle.kh_replies.specs.Replies.{Reply, reply_of}
-use Rattle.kh_replies.specs.Runs.{IsBlind, IsKnown}
+use Rattle.kh_replies.specs.Runs.{IsBlind, IsKnown, IsReplied, IsWritten, status_of}
 use Rattle.kh_replies.specs.Statuses.{IsReplyStatus, IsWhole}
-use Rattle.kh_replies.specs.Told.{Gives, IsReadOut, Seen}
-use Rattle.kh_replies.proofs.RunLemmas.{whole-undisturbed}
+use Rattle.kh_replies.specs.Told.{Gives, IsReadOut, IsTaken, Seen}
+use Rattle.kh_replies.specs.declared.stop.ReplyStop.{ReplyStop}
+use Rattle.kh_replies.specs.declared.stop.ReplyStop.TheVariants as stops
+use Rattle.kh_replies.proofs.RunLemmas.{IsRun-written, whole-undisturbed}
 use Rattle.kh_replies.proofs.TextFaults.{few_crossings-read}
 use Rattle.kh_work.specs.Homology.{homology_text}
-use Rattle.kh_work.proofs.AnswerLemmas.{first_fault-accepted}
 use Rattle.kh_work.proofs.Headlines.{headline_text, written-headline}
-use Rattle.scan_main.specs.Scans.{IsScanAnswer, IsScanReply, IsScanRun, IsTableReply, KeepsScanHeadline, ReadsUpTo, request_of, words_of_kh}
-use Rattle.scan_main.proofs.ScanAnswers.{IsScanAnswer-one}
+use Rattle.scan_main.specs.ScanRuns.{IsAnsweredOver, IsDoneFor, IsReadOver, IsReplyToNone, IsScanRun, KeepsScanHeadline}
+use Rattle.scan_main.specs.Scans.{IsScanAnswer, IsScanReply, IsTableReply, IsTextReply, ReadsUpTo, request_of, scan_usage, sizes_of}
+use Rattle.scan_main.proofs.ScanAnswers.{IsScanAnswer-one, IsScanCommand-size, alone-or-each, same-fields, table-reply}
 
-IsScanAnswer-command : (words : List (List ℕ)) (bytes : List ℕ) (command : Command) (reply : Reply)
-    → IsCommand (words_of_kh words) command → IsScanReply command.field bytes reply → IsScanAnswer words bytes reply
+IsScanAnswer-command : (words : List (List ℕ)) (bytes : List ℕ) (field : ℕ) (reply : Reply)
+    → IsScanCommand words (Alone field) → IsScanReply field bytes reply → IsScanAnswer words bytes reply
 unfolding IsScanAnswer
-IsScanAnswer-command words bytes command reply meant replied = inl (command, meant, replied)
+IsScanAnswer-command words bytes field reply meant replied = inl (field, meant, replied)
 
-IsKnown-answer : (words : List (List ℕ)) (left : Option (List ℕ)) (command : Command) (reply : Reply)
-    → IsCommand (words_of_kh words) command → IsKnown (IsScanReply command.field) left reply → IsKnown (IsScanAnswer words) left reply
-IsKnown-answer words None command reply meant replied = record { known = tt }
-IsKnown-answer words (Some bytes) command reply meant replied =
-    record { known = IsScanAnswer-command words bytes command reply meant replied.known }
+IsKnown-answer : (words : List (List ℕ)) (left : Option (List ℕ)) (field : ℕ) (reply : Reply)
+    → IsScanCommand words (Alone field) → IsKnown (IsScanReply field) left reply → IsKnown (IsScanAnswer words) left reply
+IsKnown-answer words None field reply meant replied = record { known = tt }
+IsKnown-answer words (Some bytes) field reply meant replied =
+    record { known = IsScanAnswer-command words bytes field reply meant replied.known }
 
-pub IsKnown-command : {E : Type 0} (result : Result Reply E) (words : List (List ℕ)) (left : Option (List ℕ)) (command : Command)
-    → IsCommand (words_of_kh words) command → IfOk result (IsKnown (IsScanReply command.field) left)
-    → IfOk result (IsKnown (IsScanAnswer words) left)
-IsKnown-command (Ok reply) words left command meant replied = IsKnown-answer words left command reply meant replied
-IsKnown-command (Err stop) words left command meant replied = tt
+IsKnown-command : {E : Type 0} (result : Result Reply E) (words : List (List ℕ)) (left : Option (List ℕ)) (field : ℕ)
+    → IsScanCommand words (Alone field) → IfOk result (IsKnown (IsScanReply field) left) → IfOk result (IsKnown (IsScanAnswer words) left)
+IsKnown-command (Ok reply) words left field meant replied = IsKnown-answer words left field reply meant replied
+IsKnown-command (Err stop) words left field meant replied = tt
 
-pub IsBlind-usage : (words : List (List ℕ)) (reply : Reply) → IsUsage (words_of_kh words) → reply ≡ usage → IsBlind (IsScanAnswer words) reply
+IsBlind-usage : (words : List (List ℕ)) (reply : Reply) → IsScanUsage words → reply ≡ scan_usage → IsBlind (IsScanAnswer words) reply
 unfolding IsScanAnswer
 IsBlind-usage words reply none is bytes = inr (none, is)
 
-pub IsKnown-usage : (words : List (List ℕ)) (left : Option (List ℕ)) (reply : Reply) → IsUsage (words_of_kh words) → reply ≡ usage
+IsKnown-usage : (words : List (List ℕ)) (left : Option (List ℕ)) (reply : Reply) → IsScanUsage words → reply ≡ scan_usage
     → IsKnown (IsScanAnswer words) left reply
 IsKnown-usage words None reply none is = record { known = tt }
 IsKnown-usage words (Some bytes) reply none is = record { known = IsBlind-usage words reply none is bytes }
@@ -71,13 +78,70 @@ pub usage-replied : {E : Type 0} (result : Result Reply E) (P : Type 0) → IfOk
 usage-replied (Ok reply) P is = λ is_usage. absurd (subst IsReplyStatus is_usage is)
 usage-replied (Err stop) P is = tt
 
-pub usage-reads-nothing : {P : Type 0} (words : List (List ℕ)) (limit : ℕ) → IsUsage (words_of_kh words) → ReadsUpTo words limit → P
-usage-reads-nothing words limit none reads = absurd (none reads.command reads.meant)
-
-pub IsReadOut-command : {E : Type 0} (result : Result Reply E) (words : List (List ℕ)) (before after : Option (List ℕ))
+IsReadOut-command : {E : Type 0} (result : Result Reply E) (words : List (List ℕ)) (before after : Option (List ℕ))
     → OnOk result (IsReadOut INPUT_BYTES before after) → (limit : ℕ) → ReadsUpTo words limit → OnOk result (IsReadOut limit before after)
 IsReadOut-command result words before after read limit reads =
     subst (λ (n : ℕ). OnOk result (IsReadOut n before after)) (sym reads.limited) read
+
+-- words that ask for one diagram are answered over it
+pub IsReplied-alone : (words : List (List ℕ)) (field : ℕ) (source_before source_after : Seen) (same_source : Type 0) (made : Result Reply ReplyStop)
+    → IsScanCommand words (Alone field) → IsReadOver field source_before source_after made
+    → IsReplied (request_of words) source_before source_after same_source made
+IsReplied-alone words field source_before source_after same_source made meant read = record {
+  known = IsKnown-command made words source_before.bytes field meant read.known;
+  blind = λ none. absurd (none (Alone field) meant);
+  whole = whole-replied made read.status;
+  usage_only = usage-replied made (IsScanUsage words) read.status;
+  unread = λ none. absurd (none (Alone field) meant);
+  taken = read.taken;
+  read_out = IsReadOut-command made words source_before.bytes source_after.bytes read.read_out;
+  fault = read.fault;
+  stayed = read.stayed;
+}
+
+no-fault : (stop : ReplyStop) → stop ≡ stops.NoMemory → ◌≡◌ {A = Result Reply ReplyStop} (Err stop) (Err stops.ReadFault) → ⊥
+no-fault stop is bad = cc
+
+-- words that give no command get the usage line, or there is no memory
+pub IsReplied-none : (words : List (List ℕ)) (source : Seen) (same_source : Type 0) (stop : WordStop) (made : Result Reply ReplyStop)
+    → (stop ≡ word_stops.Usage → IsScanUsage words) → IsReplyToNone stop made → same_source
+    → IsReplied (request_of words) source source same_source made
+IsReplied-none words source same_source word_stops.Usage (Ok reply) none is same =
+    let usage_of = none refl in
+    record {
+      known = IsKnown-usage words source.bytes reply usage_of is;
+      blind = λ _. IsBlind-usage words reply usage_of is;
+      whole = subst (λ (r : Reply). IsWhole r.status) (sym is) tt;
+      usage_only = λ _. usage_of;
+      unread = λ _. same;
+      taken = record { bytes = []; taken = Consumes-none source.bytes };
+      read_out = λ limit reads. absurd (usage_of (Alone reads.field) reads.meant);
+      fault = λ bad. cc;
+      stayed = λ _. refl;
+    }
+IsReplied-none words source same_source word_stops.Usage (Err stop) none is same = record {
+  known = tt;
+  blind = λ _. tt;
+  whole = tt;
+  usage_only = tt;
+  unread = λ _. same;
+  taken = record { bytes = []; taken = Consumes-none source.bytes };
+  read_out = λ limit reads. tt;
+  fault = λ bad. absurd (no-fault stop is bad);
+  stayed = λ _. refl;
+}
+IsReplied-none words source same_source word_stops.NoMemory (Ok reply) none is same = absurd is
+IsReplied-none words source same_source word_stops.NoMemory (Err stop) none is same = record {
+  known = tt;
+  blind = λ _. tt;
+  whole = tt;
+  usage_only = tt;
+  unread = λ _. same;
+  taken = record { bytes = []; taken = Consumes-none source.bytes };
+  read_out = λ limit reads. tt;
+  fault = λ bad. absurd (no-fault stop is bad);
+  stayed = λ _. refl;
+}
 
 -- a text that is read as a diagram, or refused
 pub IsDiagramReply-scanned : {E : Type 0} (result : Result Reply E) (field : ℕ) (text : List ℕ) (code : Code)
@@ -90,18 +154,10 @@ pub IsDiagramReply-refused : (field : ℕ) (text : List ℕ) (refusal : Reply) �
 IsDiagramReply-refused field text refusal read = record { outcome = Err refusal; read = read; answered = refl }
 
 -- the answer to the text of an accepted diagram is its table and the Jones line
-table-answer : (words : List (List ℕ)) (bytes : List ℕ) (command : Command) (code : Code) → IsCommand (words_of_kh words) command
-    → IsDiagramText bytes code → IsScanAnswer words bytes (reply_of Done (homology_text command.field code))
-table-answer words bytes command code meant text =
-    IsScanAnswer-command words bytes command (reply_of Done (homology_text command.field code)) meant
-    (inr (
-      text.few_bytes,
-      record {
-        outcome = Ok code;
-        read = (text.read, first_fault-accepted code text.is_accepted);
-        answered = refl;
-      },
-    ))
+table-answer : (words : List (List ℕ)) (bytes : List ℕ) (field : ℕ) (code : Code) → IsScanCommand words (Alone field)
+    → IsDiagramText bytes code → IsScanAnswer words bytes (reply_of Done (homology_text field code))
+table-answer words bytes field code meant text =
+    IsScanAnswer-command words bytes field (reply_of Done (homology_text field code)) meant (table-reply bytes field code text)
 
 text-headline : (field : ℕ) (code : Code) → reply_of Done (homology_text field code) ≡ reply_of Done (headline_text field code)
 unfolding homology_text jones_line
@@ -112,13 +168,68 @@ pub headline-run : (words : List (List ℕ)) (source_before source_after sink_be
     → IsScanRun words source_before source_after sink_before sink_after same_source same_sink status
     → KeepsScanHeadline words source_before source_after sink_before sink_after status
 headline-run words source_before source_after sink_before sink_after same_source same_sink status is_run
-    bytes command code is_bytes meant text undisturbed =
-    let whole = whole-undisturbed (request_of words) source_before source_after sink_before sink_after same_source same_sink status is_run undisturbed in
+    bytes field code is_bytes meant text undisturbed =
+    let run = is_run.one (λ fields each. alone-or-each words field fields meant each) in
+    let whole = whole-undisturbed (request_of words) source_before source_after sink_before sink_after same_source same_sink status run undisturbed in
     let Answered : Option (List ℕ) → Type 0 = λ known. IfSome known (λ all.
     (reply : Reply) × IsScanAnswer words all reply × Gives reply status sink_before.bytes sink_after.bytes) in
-    let told = subst Answered is_bytes (is_run.answered whole) in
-    written-headline status sink_before.bytes sink_after.bytes command.field code told.0 (IsCommand-sizes (words_of_kh words) command meant).0
+    let told = subst Answered is_bytes (run.answered whole) in
+    written-headline status sink_before.bytes sink_after.bytes field code told.0 (IsScanCommand-size words field meant)
     text.is_accepted (few_crossings-read bytes code text.read)
-    (IsScanAnswer-one words bytes told.0 (reply_of Done (homology_text command.field code)) told.1 (table-answer words bytes command code meant text)
-    ∙ text-headline command.field code)
+    (IsScanAnswer-one words bytes told.0 (reply_of Done (homology_text field code)) told.1 (table-answer words bytes field code meant text)
+    ∙ text-headline field code)
     told.2
+
+-- a run whose words ask for one diagram
+IsScanRun-alone : (words : List (List ℕ)) (field : ℕ) (source_before source_after sink_before sink_after : Seen) (same_source same_sink : Type 0)
+    (status : Status) → IsScanCommand words (Alone field)
+    → IsAnsweredOver field source_before source_after sink_before sink_after same_sink status
+    → IsScanRun words source_before source_after sink_before sink_after same_source same_sink status
+IsScanRun-alone words field source_before source_after sink_before sink_after same_source same_sink status meant answered = record {
+  one = λ no_list. IsRun-written (request_of words) source_before source_after sink_before sink_after same_source same_sink answered.made status
+      (IsReplied-alone words field source_before source_after same_source answered.made meant answered.read) answered.written;
+  list = λ fields each. absurd (alone-or-each words field fields meant each);
+}
+
+-- a run whose words ask for a list
+IsScanRun-each : (words : List (List ℕ)) (fields : Fields) (source_before source_after sink_before sink_after : Seen) (same_source same_sink : Type 0)
+    (status : Status) → IsScanCommand words (Each fields)
+    → IsListRun IsTextReply (sizes_of fields) source_before source_after sink_before sink_after status
+    → IsScanRun words source_before source_after sink_before sink_after same_source same_sink status
+IsScanRun-each words fields source_before source_after sink_before sink_after same_source same_sink status meant run = record {
+  one = λ no_list. absurd (no_list fields meant);
+  list = λ others each.
+      subst (λ (f : Fields). IsListRun IsTextReply (sizes_of f) source_before source_after sink_before sink_after status)
+      (same-fields words fields others meant each) run;
+}
+
+-- a run whose words mean a command
+pub IsScanRun-command : (words : List (List ℕ)) (command : ScanCommand) (source_before source_after sink_before sink_after : Seen)
+    (same_source same_sink : Type 0) (status : Status) → IsScanCommand words command
+    → IsDoneFor command source_before source_after sink_before sink_after same_sink status
+    → IsScanRun words source_before source_after sink_before sink_after same_source same_sink status
+IsScanRun-command words (Alone field) source_before source_after sink_before sink_after same_source same_sink status meant is =
+    IsScanRun-alone words field source_before source_after sink_before sink_after same_source same_sink status meant is
+IsScanRun-command words (Each fields) source_before source_after sink_before sink_after same_source same_sink status meant is =
+    IsScanRun-each words fields source_before source_after sink_before sink_after same_source same_sink status meant is
+
+-- a run without a command
+pub IsScanRun-none : (words : List (List ℕ)) (source sink_before sink_after : Seen) (same_source same_sink : Type 0) (stop : WordStop)
+    (made : Result Reply ReplyStop) (status : Status) → (stop ≡ word_stops.Usage → IsScanUsage words) → IsReplyToNone stop made → same_source
+    → IsWritten made sink_before sink_after same_sink status
+    → IsScanRun words source source sink_before sink_after same_source same_sink status
+IsScanRun-none words source sink_before sink_after same_source same_sink stop made status none is same written = record {
+  one = λ no_list. IsRun-written (request_of words) source source sink_before sink_after same_source same_sink made status
+      (IsReplied-none words source same_source stop made none is same) written;
+  list = λ fields each. list-none words fields source sink_before sink_after same_sink stop made status none is written each;
+}
+  where
+    list-none : (words : List (List ℕ)) (fields : Fields) (source sink_before sink_after : Seen) (same_sink : Type 0) (stop : WordStop)
+        (made : Result Reply ReplyStop) (status : Status) → (stop ≡ word_stops.Usage → IsScanUsage words) → IsReplyToNone stop made
+        → IsWritten made sink_before sink_after same_sink status → IsScanCommand words (Each fields)
+        → IsListRun IsTextReply (sizes_of fields) source source sink_before sink_after status
+    list-none words fields source sink_before sink_after same_sink word_stops.Usage made status none is written each =
+        absurd (none refl (Each fields) each)
+    list-none words fields source sink_before sink_after same_sink word_stops.NoMemory (Ok reply) status none is written each = absurd is
+    list-none words fields source sink_before sink_after same_sink word_stops.NoMemory (Err stop) status none is written each =
+        rw (written.0 ∙ ap status_of is) (IsListRun-unmade IsTextReply (sizes_of fields) source sink_before sink_after written.2 written.3)

@@ -1,10 +1,12 @@
-//! The program of scans: the homology of one diagram, crossing by crossing, whatever the size of
-//! its cube. It gives the real words, input and output to its top call, and ends with the number of
+//! The program of scans: the homology of one diagram, or of each of a list, crossing by crossing,
+//! whatever the size of the cube. It gives the real words, input and output to its top call, and ends with the number of
 //! its status.
 #![tactic(auto)]
 
 mod jones;
 mod laws;
+mod list;
+mod replies;
 mod table;
 #[cfg(test)]
 mod tests;

@@ -41,16 +41,44 @@ fn comes_to<R: Abort + AllocGlobal>(
 
 #[test]
 fn words_and_an_input_come_to_a_status_and_a_text(rt: HostRuntime) -> Result<(), Fail> {
-    let usage = (Status::Usage, "usage: kh COMMAND [OPTIONS]\n");
+    let usage = (Status::Usage, "usage: kh-scan [each] [--field FIELD]\n");
     let table = (Status::Done, TREFOIL_OVER_THREE);
     comes_to(&rt, &["--field", "3"], TREFOIL, 1_000, table)?;
-    comes_to(&rt, &["--field=3", "--workers", "8"], TREFOIL, 1_000, table)?;
+    comes_to(&rt, &["--field=3"], TREFOIL, 1_000, table)?;
     comes_to(&rt, &["homology"], TREFOIL, 1_000, usage)?;
-    comes_to(&rt, &["--field", "4"], TREFOIL, 1_000, usage)?;
+    comes_to(&rt, &["--field", "all"], TREFOIL, 1_000, usage)?;
     let refused = (Status::CodeRefused, "refused text at 37\n");
     comes_to(&rt, &[], &TREFOIL[..37], 1_000, refused)?;
     let cut = (Status::WriteFault, "table 2\nfiel");
     comes_to(&rt, &["--field", "3"], TREFOIL, 12, cut)
+}
+
+/// A loop, a blank line, no code, and a line without a line feed, over three elements.
+const ANSWERS_OVER_THREE: &str = "answers 1
+code 1 field 3 status 0 bytes 64
+table 2
+field 3
+j -1 i 0 dim 1
+j 1 i 0 dim 1
+jones 1*q^-1 1*q^1
+code 3 field 3 status 1 bytes 18
+refused text at 0
+code 4 field 3 status 0 bytes 64
+table 2
+field 3
+j -1 i 0 dim 1
+j 1 i 0 dim 1
+jones 1*q^-1 1*q^1
+";
+
+#[test]
+fn each_line_of_a_list_is_answered(rt: HostRuntime) -> Result<(), Fail> {
+    let list = b"PD[Loop[1]]\n \t\r\n?\nPD[Loop[1]]";
+    let whole = (Status::Done, ANSWERS_OVER_THREE);
+    comes_to(&rt, &["each", "--field", "3"], list, 1_000, whole)?;
+    let cut = (Status::WriteFault, &ANSWERS_OVER_THREE[..100]);
+    comes_to(&rt, &["--field=3", "each"], list, 100, cut)?;
+    comes_to(&rt, &["each"], b"", 1_000, (Status::Done, "answers 1\n"))
 }
 
 /// The number of elements of a field.

@@ -1,0 +1,8 @@
+mod HeldBytes
+pub mod FrameLists
+mod AnsweredLists
+mod Numbering
+mod Progress
+mod Endings
+pub mod ListEnds
+mod FrameReadings

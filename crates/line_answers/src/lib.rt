@@ -1,0 +1,12 @@
+//! A list of codes, one a line, answered line by line as it comes.
+#![tactic(auto)]
+
+mod answering;
+mod frame;
+mod laws;
+mod list;
+mod stop;
+
+pub use answering::Answering;
+pub use laws::frames_tell_replies;
+pub use list::answer_list;

@@ -1,0 +1,119 @@
+//! A list is read line by line, and each line answered before the next is read.
+
+ghost use Rattle.std.specs.Prelude.{◌≡◌, ◌≢◌, ℕ, List, map, Err};
+ghost use Rattle.kh_io.specs.Faults.{Rose};
+ghost use Rattle.line_reader.specs.Lines.{kept};
+ghost use Rattle.kh_replies.specs.Told.{seen};
+ghost use Rattle.line_answers.specs.Answered.{AreAnswered};
+ghost use Rattle.line_answers.specs.ListRuns.{IsListRun, status_of};
+ghost use Rattle.line_answers.specs.Questions.{asked_by, numbered_line, question};
+
+use crate::answering::Answering;
+use crate::frame::{Asked, FrameStop, answer};
+use crate::stop::ListStop;
+use kh_io::{Sink, Source, write_all};
+use kh_replies::Status;
+use line_reader::{Buffered, NextLine, next_line};
+use prime_field::FieldSize;
+use std::alloc::Global;
+
+/// The first line of what is written, with the version of the frames.
+const FIRST_LINE: &str = "answers 1\n";
+
+/// Answers each line of a source that is not blank, over each of the fields, as soon as it has been
+/// read, and writes each reply in a frame behind a first line. Answers how the run ended.
+/// Source: this project's rule.
+pub fn answer_list<A: Answering, S: Source, K: Sink>(
+    alloc: Global,
+    answering: &A,
+    fields: &[FieldSize],
+    source: &mut S,
+    sink: &mut K,
+) -> Status
+    ensures { IsListRun (A.answers answering.now) fields.now
+        (seen (S.left source.old) (S.faults source.old)) (seen (S.left source.new) (S.faults source.new))
+        (seen (K.written sink.old) (K.faults sink.old)) (seen (K.written sink.new) (K.faults sink.new)) result }
+{
+    match lines_answered(alloc, answering, fields, source, sink) {
+        Ok(()) => Status::Done,
+        Err(stop) => stop.status(),
+    }
+}
+
+/// Answers all lines of a source.
+fn lines_answered<A: Answering, S: Source, K: Sink>(
+    alloc: Global,
+    answering: &A,
+    fields: &[FieldSize],
+    source: &mut S,
+    sink: &mut K,
+) -> Result<(), ListStop>
+    ensures { IsListRun (A.answers answering.now) fields.now
+        (seen (S.left source.old) (S.faults source.old)) (seen (S.left source.new) (S.faults source.new))
+        (seen (K.written sink.old) (K.faults sink.old)) (seen (K.written sink.new) (K.faults sink.new))
+        (status_of result) }
+{
+    write_all(sink, FIRST_LINE.as_bytes())?;
+    let mut buffered = Buffered::new();
+    'lines: for number in 1..u64::MAX {
+        match next_line(alloc, source, &mut buffered)? {
+            NextLine::Ended(line) => {
+                let asked = Asked {
+                    number,
+                    line: &line,
+                };
+                answer_over(alloc, answering, fields, asked, sink)?;
+            }
+            NextLine::Last(line) => {
+                let asked = Asked {
+                    number,
+                    line: &line,
+                };
+                answer_over(alloc, answering, fields, asked, sink)?;
+                return Ok(());
+            }
+        }
+    }
+    Err(ListStop::Limit)
+}
+
+/// Answers a line over each of some fields, unless it is blank.
+fn answer_over<A: Answering, K: Sink>(
+    alloc: Global,
+    answering: &A,
+    fields: &[FieldSize],
+    asked: Asked<'_>,
+    sink: &mut K,
+) -> Result<(), FrameStop>
+    ensures answered { (bytes : List ℕ) → asked.entry.line.now ≡ kept bytes
+        → AreAnswered (A.answers answering.now) (asked_by fields.now (numbered_line asked.entry.number bytes))
+        (K.written sink.old) (K.written sink.new) result }
+    ensures fault { result ≡ Err FrameStop.Fault → Rose (K.faults sink.old) (K.faults sink.new) }
+    ensures stayed { result ≢ Err FrameStop.Fault → K.faults sink.new ≡ K.faults sink.old }
+{
+    if asked.line.has_code() {
+        answer_over_each(alloc, answering, fields, asked, sink)
+    } else {
+        Ok(())
+    }
+}
+
+/// Answers a line over each of some fields.
+fn answer_over_each<A: Answering, K: Sink>(
+    alloc: Global,
+    answering: &A,
+    fields: &[FieldSize],
+    asked: Asked<'_>,
+    sink: &mut K,
+) -> Result<(), FrameStop>
+    ensures answered { (bytes : List ℕ) → asked.entry.line.now ≡ kept bytes
+        → AreAnswered (A.answers answering.now) (map (question (numbered_line asked.entry.number bytes)) fields.now)
+        (K.written sink.old) (K.written sink.new) result }
+    ensures fault { result ≡ Err FrameStop.Fault → Rose (K.faults sink.old) (K.faults sink.new) }
+    ensures stayed { result ≢ Err FrameStop.Fault → K.faults sink.new ≡ K.faults sink.old }
+{
+    'fields: for field in fields {
+        answer(alloc, answering, *field, asked, sink)?;
+    }
+    Ok(())
+}
