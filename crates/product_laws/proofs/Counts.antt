@@ -12,7 +12,7 @@ use Rattle.cell_complexes.specs.Alike.{HasNoDoubles}
 use Rattle.cell_complexes.specs.Cells.{Cells, cells_at, has_both}
 use Rattle.cell_complexes.proofs.Members.{sum_by-members}
 use Rattle.cell_complexes.proofs.NoDoubles.{once-map, once-range, sum_by-only}
-use Rattle.product_laws.specs.Products.{Factor, IsTest, pairs_of, product_of}
+use Rattle.product_laws.specs.Products.{Factor, IsTest, all_pairs, product_complex}
 use Rattle.product_laws.proofs.PairLists.{sum_by-pairs, test-other}
 
 int-test : IsTest int_eq
@@ -91,17 +91,17 @@ module _ {A : Type 0} (cells : Cells A) (n most : ℕ) (g : ℤ → ℤ → ℕ)
 
 -- pairs of two degrees, by the first cell
 module _ {A B : Type 0} (p : ℕ) (first : Factor A) (second : Factor B) where
-  pub length-pairs : (i j : ℤ) → length (cells_at (product_of p first second) i j)
+  pub length-pairs : (i j : ℤ) → length (cells_at (product_complex p first second) i j)
       ≡ sum_by (λ x. length (cells_at second.cells (i -ℤ first.cells.homological x) (j -ℤ first.cells.quantum x))) first.cells.list
   length-pairs i j =
-      length-filter (has_both (product_of p first second) i j) (pairs_of first.cells.list second.cells.list)
-      ∙ sum_by-pairs (λ z. cond (has_both (product_of p first second) i j z) 1 0) first.cells.list second.cells.list
-      ∙ sum_by-alike (λ x. sum_by (λ y. cond (has_both (product_of p first second) i j (x, y)) 1 0) second.cells.list)
+      length-filter (has_both (product_complex p first second) i j) (all_pairs first.cells.list second.cells.list)
+      ∙ sum_by-pairs (λ z. cond (has_both (product_complex p first second) i j z) 1 0) first.cells.list second.cells.list
+      ∙ sum_by-alike (λ x. sum_by (λ y. cond (has_both (product_complex p first second) i j (x, y)) 1 0) second.cells.list)
       (λ x. length (cells_at second.cells (i -ℤ first.cells.homological x) (j -ℤ first.cells.quantum x)))
       (λ x.
       let a = first.cells.homological x in
       let b = first.cells.quantum x in
-      sum_by-alike (λ y. cond (has_both (product_of p first second) i j (x, y)) 1 0)
+      sum_by-alike (λ y. cond (has_both (product_complex p first second) i j (x, y)) 1 0)
       (λ y. cond (has_both second.cells (i -ℤ a) (j -ℤ b) y) 1 0)
       (λ y. ap₂ (λ (s t : Bool). cond (s && t) 1 0) (moved a (second.cells.homological y) i) (moved b (second.cells.quantum y) j))
       second.cells.list

@@ -8,20 +8,20 @@ use Rattle.kh_types.specs.Table.{IsWithin, from_minus}
 use Rattle.kh_types.proofs.ListSums.{sum_by-alike}
 use Rattle.cell_complexes.specs.Cells.{AreComplex, cells_at, dimension_at}
 use Rattle.cell_complexes.proofs.LastCells.{dimension-nothing}
-use Rattle.product_laws.specs.Products.{AreTurned, Factor, IsFactor, pair_coefficient, pairs_of, product_dimension, product_of}
+use Rattle.product_laws.specs.Products.{AreTurned, Factor, IsFactor, all_pairs, pair_coefficient, product_complex, product_dimension}
 use Rattle.product_laws.proofs.Counts.{length-pairs, sum_by-degrees}
 use Rattle.product_laws.proofs.PairCoefficients.{by-first, by-neither, by-second, no-loop, pair-below}
 use Rattle.product_laws.proofs.PairLists.{pairs-parts}
 use Rattle.product_laws.proofs.Reductions.{IsReduced, factor_with, reduced}
-use Rattle.product_laws.proofs.Squares.{product-complex}
+use Rattle.product_laws.proofs.Squares.{AreComplex-product}
 use Rattle.product_laws.proofs.Turned.{complex-turned, dimension-turned}
 
 -- factors without a differential have a product without one
 product-nothing : {A B : Type 0} (p : ℕ) (first : Factor A) (second : Factor B)
     → ((x u : A) → Contains first.cells.list x → Contains first.cells.list u → first.cells.coefficient x u ≡ 0)
     → ((y v : B) → Contains second.cells.list y → Contains second.cells.list v → second.cells.coefficient y v ≡ 0)
-    → (z w : A × B) → Contains (pairs_of first.cells.list second.cells.list) z
-    → Contains (pairs_of first.cells.list second.cells.list) w → pair_coefficient p first second z w ≡ 0
+    → (z w : A × B) → Contains (all_pairs first.cells.list second.cells.list) z
+    → Contains (all_pairs first.cells.list second.cells.list) w → pair_coefficient p first second z w ≡ 0
 product-nothing {A} {B} p first second none none_too z w has_z has_w =
     let in_z = pairs-parts first.cells.list second.cells.list z has_z in
     let in_w = pairs-parts first.cells.list second.cells.list w has_w in
@@ -47,8 +47,8 @@ module _ {A B : Type 0} (p n most : ℕ) (first : Factor A) (second : Factor B) 
   positive : 0 < p
   positive = omega (arith, field.above_one)
 
-  whole : AreComplex p (product_of p first second)
-  whole = product-complex p first second field is second_is turned
+  whole : AreComplex p (product_complex p first second)
+  whole = AreComplex-product p first second field is second_is turned
 
   one : IsReduced p first second field is.test second_is.test second_is.once second_is.squares first.cells.list first.cells.coefficient
   one =
@@ -76,12 +76,12 @@ module _ {A B : Type 0} (p n most : ℕ) (first : Factor A) (second : Factor B) 
   abbrev few_too : Factor B
   few_too = factor_with second other.rest other.left
 
-  counted : (i j : ℤ) → dimension_at p (product_of p few few_too) i j ≡ length (cells_at (product_of p few few_too) i j)
+  counted : (i j : ℤ) → dimension_at p (product_complex p few few_too) i j ≡ length (cells_at (product_complex p few few_too) i j)
   counted i j =
-      dimension-nothing p (product_of p few few_too) field (pair-below p few few_too positive)
+      dimension-nothing p (product_complex p few few_too) field (pair-below p few few_too positive)
       (product-nothing p few few_too one.none other.none) i j
 
-  brought : (i j : ℤ) → dimension_at p (product_of p first second) i j ≡ dimension_at p (product_of p few few_too) i j
+  brought : (i j : ℤ) → dimension_at p (product_complex p first second) i j ≡ dimension_at p (product_complex p few few_too) i j
   brought i j =
       sym (one.together i j)
       ∙ sym (dimension-turned p few second field is.test second_is.test few-loops second-loops one.complex i j)
@@ -94,7 +94,7 @@ module _ {A B : Type 0} (p n most : ℕ) (first : Factor A) (second : Factor B) 
   second-counted : (i j : ℤ) → length (cells_at few_too.cells i j) ≡ dimension_at p second.cells i j
   second-counted i j = sym (dimension-nothing p few_too.cells field other.below other.none i j) ∙ other.alone i j
 
-  pub dimension-product : (i j : ℤ) → dimension_at p (product_of p first second) i j
+  pub dimension-product : (i j : ℤ) → dimension_at p (product_complex p first second) i j
       ≡ product_dimension n most (dimension_at p first.cells) (dimension_at p second.cells) i j
   dimension-product i j =
       brought i j ∙ counted i j ∙ length-pairs p few few_too i j

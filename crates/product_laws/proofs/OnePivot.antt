@@ -21,7 +21,7 @@ use Rattle.cell_complexes.proofs.Listings.{listed-same, pivots-without_doubles}
 use Rattle.cell_complexes.proofs.Members.{Contains-made}
 use Rattle.cell_complexes.proofs.NoDoubles.{once-map, sum_by-only}
 use Rattle.kh_types.proofs.ListSums.{sum_by-zeros}
-use Rattle.product_laws.specs.Products.{Factor, IsTest, pair_coefficient, pairs_of, product_of}
+use Rattle.product_laws.specs.Products.{Factor, IsTest, all_pairs, pair_coefficient, product_complex}
 use Rattle.product_laws.proofs.PairCoefficients.{by-first, by-neither, not-first, pair-below}
 use Rattle.product_laws.proofs.PairLists.{pairs-listed, pairs-parts, test-apart, test-other}
 
@@ -53,11 +53,11 @@ module _ {A B : Type 0} (p : ℕ) (first : Factor A) (second : Factor B) (field 
     (second_test : IsTest second.same) (once : HasNoDoubles second.cells.list)
     (units : (y : B) → Contains second.cells.list y → Same p (second.sign y * second.sign y) 1)
     (below : (x u : A) → first.cells.coefficient x u < p)
-    (complex : AreComplex p (product_of p first second)) (x y : A) (rest : List A) (differ : x ≢ y)
+    (complex : AreComplex p (product_complex p first second)) (x y : A) (rest : List A) (differ : x ≢ y)
     (listed : AreListed (λ (z : A). z) first.cells.list (x ∷ y ∷ rest)) (some : first.cells.coefficient x y ≢ 0)
     (x_gone : Contains rest x → ⊥) (y_gone : Contains rest y → ⊥) where
   abbrev whole : Cells (A × B)
-  whole = product_of p first second
+  whole = product_complex p first second
 
   abbrev c : A × B → A × B → ℕ
   c = pair_coefficient p first second
@@ -83,10 +83,10 @@ module _ {A B : Type 0} (p : ℕ) (first : Factor A) (second : Factor B) (field 
   abbrev pivots : List ((A × B) × (A × B))
   pivots = map pivot ys
 
-  listed-all : AreListed (λ (z : A × B). z) (pairs_of first.cells.list ys) (all_of pivots (pairs_of rest ys))
+  listed-all : AreListed (λ (z : A × B). z) (all_pairs first.cells.list ys) (all_of pivots (all_pairs rest ys))
   listed-all =
-      subst (λ (zs : List (A × B)). AreListed (λ (z : A × B). z) (pairs_of first.cells.list ys) zs)
-      (ap₂ (λ (us vs : List (A × B)). us ++ (vs ++ pairs_of rest ys)) (sym (map-map (λ (q : (A × B) × (A × B)). q.0) pivot ys))
+      subst (λ (zs : List (A × B)). AreListed (λ (z : A × B). z) (all_pairs first.cells.list ys) zs)
+      (ap₂ (λ (us vs : List (A × B)). us ++ (vs ++ all_pairs rest ys)) (sym (map-map (λ (q : (A × B) × (A × B)). q.0) pivot ys))
       (sym (map-map (λ (q : (A × B) × (A × B)). q.1) pivot ys)))
       (pairs-listed first.cells.list (x ∷ y ∷ rest) ys listed)
 
@@ -246,9 +246,9 @@ module _ {A B : Type 0} (p : ℕ) (first : Factor A) (second : Factor B) (field 
       spread : (s m n : ℕ) → s * (m + n) ≡ s * m + s * n
       spread s m n = omega arith
 
-  alike : AreAlike p (λ (z : A × B). z) (λ (z : A × B). 1) (cells_left p whole pivots (pairs_of rest ys)) (product_of p left second)
+  alike : AreAlike p (λ (z : A × B). z) (λ (z : A × B). 1) (cells_left p whole pivots (all_pairs rest ys)) (product_complex p left second)
   alike =
-      alike-same p (cells_left p whole pivots (pairs_of rest ys)) (product_of p left second) (listed-same (pairs_of rest ys))
+      alike-same p (cells_left p whole pivots (all_pairs rest ys)) (product_complex p left second) (listed-same (all_pairs rest ys))
       (λ z. refl) (λ z. refl)
       (λ z w has_z has_w.
       let z_parts = pairs-parts rest ys z has_z in
@@ -258,17 +258,19 @@ module _ {A B : Type 0} (p : ℕ) (first : Factor A) (second : Factor B) (field 
         | inr fails ↦ left-apart z.0 z.1 w.0 w.1 z_parts.0 w_parts.0 fails
       ])
 
-  left-complex : AreComplex p (cells_left p whole pivots (pairs_of rest ys))
-  left-complex = complex-left_any p whole pivots (pairs_of rest ys) field complex listed-all are
+  left-complex : AreComplex p (cells_left p whole pivots (all_pairs rest ys))
+  left-complex = complex-left_any p whole pivots (all_pairs rest ys) field complex listed-all are
 
   -- so the product that is left is a complex, and has the same dimensions
-  pub complex-one : AreComplex p (product_of p left second)
+  pub complex-one : AreComplex p (product_complex p left second)
   complex-one =
-      complex-alike p (λ (z : A × B). z) (λ (z : A × B). 1) (cells_left p whole pivots (pairs_of rest ys)) (product_of p left second) alike
+      complex-alike p (λ (z : A × B). z) (λ (z : A × B). 1)
+      (cells_left p whole pivots (all_pairs rest ys)) (product_complex p left second) alike
       (pair-below p left second positive) left-complex
 
-  pub dimension-one : (i j : ℤ) → dimension_at p (product_of p left second) i j ≡ dimension_at p whole i j
+  pub dimension-one : (i j : ℤ) → dimension_at p (product_complex p left second) i j ≡ dimension_at p whole i j
   dimension-one i j =
-      dimension-alike p (λ (z : A × B). z) (λ (z : A × B). 1) (cells_left p whole pivots (pairs_of rest ys)) (product_of p left second)
+      dimension-alike p (λ (z : A × B). z) (λ (z : A × B). 1)
+      (cells_left p whole pivots (all_pairs rest ys)) (product_complex p left second)
       alike field left-complex.below (pair-below p left second positive) i j
-      ∙ dimension-left_any p whole pivots (pairs_of rest ys) field complex listed-all are i j
+      ∙ dimension-left_any p whole pivots (all_pairs rest ys) field complex listed-all are i j

@@ -10,7 +10,7 @@ use Rattle.cell_complexes.proofs.Listings.{listed-flat, listed-same}
 use Rattle.cell_complexes.proofs.Matched.{AreListed-matched}
 use Rattle.cell_complexes.proofs.Members.{Contains-flattened, Contains-kept, Contains-made}
 use Rattle.cell_complexes.proofs.NoDoubles.{once-filter, once-first, once-flat, once-map}
-use Rattle.product_laws.specs.Products.{IsTest, pairs_of}
+use Rattle.product_laws.specs.Products.{IsTest, all_pairs}
 
 -- tests
 pub test-other : {A : Type 0} (same : A → A → Bool) (x y : A) → IsTest same → x ≢ y → same x y ≡ false
@@ -24,11 +24,11 @@ test-apart same x y test fails is = both_ways (same x y) fails (ap (same x) (sym
 
 -- pairs
 module _ {A B : Type 0} where
-  pub pairs-contain : (xs : List A) (ys : List B) (x : A) (y : B) → Contains xs x → Contains ys y → Contains (pairs_of xs ys) (x, y)
+  pub pairs-contain : (xs : List A) (ys : List B) (x : A) (y : B) → Contains xs x → Contains ys y → Contains (all_pairs xs ys) (x, y)
   pairs-contain xs ys x y has_x has_y =
       Contains-flat_map (λ (x : A). map (λ (y : B). (x, y)) ys) xs x (x, y) has_x (Contains-map (λ (y : B). (x, y)) ys y has_y)
 
-  pub pairs-parts : (xs : List A) (ys : List B) (z : A × B) → Contains (pairs_of xs ys) z → Contains xs z.0 × Contains ys z.1
+  pub pairs-parts : (xs : List A) (ys : List B) (z : A × B) → Contains (all_pairs xs ys) z → Contains xs z.0 × Contains ys z.1
   pairs-parts xs ys z has =
       let x = Contains-flattened (λ (x : A). map (λ (y : B). (x, y)) ys) xs z has in
       let y = Contains-made (λ (y : B). (x.0, y)) ys z x.2 in (
@@ -37,13 +37,13 @@ module _ {A B : Type 0} where
       )
 
   pub sum_by-pairs : (f : A × B → ℕ) (xs : List A) (ys : List B)
-      → sum_by f (pairs_of xs ys) ≡ sum_by (λ x. sum_by (λ y. f (x, y)) ys) xs
+      → sum_by f (all_pairs xs ys) ≡ sum_by (λ x. sum_by (λ y. f (x, y)) ys) xs
   sum_by-pairs f xs ys =
       sum_by-flat_map f (λ (x : A). map (λ (y : B). (x, y)) ys) xs
       ∙ sum_by-alike (λ x. sum_by f (map (λ (y : B). (x, y)) ys)) (λ x. sum_by (λ y. f (x, y)) ys)
       (λ x. sum_by-map f (λ (y : B). (x, y)) ys) xs
 
-  pub pairs-once : (xs : List A) (ys : List B) → HasNoDoubles xs → HasNoDoubles ys → HasNoDoubles (pairs_of xs ys)
+  pub pairs-once : (xs : List A) (ys : List B) → HasNoDoubles xs → HasNoDoubles ys → HasNoDoubles (all_pairs xs ys)
   pairs-once xs ys once_x once_y =
       once-flat (λ (x : A). map (λ (y : B). (x, y)) ys) xs once_x
       (λ x. once-map (λ (y : B). (x, y)) ys (λ y z same. ap (λ (w : A × B). w.1) same) once_y)
@@ -53,7 +53,7 @@ module _ {A B : Type 0} where
       ap (λ (w : A × B). w.0) (y.2 ∙ sym v.2))
 
   pub pairs-listed : (xs us : List A) (ys : List B) → AreListed (λ (x : A). x) xs us
-      → AreListed (λ (z : A × B). z) (pairs_of xs ys) (pairs_of us ys)
+      → AreListed (λ (z : A × B). z) (all_pairs xs ys) (all_pairs us ys)
   pairs-listed xs us ys listed =
       listed-flat (λ (x : A). x) (λ (z : A × B). z)
       (λ (x : A). map (λ (y : B). (x, y)) ys) (λ (x : A). map (λ (y : B). (x, y)) ys) xs us listed

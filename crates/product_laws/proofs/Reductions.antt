@@ -9,7 +9,7 @@ use Rattle.cell_complexes.specs.Cells.{AreComplex, Cells, dimension_at}
 use Rattle.cell_complexes.specs.Elimination.{eliminated}
 use Rattle.cell_complexes.proofs.AlikeComplexes.{complex-left_any, dimension-left_any}
 use Rattle.cell_complexes.proofs.Members.{Contains-kept, sum_by-term}
-use Rattle.product_laws.specs.Products.{Factor, IsTest, product_of}
+use Rattle.product_laws.specs.Products.{Factor, IsTest, product_complex}
 use Rattle.product_laws.proofs.OnePivot.{complex-one, dimension-one}
 use Rattle.product_laws.proofs.PairCoefficients.{no-loop}
 use Rattle.product_laws.proofs.PairLists.{length-ones, no-first, no-second, others, others-listed, others-once, term-nothing}
@@ -34,15 +34,15 @@ module _ {A B : Type 0} (p : ℕ) (first : Factor A) (second : Factor B) (field 
     pub once : HasNoDoubles rest
     pub none : (x y : A) → Contains rest x → Contains rest y → left x y ≡ 0
     pub alone : (i j : ℤ) → dimension_at p (cells_with first.cells rest left) i j ≡ dimension_at p (cells_with first.cells list c) i j
-    pub complex : AreComplex p (product_of p (factor_with first rest left) second)
-    pub together : (i j : ℤ) → dimension_at p (product_of p (factor_with first rest left) second) i j
-        ≡ dimension_at p (product_of p (factor_with first list c) second) i j
+    pub complex : AreComplex p (product_complex p (factor_with first rest left) second)
+    pub together : (i j : ℤ) → dimension_at p (product_complex p (factor_with first rest left) second) i j
+        ≡ dimension_at p (product_complex p (factor_with first list c) second) i j
 
   abbrev total : List A → (A → A → ℕ) → ℕ
   total list c = sum_by (λ x. sum_by (c x) list) list
 
   done : (list : List A) (c : A → A → ℕ) → AreComplex p (cells_with first.cells list c)
-      → AreComplex p (product_of p (factor_with first list c) second) → HasNoDoubles list → total list c ≡ 0 → IsReduced list c
+      → AreComplex p (product_complex p (factor_with first list c) second) → HasNoDoubles list → total list c ≡ 0 → IsReduced list c
   done list c own product list_once zeros =
       record {
         rest = list;
@@ -57,7 +57,7 @@ module _ {A B : Type 0} (p : ℕ) (first : Factor A) (second : Factor B) (field 
       }
 
   pub reduced : (fuel : ℕ) (list : List A) (c : A → A → ℕ) → length list ≤ fuel → AreComplex p (cells_with first.cells list c)
-      → AreComplex p (product_of p (factor_with first list c) second) → HasNoDoubles list → IsReduced list c
+      → AreComplex p (product_complex p (factor_with first list c) second) → HasNoDoubles list → IsReduced list c
   reduced zero [] c few own product list_once = done [] c own product list_once refl
   reduced zero (x ∷ xs) c few own product list_once = absurd (omega (arith, few))
   reduced (suc fuel) list c few own product list_once = elim (cases_eq (total list c) 0) [

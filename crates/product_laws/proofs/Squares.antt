@@ -11,7 +11,7 @@ use Rattle.cell_complexes.specs.Alike.{HasNoDoubles}
 use Rattle.cell_complexes.specs.Cells.{AreComplex}
 use Rattle.cell_complexes.proofs.Members.{sum_by-same}
 use Rattle.cell_complexes.proofs.NoDoubles.{sum_by-only}
-use Rattle.product_laws.specs.Products.{AreTurned, Factor, IsFactor, IsTest, pair_coefficient, pairs_of, product_of}
+use Rattle.product_laws.specs.Products.{AreTurned, Factor, IsFactor, IsTest, all_pairs, pair_coefficient, product_complex}
 use Rattle.product_laws.proofs.PairCoefficients.{by-first, by-neither, by-second, no-loop, pair-below}
 use Rattle.product_laws.proofs.PairLists.{pairs-parts, sum_by-pairs, test-other}
 
@@ -214,18 +214,18 @@ module _ {A B : Type 0} (p : ℕ) (first : Factor A) (second : Factor B) (field 
           ]
         ]
 
-    square : Same p (sum_by (λ m. c (x, y) m * c m (z, w)) (pairs_of xs ys)) 0
+    square : Same p (sum_by (λ m. c (x, y) m * c m (z, w)) (all_pairs xs ys)) 0
     square =
         let S1 = sum_by (λ u. sum_by (T1 u) ys) xs in
         let S2 = sum_by (λ u. sum_by (T2 u) ys) xs in
         let S3 = sum_by (λ u. sum_by (T3 u) ys) xs in
         let S4 = sum_by (λ u. sum_by (T4 u) ys) xs in
-        sum_by-same p (λ m. c (x, y) m * c m (z, w)) (λ m. both x y m.0 m.1 * both m.0 m.1 z w) (pairs_of xs ys)
+        sum_by-same p (λ m. c (x, y) m * c m (z, w)) (λ m. both x y m.0 m.1 * both m.0 m.1 z w) (all_pairs xs ys)
         (λ m has_m.
         let has = pairs-parts xs ys m has_m in
         same-mul p (c (x, y) m) (both x y m.0 m.1) (c m (z, w)) (both m.0 m.1 z w)
         (as-sum x y m.0 m.1 has_x has_y) (as-sum m.0 m.1 z w has.0 has.1))
-        ∙ same-equal p (sum_by (λ m. both x y m.0 m.1 * both m.0 m.1 z w) (pairs_of xs ys)) (S1 + S2 + (S3 + S4))
+        ∙ same-equal p (sum_by (λ m. both x y m.0 m.1 * both m.0 m.1 z w) (all_pairs xs ys)) (S1 + S2 + (S3 + S4))
         (sum_by-pairs (λ m. both x y m.0 m.1 * both m.0 m.1 z w) xs ys
         ∙ sum_by-alike (λ u. sum_by (λ v. both x y u v * both u v z w) ys)
         (λ u. sum_by (T1 u) ys + sum_by (T2 u) ys + (sum_by (T3 u) ys + sum_by (T4 u) ys))
@@ -270,8 +270,8 @@ module _ {A B : Type 0} (p : ℕ) (first : Factor A) (second : Factor B) (field 
       nothing : (n : ℕ) → n * 0 % p ≡ 0
       nothing n = let e : n * 0 ≡ 0 = omega arith in ap (λ m. m % p) e ∙ zero-mod p
 
-  pub product-complex : AreComplex p (product_of p first second)
-  product-complex =
+  pub AreComplex-product : AreComplex p (product_complex p first second)
+  AreComplex-product =
       record {
         below = pair-below p first second positive;
         homological = λ m n has_m has_n some.

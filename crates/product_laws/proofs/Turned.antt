@@ -11,7 +11,7 @@ use Rattle.cell_complexes.specs.Alike.{AreAlike, AreListed}
 use Rattle.cell_complexes.specs.Cells.{AreComplex, dimension_at}
 use Rattle.cell_complexes.proofs.AlikeCells.{dimension-alike}
 use Rattle.cell_complexes.proofs.AlikeComplexes.{complex-alike}
-use Rattle.product_laws.specs.Products.{Factor, IsTest, pair_coefficient, pairs_of, product_of}
+use Rattle.product_laws.specs.Products.{Factor, IsTest, all_pairs, pair_coefficient, product_complex}
 use Rattle.product_laws.proofs.PairCoefficients.{by-first, by-neither, by-second, pair-below}
 use Rattle.product_laws.proofs.PairLists.{pairs-contain, pairs-parts, sum_by-pairs}
 
@@ -19,7 +19,7 @@ module _ {A B : Type 0} (p : ℕ) (first : Factor A) (second : Factor B) (field 
     (second_test : IsTest second.same)
     (loops : (x : A) → Contains first.cells.list x → first.cells.coefficient x x ≡ 0)
     (second_loops : (y : B) → Contains second.cells.list y → second.cells.coefficient y y ≡ 0)
-    (complex : AreComplex p (product_of p first second)) where
+    (complex : AreComplex p (product_complex p first second)) where
   positive : 0 < p
   positive = omega (arith, field.above_one)
 
@@ -58,7 +58,7 @@ module _ {A B : Type 0} (p : ℕ) (first : Factor A) (second : Factor B) (field 
   abbrev ys : List B
   ys = second.cells.list
 
-  listed : AreListed swap (pairs_of xs ys) (pairs_of ys xs)
+  listed : AreListed swap (all_pairs xs ys) (all_pairs ys xs)
   listed =
       record {
         there = λ z has. let parts = pairs-parts xs ys z has in pairs-contain ys xs z.1 z.0 parts.1 parts.0;
@@ -68,7 +68,7 @@ module _ {A B : Type 0} (p : ℕ) (first : Factor A) (second : Factor B) (field 
             ∙ sym (sum_by-pairs (λ (z : A × B). f (z.1, z.0)) xs ys);
       }
 
-  alike : AreAlike p swap (λ (z : A × B). 1) (product_of p first second) (product_of p second first)
+  alike : AreAlike p swap (λ (z : A × B). 1) (product_complex p first second) (product_complex p second first)
   alike =
       record {
         listed = listed;
@@ -88,12 +88,13 @@ module _ {A B : Type 0} (p : ℕ) (first : Factor A) (second : Factor B) (field 
       commuted : (a b : ℤ) → a +ℤ b ≡ b +ℤ a
       commuted a b = omega (arith, ints)
 
-  pub complex-turned : AreComplex p (product_of p second first)
+  pub complex-turned : AreComplex p (product_complex p second first)
   complex-turned =
-      complex-alike p swap (λ (z : A × B). 1) (product_of p first second) (product_of p second first) alike
+      complex-alike p swap (λ (z : A × B). 1) (product_complex p first second) (product_complex p second first) alike
       (pair-below p second first positive) complex
 
-  pub dimension-turned : (i j : ℤ) → dimension_at p (product_of p second first) i j ≡ dimension_at p (product_of p first second) i j
+  pub dimension-turned : (i j : ℤ)
+      → dimension_at p (product_complex p second first) i j ≡ dimension_at p (product_complex p first second) i j
   dimension-turned i j =
-      dimension-alike p swap (λ (z : A × B). 1) (product_of p first second) (product_of p second first) alike field
+      dimension-alike p swap (λ (z : A × B). 1) (product_complex p first second) (product_complex p second first) alike field
       complex.below (pair-below p second first positive) i j
