@@ -1,0 +1,10 @@
+use Rattle.move_laws.proofs.AllMoves.{dimension-move}
+use Rattle.move_laws.proofs.Tables.{table-same}
+use Rattle.move_laws.proofs.laws.moves_keep_homology.Goals as goal
+
+pub returns : goal.returns
+returns c =
+    record {
+      dimensions = dimension-move;
+      table = λ p code new change field holds is. table-same p code new (dimension-move p code new change field holds is);
+    }
