@@ -1,12 +1,12 @@
 -- Lists without doubles, put together.
-use Rattle.std.proofs.Common.{◌≡◌, ℕ, inl, inr, zero, suc, ◌+◌, ◌<◌, ◌∙◌, List, [], ◌∷◌, ◌++◌, length, map, get_or, refl, sym, subst, ap, arith}
-use Rattle.std.specs.List.{Contains, flat_map, range_with_len}
+use Rattle.std.proofs.Common.{◌≡◌, ℕ, inl, inr, zero, suc, ◌+◌, ◌<◌, ◌∙◌, List, [], ◌∷◌, ◌++◌, length, map, get_or, refl, sym, subst, ap, arith, Bool, true, false, cond}
+use Rattle.std.specs.List.{Contains, flat_map, range_with_len, filter}
 use Rattle.std.proofs.lemmas.List.{get_or_default, get_or-map, length-map, map-append}
 use Rattle.std.proofs.lemmas.List.Elements.{Contains-append_cases}
 use Rattle.std.proofs.lemmas.List.FromFn.{get_or-range_with_len, length-range_with_len}
 use Rattle.kh_types.proofs.Lists.{Contains-first, Contains-later}
 use Rattle.cell_complexes.specs.Alike.{HasNoDoubles}
-use Rattle.cell_complexes.proofs.Members.{Contains-flattened}
+use Rattle.cell_complexes.proofs.Members.{Contains-flattened, Contains-kept}
 pub use Rattle.std.proofs.lemmas.Simd.{map-map}
 
 stands : {A : Type 0} (xs : List A) (k : ℕ) (d : A) → k < length xs → Contains xs (get_or xs k d)
@@ -72,3 +72,13 @@ flat_map-range f g a zero same = refl
 flat_map-range f g a (suc n) same =
     ap (λ zs. zs ++ flat_map f (range_with_len (a + 1) n)) (same a (omega arith))
     ∙ ap (λ zs. g a ++ zs) (flat_map-range f g (a + 1) n (λ t below. same t (omega (arith, below))))
+
+-- filters keep lists without doubles
+pub once-filter : (p : ℕ → Bool) (xs : List ℕ) → HasNoDoubles xs → HasNoDoubles (filter p xs)
+once-filter p [] once = once
+once-filter p (x ∷ xs) once =
+    by (p x) (λ has. first-new x xs once (Contains-kept p xs x has).0) (once-filter p xs (once-later x xs once))
+  where
+    by : (b : Bool) → (Contains (filter p xs) x → ⊥) → HasNoDoubles (filter p xs) → HasNoDoubles (cond b (x ∷ filter p xs) (filter p xs))
+    by true new rest = once-first x (filter p xs) new rest
+    by false new rest = rest

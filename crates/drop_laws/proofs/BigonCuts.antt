@@ -18,11 +18,13 @@ use Rattle.kinks_and_fingers.specs.Drops.{is_of_two, without_finger}
 use Rattle.kinks_and_fingers.specs.Pulls.{early, late}
 use Rattle.drop_laws.specs.DropViews.{AllShow, AreAlikeBut, DifferAt, IsBigonView, IsCircleOf, IsOfTwo, early_two}
 use Rattle.drop_laws.specs.DroppedCubes.{IsBigonCut, bigon_closing, bigon_first, bigon_through}
-use Rattle.drop_laws.specs.DroppedFirst.{first_to, place_behind, two_first}
+use Rattle.drop_laws.specs.DroppedFirst.{two_first}
+use Rattle.view_laws.specs.Fronts.{first_to, place_behind}
 use Rattle.drop_laws.specs.NamesLeft.{number_left}
 use Rattle.drop_laws.proofs.Bigons.{IsBigonView-dropped}
 use Rattle.drop_laws.proofs.ButSides.{IsView-front, IsView-left, SeeAlike-front, SeeAlike-left}
-use Rattle.drop_laws.proofs.Fronts.{behind-below, bit-home, bit-suc, bit-zero, circles-first, first-reordered, home, home-behind, home-below, home-suc, home-zero, length-first, past, past-early, past-first, past-is, past-suc, state_home, state_home-below}
+use Rattle.drop_laws.proofs.FrontCircles.{bit-home, bit-suc, bit-zero, circles-first, past-early, state_home, state_home-below}
+use Rattle.view_laws.proofs.Fronts.{behind-below, first-reordered, home, home-behind, home-below, home-suc, home-zero, length-first, past, past-first, past-is, past-suc}
 use Rattle.drop_laws.proofs.KinkCuts.{closing_or_through}
 use Rattle.drop_laws.proofs.Signs.{AreBigonSigns-dropped}
 
@@ -92,7 +94,8 @@ parities p q odd = elim (parity p) [
     parity : (x : ℕ) → (x % 2 ≡ 0) ⊎ (x % 2 ≡ 1)
     parity x = grind arith
 
-module _ (code : Code) (c d p q : ℕ) (is : IsTrue (accepted code)) (bigon : HasBigonAt code.crossings c d p q) (p_below : p < 4) (q_below : q < 4) where
+module _ (code : Code) (c d p q : ℕ) (is : IsTrue (accepted code)) (bigon : HasBigonAt code.crossings c d p q) (p_below : p < 4)
+    (q_below : q < 4) where
   size : length code.crossings ≡ suc (suc (length code.crossings - 2))
   size = two (length code.crossings) c d bigon.first_below bigon.second_below bigon.apart
     where
@@ -114,7 +117,8 @@ module _ (code : Code) (c d p q : ℕ) (is : IsTrue (accepted code)) (bigon : Ha
 
   second_below : place_behind c d < length (first_to c code.crossings)
   second_below =
-      subst (λ (n : ℕ). place_behind c d < n) (sym once_size) (behind-below c d (length code.crossings) bigon.first_below bigon.second_below)
+      subst (λ (n : ℕ). place_behind c d < n) (sym once_size)
+      (behind-below c d (length code.crossings) bigon.first_below bigon.second_below)
 
   once_twice : HasArcsTwice (first_to c code.crossings)
   once_twice =
@@ -151,7 +155,8 @@ module _ (code : Code) (c d p q : ℕ) (is : IsTrue (accepted code)) (bigon : Ha
   bit-back state m below m_below =
       let m_low : m < suc (suc (length code.crossings - 2)) = omega (arith, m_below, size) in
       let behind_low : place_behind c d < suc (suc (length code.crossings - 2)) = omega (arith, second_within) in
-      bit-home (suc (length code.crossings - 2)) c (state_home (suc (length code.crossings - 2)) (place_behind c d) state) (home (place_behind c d) m)
+      bit-home (suc (length code.crossings - 2)) c (state_home (suc (length code.crossings - 2)) (place_behind c d) state)
+      (home (place_behind c d) m)
       first_within (state_home-below (suc (length code.crossings - 2)) (place_behind c d) state second_within (low state below))
       (home-below (place_behind c d) m (suc (suc (length code.crossings - 2))) behind_low m_low)
       ∙ bit-home (suc (length code.crossings - 2)) (place_behind c d) state m second_within (low state below) m_low
@@ -184,7 +189,8 @@ module _ (code : Code) (c d p q : ℕ) (is : IsTrue (accepted code)) (bigon : Ha
       ap (home c) (home-behind d_1 (place_behind c place)) ∙ home-behind c place in
       at (place_behind d_1 (place_behind c place)) m_low there
     where
-      at : (m : ℕ) → m < length code.crossings → home c (home (place_behind c d) m) ≡ place → bit (back other) place ≡ bit (back state) place
+      at : (m : ℕ) → m < length code.crossings → home c (home (place_behind c d) m) ≡ place → bit (back other) place
+          ≡ bit (back state) place
       at zero m_low there = absurd (not_d (sym there ∙ home-first c d))
       at (suc zero) m_low there =
           let e : suc 0 ≡ 1 = omega arith in
@@ -192,7 +198,8 @@ module _ (code : Code) (c d p q : ℕ) (is : IsTrue (accepted code)) (bigon : Ha
       at (suc (suc i)) m_low there =
           ap (bit (back other)) (sym there) ∙ bit-back other (suc (suc i)) other_below m_low ∙ bit-suc other (suc i) ∙ bit-suc (other / 2) i
           ∙ ap (λ s. bit s i) same
-          ∙ sym (ap (bit (back state)) (sym there) ∙ bit-back state (suc (suc i)) below m_low ∙ bit-suc state (suc i) ∙ bit-suc (state / 2) i)
+          ∙ sym (ap (bit (back state)) (sym there) ∙ bit-back state (suc (suc i)) below m_low ∙ bit-suc state (suc i)
+          ∙ bit-suc (state / 2) i)
 
   par : AreParities p q
   par = parities p q bigon.odd
@@ -210,7 +217,8 @@ module _ (code : Code) (c d p q : ℕ) (is : IsTrue (accepted code)) (bigon : Ha
       let d_is : state % 2 ≡ closing_at q = omega (arith, closes, par.closing_low, par.other_closing_low) in
       view.closing (back state) (bit-c state below ∙ c_is) (bit-d state below ∙ d_is)
 
-  shows : (state : ℕ) → state < 2 ^ length code.crossings → state % 4 ≢ bigon_closing p q → AllShow code (IsOfTwo side other_side) (back state)
+  shows : (state : ℕ) → state < 2 ^ length code.crossings → state % 4 ≢ bigon_closing p q
+      → AllShow code (IsOfTwo side other_side) (back state)
   shows state below other = elim (closing_or_through p (state / 2 % 2) (omega arith)) [
     | inl c_closes ↦ elim (closing_or_through q (state % 2) (omega arith)) [
       | inl d_closes ↦ absurd (other (omega (arith, c_closes, d_closes)))
@@ -258,7 +266,8 @@ module _ (code : Code) (c d p q : ℕ) (is : IsTrue (accepted code)) (bigon : Ha
       let small : outside < 2 ^ (length code.crossings - 2) = subst (λ (n : ℕ). outside < 2 ^ n) k_is below in
       omega (arith, joint-below (length code.crossings - 2) inside outside inside_below small, powers) in
       let closing_low : bigon_closing p q < 4 = omega (arith, par.closing_low, par.other_closing_low) in
-      let alike : (inside outside : ℕ) → inside < 4 → inside % 2 ≡ inside / 2 % 2 → outside < 2 ^ length (renumber (without_finger code c d)).crossings
+      let alike : (inside outside : ℕ) → inside < 4 → inside % 2 ≡ inside / 2 % 2
+      → outside < 2 ^ length (renumber (without_finger code c d)).crossings
       → AreAlikeBut code (IsOfTwo side other_side) (back (bigon_closing p q + 4 * outside)) (back (inside + 4 * outside)) =
       λ inside outside inside_below both below.
       mixed (bigon_closing p q + 4 * outside) (inside + 4 * outside) (joint (bigon_closing p q) outside closing_low below)
@@ -271,8 +280,10 @@ module _ (code : Code) (c d p q : ℕ) (is : IsTrue (accepted code)) (bigon : Ha
         );
         first_accepted = accepted-reordered code.loops (first_to c code.crossings) (two_first c d code.crossings)
             (first-reordered (place_behind c d) (first_to c code.crossings) second_below)
-            (accepted-reordered code.loops code.crossings (first_to c code.crossings) (first-reordered c code.crossings bigon.first_below) is);
-        view = IsView-front code (bigon_first code c d) side other_side front_size refl back circles 2 (bigon_closing p q) (omega (arith, size))
+            (accepted-reordered code.loops code.crossings (first_to c code.crossings) (first-reordered c code.crossings bigon.first_below)
+            is);
+        view = IsView-front code (bigon_first code c d) side other_side front_size refl back circles 2 (bigon_closing p q)
+            (omega (arith, size))
             view.first_side closes-at shows;
         left = IsView-left code (bigon_first code c d) side other_side front_size refl back circles (renumber (without_finger code c d))
             (number_left code (is_of_two c d)) view.numbered;
@@ -292,8 +303,10 @@ module _ (code : Code) (c d p q : ℕ) (is : IsTrue (accepted code)) (bigon : Ha
             let s = bigon_through p q + 4 * outside in
             let through_low : bigon_through p q < 4 = omega (arith, par.closing_low, par.through, par.other_through) in
             let s_low = joint (bigon_through p q) outside through_low below in
-            let d_is : (bigon_through p q + 4 * outside) % 2 ≡ through_at q = omega (arith, par.closing_low, par.through, par.other_through) in
-            let c_is : (bigon_through p q + 4 * outside) / 2 % 2 ≡ through_at p = omega (arith, par.closing_low, par.through, par.other_through) in
+            let d_is : (bigon_through p q + 4 * outside) % 2 ≡ through_at q = omega
+            (arith, par.closing_low, par.through, par.other_through) in
+            let c_is : (bigon_through p q + 4 * outside) / 2 % 2 ≡ through_at p = omega
+            (arith, par.closing_low, par.through, par.other_through) in
             let half : (bigon_through p q + 4 * outside) / 2 / 2 ≡ outside = omega (arith, through_low) in
             let none : 0 + 1 * outside ≡ outside = omega arith in
             SeeAlike-left code (bigon_first code c d) side other_side front_size refl back circles (renumber (without_finger code c d))

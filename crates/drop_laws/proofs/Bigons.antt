@@ -26,7 +26,6 @@ use Rattle.kinks_and_fingers.specs.Pulls.{early, late}
 use Rattle.kinks_and_fingers.proofs.BigonJoins.{closing-joined, joined-closing, joined-through, marked, or-false, pass-straight, straight-pass, through-joined}
 use Rattle.kinks_and_fingers.proofs.FingerCircles.{AreBigonNames, AreBigonNames-bigon}
 use Rattle.kinks_and_fingers.proofs.FingerDrops.{late-below, places-two}
-use Rattle.kinks_and_fingers.proofs.FingerDropSums.{HasBigonAt-slots}
 use Rattle.kinks_and_fingers.proofs.KeptCodes.{arc_by_place-below, straight-joined}
 use Rattle.kinks_and_fingers.proofs.Smoothed.{IsPermutation-late}
 use Rattle.kinks_and_fingers.proofs.Sound.{IsSound-finger, two_below}
@@ -59,7 +58,8 @@ module _ (code : Code) (c d p q a b x y u v : ℕ) (is : IsTrue (accepted code))
   d_within : d ≤ length code.crossings - 2 + 1
   d_within = omega (arith, bigon.second_below, size)
 
-  places : kept_places code.crossings (is_of_two c d) ≡ map (λ i. early_two c d (length code.crossings - 2) i) (range_with_len 0 (length code.crossings - 2))
+  places : kept_places code.crossings (is_of_two c d) ≡ map (λ i. early_two c d (length code.crossings - 2) i)
+      (range_with_len 0 (length code.crossings - 2))
   places =
       ap (λ n. filter (λ z. not (nat_eq c z || nat_eq d z)) (range_with_len 0 n)) size
       ∙ places-two c d (length code.crossings - 2) c_within d_within bigon.apart
@@ -68,7 +68,8 @@ module _ (code : Code) (c d p q a b x y u v : ℕ) (is : IsTrue (accepted code))
   kept_below i below =
       let z_below = late-below c (length code.crossings - 2 + 1) d c_within (omega (arith, d_within)) bigon.apart in
       let z_within : late c (length code.crossings - 2 + 1) d ≤ length code.crossings - 2 = omega (arith, z_below) in
-      let inner = (IsPermutation-late (late c (length code.crossings - 2 + 1) d) (length code.crossings - 2) z_within).back_below i (omega (arith, below)) in
+      let inner = (IsPermutation-late (late c (length code.crossings - 2 + 1) d) (length code.crossings - 2) z_within).back_below i
+      (omega (arith, below)) in
       let outer = (IsPermutation-late c (length code.crossings - 2 + 1) c_within).back_below
       (early (late c (length code.crossings - 2 + 1) d) (length code.crossings - 2) i) (omega (arith, inner)) in
       omega (arith, outer, size)
@@ -77,7 +78,8 @@ module _ (code : Code) (c d p q a b x y u v : ℕ) (is : IsTrue (accepted code))
   paired = (IsSound-finger code c d p q is bigon).paired
 
   -- names
-  name-at : (place slot name : ℕ) → place < length code.crossings → slot < 4 → arc_by_place code.crossings place slot ≡ name → IsName code name
+  name-at : (place slot name : ℕ) → place < length code.crossings → slot < 4 → arc_by_place code.crossings place slot ≡ name
+      → IsName code name
   name-at place slot name place_below below same =
       let low = arc_by_place-below code.crossings place slot twice place_below below in
       let positive = arc_by_place-positive code.crossings place slot twice place_below below in
@@ -123,49 +125,61 @@ module _ (code : Code) (c d p q a b x y u v : ℕ) (is : IsTrue (accepted code))
       → IsOfTwo a b (arc_by_place code.crossings (early_two c d (length code.crossings - 2) i) slot) → ⊥
   outer i slot below slot_below =
       let place = early_two c d (length code.crossings - 2) i in
-      let stays = names.kept-stays code (is_of_two c d) (λ i. early_two c d (length code.crossings - 2) i) (length code.crossings - 2) twice places kept_below paired i below in
-      let away = or-false (nat_eq c (early_two c d (length code.crossings - 2) i)) (nat_eq d (early_two c d (length code.crossings - 2) i)) stays in
+      let stays = names.kept-stays code (is_of_two c d) (λ i. early_two c d (length code.crossings - 2) i) (length code.crossings - 2)
+      twice places kept_below paired i below in
+      let away = or-false (nat_eq c (early_two c d (length code.crossings - 2) i))
+      (nat_eq d (early_two c d (length code.crossings - 2) i)) stays in
       apart (early_two c d (length code.crossings - 2) i) slot (kept_below i below) slot_below
-      (λ same. both_ways (nat_eq c (early_two c d (length code.crossings - 2) i)) away.0 (eq-eqb c (early_two c d (length code.crossings - 2) i) (sym same)))
-      (λ same. both_ways (nat_eq d (early_two c d (length code.crossings - 2) i)) away.1 (eq-eqb d (early_two c d (length code.crossings - 2) i) (sym same)))
+      (λ same. both_ways (nat_eq c (early_two c d (length code.crossings - 2) i)) away.0
+      (eq-eqb c (early_two c d (length code.crossings - 2) i) (sym same)))
+      (λ same. both_ways (nat_eq d (early_two c d (length code.crossings - 2) i)) away.1
+      (eq-eqb d (early_two c d (length code.crossings - 2) i) (sym same)))
 
   -- a function at the slots of the two crossings: what its smoothings and passes join
-  at_c-closing : (f : ℕ → ℕ) (state : ℕ) → bit state c ≡ closing_at p → f a ≡ f b → f x ≡ f y → Respects f (joined_at code.crossings state c)
+  at_c-closing : (f : ℕ → ℕ) (state : ℕ) → bit state c ≡ closing_at p → f a ≡ f b → f x ≡ f y
+      → Respects f (joined_at code.crossings state c)
   at_c-closing f state bit_is sides ends =
       joined-closing f (slots_in code.crossings c) p (bit state c) at.p_slot bit_is (ap f at.a_first ∙ sides ∙ sym (ap f at.b_first))
       (ap f at.x_is ∙ ends ∙ sym (ap f at.y_is))
 
-  closing-at_c : (f : ℕ → ℕ) (state : ℕ) → bit state c ≡ closing_at p → Respects f (joined_at code.crossings state c) → (f a ≡ f b) × (f x ≡ f y)
+  closing-at_c : (f : ℕ → ℕ) (state : ℕ) → bit state c ≡ closing_at p → Respects f (joined_at code.crossings state c) → (f a ≡ f b)
+      × (f x ≡ f y)
   closing-at_c f state bit_is respects =
       let two = closing-joined f (slots_in code.crossings c) p (bit state c) at.p_slot bit_is respects in
       (sym (ap f at.a_first) ∙ two.0 ∙ ap f at.b_first, sym (ap f at.x_is) ∙ two.1 ∙ ap f at.y_is)
 
-  at_c-through : (f : ℕ → ℕ) (state : ℕ) → bit state c ≡ through_at p → f b ≡ f x → f y ≡ f a → Respects f (joined_at code.crossings state c)
+  at_c-through : (f : ℕ → ℕ) (state : ℕ) → bit state c ≡ through_at p → f b ≡ f x → f y ≡ f a
+      → Respects f (joined_at code.crossings state c)
   at_c-through f state bit_is one two =
       joined-through f (slots_in code.crossings c) p (bit state c) at.p_slot bit_is (ap f at.b_first ∙ one ∙ sym (ap f at.x_is))
       (ap f at.y_is ∙ two ∙ sym (ap f at.a_first))
 
-  through-at_c : (f : ℕ → ℕ) (state : ℕ) → bit state c ≡ through_at p → Respects f (joined_at code.crossings state c) → (f b ≡ f x) × (f y ≡ f a)
+  through-at_c : (f : ℕ → ℕ) (state : ℕ) → bit state c ≡ through_at p → Respects f (joined_at code.crossings state c) → (f b ≡ f x)
+      × (f y ≡ f a)
   through-at_c f state bit_is respects =
       let two = through-joined f (slots_in code.crossings c) p (bit state c) at.p_slot bit_is respects in
       (sym (ap f at.b_first) ∙ two.0 ∙ ap f at.x_is, sym (ap f at.y_is) ∙ two.1 ∙ ap f at.a_first)
 
-  at_d-closing : (f : ℕ → ℕ) (state : ℕ) → bit state d ≡ closing_at q → f b ≡ f a → f u ≡ f v → Respects f (joined_at code.crossings state d)
+  at_d-closing : (f : ℕ → ℕ) (state : ℕ) → bit state d ≡ closing_at q → f b ≡ f a → f u ≡ f v
+      → Respects f (joined_at code.crossings state d)
   at_d-closing f state bit_is sides ends =
       joined-closing f (slots_in code.crossings d) q (bit state d) at.q_slot bit_is (ap f at.b_second ∙ sides ∙ sym (ap f at.a_second))
       (ap f at.u_is ∙ ends ∙ sym (ap f at.v_is))
 
-  closing-at_d : (f : ℕ → ℕ) (state : ℕ) → bit state d ≡ closing_at q → Respects f (joined_at code.crossings state d) → (f b ≡ f a) × (f u ≡ f v)
+  closing-at_d : (f : ℕ → ℕ) (state : ℕ) → bit state d ≡ closing_at q → Respects f (joined_at code.crossings state d) → (f b ≡ f a)
+      × (f u ≡ f v)
   closing-at_d f state bit_is respects =
       let two = closing-joined f (slots_in code.crossings d) q (bit state d) at.q_slot bit_is respects in
       (sym (ap f at.b_second) ∙ two.0 ∙ ap f at.a_second, sym (ap f at.u_is) ∙ two.1 ∙ ap f at.v_is)
 
-  at_d-through : (f : ℕ → ℕ) (state : ℕ) → bit state d ≡ through_at q → f a ≡ f u → f v ≡ f b → Respects f (joined_at code.crossings state d)
+  at_d-through : (f : ℕ → ℕ) (state : ℕ) → bit state d ≡ through_at q → f a ≡ f u → f v ≡ f b
+      → Respects f (joined_at code.crossings state d)
   at_d-through f state bit_is one two =
       joined-through f (slots_in code.crossings d) q (bit state d) at.q_slot bit_is (ap f at.a_second ∙ one ∙ sym (ap f at.u_is))
       (ap f at.v_is ∙ two ∙ sym (ap f at.b_second))
 
-  through-at_d : (f : ℕ → ℕ) (state : ℕ) → bit state d ≡ through_at q → Respects f (joined_at code.crossings state d) → (f a ≡ f u) × (f v ≡ f b)
+  through-at_d : (f : ℕ → ℕ) (state : ℕ) → bit state d ≡ through_at q → Respects f (joined_at code.crossings state d) → (f a ≡ f u)
+      × (f v ≡ f b)
   through-at_d f state bit_is respects =
       let two = through-joined f (slots_in code.crossings d) q (bit state d) at.q_slot bit_is respects in
       (sym (ap f at.a_second) ∙ two.0 ∙ ap f at.u_is, sym (ap f at.v_is) ∙ two.1 ∙ ap f at.b_second)
@@ -179,7 +193,8 @@ module _ (code : Code) (c d p q a b x y u v : ℕ) (is : IsTrue (accepted code))
   unfolding class
   straight-slot place slot name place_below below same =
       let low = arc_by_place-below code.crossings place slot twice place_below below in
-      names.straight-arc code (is_of_two c d) (λ i. early_two c d (length code.crossings - 2) i) (length code.crossings - 2) twice places kept_below paired
+      names.straight-arc code (is_of_two c d) (λ i. early_two c d (length code.crossings - 2) i) (length code.crossings - 2) twice places
+      kept_below paired
       name (omega (arith, same, low))
 
   c_passes : (class a ≡ class x) × (class b ≡ class y)
@@ -249,10 +264,12 @@ module _ (code : Code) (c d p q a b x y u v : ℕ) (is : IsTrue (accepted code))
       let there : Respects (λ z. circle_of (circles_of code state) (moved_two a b x y z)) (passes_of (slots_in code.crossings place)) =
       elim (cases_Bool (nat_eq c place)) [
         | inl at_c ↦
-            subst (λ (r : ℕ). Respects (λ z. circle_of (circles_of code state) (moved_two a b x y z)) (passes_of (slots_in code.crossings r)))
+            subst (λ (r : ℕ). Respects (λ z. circle_of (circles_of code state) (moved_two a b x y z))
+            (passes_of (slots_in code.crossings r)))
             (eqb-true c place at_c) c_pass
         | inr not_c ↦
-            subst (λ (r : ℕ). Respects (λ z. circle_of (circles_of code state) (moved_two a b x y z)) (passes_of (slots_in code.crossings r)))
+            subst (λ (r : ℕ). Respects (λ z. circle_of (circles_of code state) (moved_two a b x y z))
+            (passes_of (slots_in code.crossings r)))
             (eqb-true d place (sym (ap (λ t. t || nat_eq d place) not_c) ∙ gone_there)) d_pass
       ] in
       (there.0, there.1.0)
@@ -260,14 +277,18 @@ module _ (code : Code) (c d p q a b x y u v : ℕ) (is : IsTrue (accepted code))
   joined : (state new_state : ℕ) → bit state c ≡ through_at p → bit state d ≡ through_at q
       → KeepsJoined code (is_of_two c d) (moved_two a b y x) state new_state
   joined state new_state c_bit d_bit place below gone_there =
-      let new : ℕ → ℕ = λ z. circle_of (circles_of (renumber (dropped code (is_of_two c d))) new_state) (number_left code (is_of_two c d) z) in
-      let f : ℕ → ℕ = λ z. circle_of (circles_of (renumber (dropped code (is_of_two c d))) new_state) (number_left code (is_of_two c d) (moved_two a b y x z)) in
+      let new : ℕ → ℕ = λ z. circle_of (circles_of (renumber (dropped code (is_of_two c d))) new_state)
+      (number_left code (is_of_two c d) z) in
+      let f : ℕ → ℕ = λ z. circle_of (circles_of (renumber (dropped code (is_of_two c d))) new_state)
+      (number_left code (is_of_two c d) (moved_two a b y x z)) in
       let at_a = ap new (moved_two-first a b y x) in
       let at_b = ap new (moved_two-second a b y x at.a_b) in
       let off : (z : ℕ) → (IsOfTwo a b z → ⊥) → f z ≡ new z = λ z z_off. ap new (moved_two-off a b y x z z_off) in
       let alike : (z w : ℕ) → straight_name code (is_of_two c d) z ≡ straight_name code (is_of_two c d) w → new z ≡ new w =
-      λ z w same. ap (λ m. circle_of (circles_of (renumber (dropped code (is_of_two c d))) new_state) (number_in (names_left code (is_of_two c d)) m)) same in
-      let at_c : Respects f (joined_at code.crossings state c) = at_c-through f state c_bit (at_b ∙ sym (off x x_off)) (off y y_off ∙ sym at_a) in
+      λ z w same. ap (λ m. circle_of (circles_of (renumber (dropped code (is_of_two c d))) new_state)
+      (number_in (names_left code (is_of_two c d)) m)) same in
+      let at_c : Respects f (joined_at code.crossings state c) = at_c-through f state c_bit (at_b ∙ sym (off x x_off))
+      (off y y_off ∙ sym at_a) in
       let at_d : Respects f (joined_at code.crossings state d) =
       at_d-through f state d_bit (at_a ∙ alike y u (y-straight ∙ sym u-straight) ∙ sym (off u u_off))
       (off v v_off ∙ alike v x (v-straight ∙ sym x-straight) ∙ sym at_b) in
@@ -301,7 +322,8 @@ module _ (code : Code) (c d p q a b x y u v : ℕ) (is : IsTrue (accepted code))
   one-at_b : (state e : ℕ) → circle_of (circles_of code state) (moved_two a b e e b) ≡ circle_of (circles_of code state) e
   one-at_b state e = ap (circle_of (circles_of code state)) (moved_two-second a b e e at.a_b)
 
-  one-off : (state e z : ℕ) → (IsOfTwo a b z → ⊥) → circle_of (circles_of code state) (moved_two a b e e z) ≡ circle_of (circles_of code state) z
+  one-off : (state e z : ℕ) → (IsOfTwo a b z → ⊥) → circle_of (circles_of code state) (moved_two a b e e z)
+      ≡ circle_of (circles_of code state) z
   one-off state e z off = ap (circle_of (circles_of code state)) (moved_two-off a b e e z off)
 
   turned-differ : (state other : ℕ) → DifferAt code c d state other → DifferAt code c d other state
@@ -319,12 +341,16 @@ module _ (code : Code) (c d p q a b x y u v : ℕ) (is : IsTrue (accepted code))
       let d_after = through-at_d (λ n. circle_of (circles_of code other) n) other d_other (joined-d other) in
       let u_v : circle_of (circles_of code other) u ≡ circle_of (circles_of code other) v = sym d_after.0 ∙ c_after.0 ∙ sym d_after.1 in (
         alike-onward code c d a b u u state other twice differ apart
-            (at_c-closing f state c_bit (one-at_a other u ∙ sym (one-at_b other u)) (one-off other u x x_off ∙ c_after.1 ∙ sym (one-off other u y y_off)))
-            (at_d-closing f state d_bit (one-at_b other u ∙ sym (one-at_a other u)) (one-off other u u u_off ∙ u_v ∙ sym (one-off other u v v_off)))
+            (at_c-closing f state c_bit (one-at_a other u ∙ sym (one-at_b other u))
+            (one-off other u x x_off ∙ c_after.1 ∙ sym (one-off other u y y_off)))
+            (at_d-closing f state d_bit (one-at_b other u ∙ sym (one-at_a other u))
+            (one-off other u u u_off ∙ u_v ∙ sym (one-off other u v v_off)))
             z w z_is w_is z_off w_off,
         alike-onward code c d a b u u other state twice (turned-differ state other differ) apart
-            (at_c-closing g other c_other (one-at_a state u ∙ sym (one-at_b state u)) (one-off state u x x_off ∙ cs.1 ∙ sym (one-off state u y y_off)))
-            (at_d-through g other d_other (one-at_a state u ∙ sym (one-off state u u u_off)) (one-off state u v v_off ∙ sym ds.1 ∙ sym (one-at_b state u)))
+            (at_c-closing g other c_other (one-at_a state u ∙ sym (one-at_b state u))
+            (one-off state u x x_off ∙ cs.1 ∙ sym (one-off state u y y_off)))
+            (at_d-through g other d_other (one-at_a state u ∙ sym (one-off state u u u_off))
+            (one-off state u v v_off ∙ sym ds.1 ∙ sym (one-at_b state u)))
             z w z_is w_is z_off w_off,
       )
 
@@ -340,12 +366,16 @@ module _ (code : Code) (c d p q a b x y u v : ℕ) (is : IsTrue (accepted code))
       let d_after = closing-at_d (λ n. circle_of (circles_of code other) n) other d_other (joined-d other) in
       let x_y : circle_of (circles_of code other) x ≡ circle_of (circles_of code other) y = sym c_after.0 ∙ d_after.0 ∙ sym c_after.1 in (
         alike-onward code c d a b x x state other twice differ apart
-            (at_c-closing f state c_bit (one-at_a other x ∙ sym (one-at_b other x)) (one-off other x x x_off ∙ x_y ∙ sym (one-off other x y y_off)))
-            (at_d-closing f state d_bit (one-at_b other x ∙ sym (one-at_a other x)) (one-off other x u u_off ∙ d_after.1 ∙ sym (one-off other x v v_off)))
+            (at_c-closing f state c_bit (one-at_a other x ∙ sym (one-at_b other x))
+            (one-off other x x x_off ∙ x_y ∙ sym (one-off other x y y_off)))
+            (at_d-closing f state d_bit (one-at_b other x ∙ sym (one-at_a other x))
+            (one-off other x u u_off ∙ d_after.1 ∙ sym (one-off other x v v_off)))
             z w z_is w_is z_off w_off,
         alike-onward code c d a b x x other state twice (turned-differ state other differ) apart
-            (at_c-through g other c_other (one-at_b state x ∙ sym (one-off state x x x_off)) (one-off state x y y_off ∙ sym cs.1 ∙ sym (one-at_a state x)))
-            (at_d-closing g other d_other (one-at_b state x ∙ sym (one-at_a state x)) (one-off state x u u_off ∙ ds.1 ∙ sym (one-off state x v v_off)))
+            (at_c-through g other c_other (one-at_b state x ∙ sym (one-off state x x x_off))
+            (one-off state x y y_off ∙ sym cs.1 ∙ sym (one-at_a state x)))
+            (at_d-closing g other d_other (one-at_b state x ∙ sym (one-at_a state x))
+            (one-off state x u u_off ∙ ds.1 ∙ sym (one-off state x v v_off)))
             z w z_is w_is z_off w_off,
       )
 
@@ -394,7 +424,8 @@ module _ (code : Code) (c d p q a b x y u v : ℕ) (is : IsTrue (accepted code))
   IsBigonView-named = record {
     first_side = a_name;
     second_side = b_name;
-    numbered = numbered-dropped code (is_of_two c d) (λ i. early_two c d (length code.crossings - 2) i) (length code.crossings - 2) twice places kept_below paired
+    numbered = numbered-dropped code (is_of_two c d) (λ i. early_two c d (length code.crossings - 2) i) (length code.crossings - 2) twice
+        places kept_below paired
         (IsOfTwo a b) (moved_two a b x y) moves outer;
     apart = apart;
     first_mixed = first-mixed;
@@ -404,7 +435,8 @@ module _ (code : Code) (c d p q a b x y u v : ℕ) (is : IsTrue (accepted code))
     second_shows = second-shows;
     through_shows = through-shows;
     seen = λ state new_state agree c_bit d_bit.
-        seen-dropped code (is_of_two c d) (λ i. early_two c d (length code.crossings - 2) i) (length code.crossings - 2) twice places kept_below paired
+        seen-dropped code (is_of_two c d) (λ i. early_two c d (length code.crossings - 2) i) (length code.crossings - 2) twice places
+        kept_below paired
         (IsOfTwo a b) (moved_two a b x y) moves outer state new_state agree (straight state c_bit d_bit) (moved_two a b y x)
         (λ z off. moved_two-off a b y x z off) (joined state new_state c_bit d_bit);
   }
@@ -415,10 +447,3 @@ pub IsBigonView-dropped : (code : Code) (c d p q : ℕ) → IsTrue (accepted cod
 IsBigonView-dropped code c d p q is bigon p_below q_below =
     IsBigonView-named code c d p q _ _ _ _ _ _ is bigon
     (AreBigonNames-bigon code.crossings c d p q (HasArcsTwice-accepted code is) bigon p_below q_below)
-
--- slots are taken modulo 4
-pub IsBigonView-any : (code : Code) (c d p q : ℕ) → IsTrue (accepted code) → HasBigonAt code.crossings c d p q
-    → IsBigonView code (renumber (without_finger code c d)) c d (p % 4) (q % 4) (arc_by_place code.crossings c (p % 4))
-    (arc_by_place code.crossings d (q % 4)) (number_left code (is_of_two c d))
-IsBigonView-any code c d p q is bigon =
-    IsBigonView-dropped code c d (p % 4) (q % 4) is (HasBigonAt-slots code.crossings c d p q bigon) (omega arith) (omega arith)

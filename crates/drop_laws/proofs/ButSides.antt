@@ -1,45 +1,21 @@
 -- Views through all arcs and loops but two sides.
 use Rattle.std.proofs.lemmas.Bool.Decides.{nat_tests}
-use Rattle.std.proofs.Common.{◌≡◌, ◌≢◌, ℕ, zero, suc, inl, inr, ◌+◌, ◌-◌, ◌*◌, ◌%◌, ◌^◌, ◌<◌, ◌≤◌, ◌∙◌, List, [], ◌∷◌, length, refl, sym, ap, ap₂, subst, arith, Bool, true, false, not, ◌||◌, cond}
+use Rattle.std.proofs.Common.{◌≡◌, ◌≢◌, ℕ, inl, inr, ◌+◌, ◌-◌, ◌*◌, ◌%◌, ◌^◌, ◌<◌, ◌≤◌, ◌∙◌, [], ◌∷◌, length, refl, sym, ap, ap₂, subst, arith, true, not, ◌||◌}
 use Rattle.std.specs.Prelude.{nat_eq}
-use Rattle.std.specs.List.{Contains, filter, range_with_len}
-use Rattle.std.proofs.lemmas.Bool.{cases_eq, eq-eqb, eqb-true}
-use Rattle.std.proofs.lemmas.List.FromFn.{length-range_with_len, get_or-range_with_len}
+use Rattle.std.specs.List.{Contains}
+use Rattle.std.proofs.lemmas.Bool.{cases_eq}
 use Rattle.kh_types.specs.Circles.{circle_of, circles_of}
 use Rattle.kh_types.specs.Code.{Code, arcs_and_loops, arc_count}
 use Rattle.kh_types.specs.CircleNumbers.{IsName}
 use Rattle.kh_types.proofs.Lists.{Contains-filter}
-use Rattle.cell_complexes.specs.Alike.{HasNoDoubles}
 use Rattle.cell_complexes.proofs.Members.{Contains-kept}
-use Rattle.cell_complexes.proofs.NoDoubles.{first-new, once-first, once-later, once-range}
-use Rattle.view_laws.specs.Views.{IsView, SeeAlike, circle_at}
-use Rattle.drop_laws.specs.DropViews.{AllShow, AreAlikeBut, AreNumbered, AreOnOne, AreSeenAlike, IsCircleOf, IsOfTwo}
-use Rattle.drop_laws.specs.DroppedFirst.{closed_one, names_but, view_but, view_left}
+use Rattle.cell_complexes.proofs.NoDoubles.{once-range, once-filter}
+use Rattle.view_laws.specs.Views.{IsView, SeeAlike, circle_at, AreTogether}
+use Rattle.drop_laws.specs.DropViews.{AllShow, AreAlikeBut, AreNumbered, AreSeenAlike, IsCircleOf, IsOfTwo}
+use Rattle.drop_laws.specs.DroppedFirst.{names_but, view_but, view_left}
 use Rattle.drop_laws.proofs.OffSides.{of_two}
-
--- lists
-
-contains-range : (a n x : ℕ) → a ≤ x → x < a + n → Contains (range_with_len a n) x
-contains-range a n x from below = (
-  x - a,
-  omega (arith, length-range_with_len a n, from, below),
-  get_or-range_with_len a n (x - a) x (omega (arith, from, below)) ∙ omega (arith, from),
-)
-
-range-within : (a n x : ℕ) → Contains (range_with_len a n) x → (a ≤ x) × (x < a + n)
-range-within a n x (k, below, is) =
-    let within : k < n = omega (arith, below, length-range_with_len a n) in
-    let at = get_or-range_with_len a n k x within in
-    (omega (arith, at, is), omega (arith, at, is, within))
-
-once-filter : (p : ℕ → Bool) (xs : List ℕ) → HasNoDoubles xs → HasNoDoubles (filter p xs)
-once-filter p [] once = λ k l d less below. absurd (omega (arith, below))
-once-filter p (x ∷ xs) once =
-    by (p x) (λ has. first-new x xs once (Contains-kept p xs x has).0) (once-filter p xs (once-later x xs once))
-  where
-    by : (b : Bool) → (Contains (filter p xs) x → ⊥) → HasNoDoubles (filter p xs) → HasNoDoubles (cond b (x ∷ filter p xs) (filter p xs))
-    by true new rest = once-first x (filter p xs) new rest
-    by false new rest = rest
+use Rattle.view_laws.proofs.ClosedOne.{closed-is, closed-there, closed-few}
+use Rattle.view_laws.proofs.Tests.{none-in, same-tests, range-within, within-range}
 
 -- names
 
@@ -48,7 +24,7 @@ name-in code a b x has =
     let kept = Contains-kept (λ z. not (nat_eq z a || nat_eq z b)) (arcs_and_loops code) x has in
     let within = range-within 1 (arc_count code.crossings + code.loops) x kept.0 in
     let apart = two x a b kept.1 in (
-      record { positive = within.0; within = omega (arith, within.1) },
+      record { positive = within.above; within = omega (arith, within.below) },
       λ side. elim side [ inl first ↦ apart.0 first | inr second ↦ apart.1 second ],
     )
   where
@@ -58,37 +34,10 @@ name-in code a b x has =
 in-names : (code : Code) (a b x : ℕ) → IsName code x → (IsOfTwo a b x → ⊥) → Contains (names_but code a b) x
 in-names code a b x is off =
     Contains-filter (λ z. not (nat_eq z a || nat_eq z b)) (arcs_and_loops code) x (two x a b (λ e. off (inl e)) (λ e. off (inr e)))
-    (contains-range 1 (arc_count code.crossings + code.loops) x is.positive (omega (arith, is.within)))
+    (within-range 1 (arc_count code.crossings + code.loops) x is.positive (omega (arith, is.within)))
   where
     two : (x a b : ℕ) → x ≢ a → x ≢ b → not (nat_eq x a || nat_eq x b) ≡ true
     two x a b not_a not_b = grind (arith, nat_tests)
-
--- what closes
-
-closed-is : (side closed inside z : ℕ) → Contains (closed_one side closed inside) z → (inside ≡ closed) × (z ≡ side)
-closed-is side closed inside z has = by (nat_eq inside closed) refl has
-  where
-    by : (b : Bool) → nat_eq inside closed ≡ b → Contains (cond b (side ∷ []) []) z → (inside ≡ closed) × (z ≡ side)
-    by true test (zero, below, is) = (eqb-true inside closed test, sym is)
-    by true test (suc k, below, is) = absurd (omega (arith, below))
-    by false test (k, below, is) = absurd (omega (arith, below))
-
-closed-there : (side closed inside : ℕ) → inside ≡ closed → Contains (closed_one side closed inside) side
-closed-there side closed inside is =
-    subst (λ (b : Bool). Contains (cond b (side ∷ []) []) side) (sym (eq-eqb inside closed is)) (0, omega arith, refl)
-
-closed-few : (side closed inside : ℕ) → length (closed_one side closed inside) ≤ 1
-closed-few side closed inside = by (nat_eq inside closed)
-  where
-    by : (b : Bool) → length (cond b (side ∷ []) []) ≤ 1
-    by true = omega arith
-    by false = omega arith
-
-same-tests : (x y z w : ℕ) → (x ≡ y → z ≡ w) → (z ≡ w → x ≡ y) → nat_eq x y ≡ nat_eq z w
-same-tests x y z w onward back = grind (arith, nat_tests)
-
-none-in : {A : Type 0} (x : A) → Contains [] x → ⊥
-none-in x (k, below, is) = absurd (omega (arith, below))
 
 -- a code whose states have the circles of another code's states, of the same arcs and loops
 module _ (code front : Code) (a b : ℕ) (size : length front.crossings ≡ length code.crossings) (loops : front.loops ≡ code.loops)
@@ -106,10 +55,12 @@ module _ (code front : Code) (a b : ℕ) (size : length front.crossings ≡ leng
   at_home : (state x : ℕ) → state < 2 ^ length code.crossings → circle_at front state x ≡ circle_at code (home state) x
   at_home state x below = ap (λ cs. circle_of cs x) (circles state below)
 
-  together-front : (state x y : ℕ) → state < 2 ^ length code.crossings → AreOnOne code (home state) x y → circle_at front state x ≡ circle_at front state y
+  together-front : (state x y : ℕ) → state < 2 ^ length code.crossings → AreTogether code (home state) x y → circle_at front state x
+      ≡ circle_at front state y
   together-front state x y below same = at_home state x below ∙ same ∙ sym (at_home state y below)
 
-  front-together : (state x y : ℕ) → state < 2 ^ length code.crossings → circle_at front state x ≡ circle_at front state y → AreOnOne code (home state) x y
+  front-together : (state x y : ℕ) → state < 2 ^ length code.crossings → circle_at front state x ≡ circle_at front state y
+      → AreTogether code (home state) x y
   front-together state x y below same = sym (at_home state x below) ∙ same ∙ at_home state y below
 
   powers : 2 ^ length front.crossings ≡ 2 ^ length code.crossings
@@ -121,7 +72,8 @@ module _ (code front : Code) (a b : ℕ) (size : length front.crossings ≡ leng
       → IsView front (view_but front inner a b closed)
   IsView-front inner closed fits a_is closes shows = record {
     fits = omega (arith, fits, size);
-    once = once-filter (λ x. not (nat_eq x a || nat_eq x b)) (arcs_and_loops front) (once-range 1 (arc_count front.crossings + front.loops));
+    once = once-filter (λ x. not (nat_eq x a || nat_eq x b)) (arcs_and_loops front)
+        (once-range 1 (arc_count front.crossings + front.loops));
     arcs = λ x has_x. (name-in front a b x has_x).0;
     closed_arcs = λ inside z below has_z. subst (λ (k : ℕ). IsName front k) (sym (closed-is a closed inside z has_z).1) (to-front a a_is);
     few = λ inside below. closed-few a closed inside;
@@ -161,7 +113,8 @@ module _ (code front : Code) (a b : ℕ) (size : length front.crossings ≡ leng
   pub IsView-left : (new : Code) (number : ℕ → ℕ) → AreNumbered code new (IsOfTwo a b) number → IsView new (view_left front a b number)
   IsView-left new number numbered = record {
     fits = omega arith;
-    once = once-filter (λ x. not (nat_eq x a || nat_eq x b)) (arcs_and_loops front) (once-range 1 (arc_count front.crossings + front.loops));
+    once = once-filter (λ x. not (nat_eq x a || nat_eq x b)) (arcs_and_loops front)
+        (once-range 1 (arc_count front.crossings + front.loops));
     arcs = λ x has_x. numbered.within x (from-front x (name-in front a b x has_x).0);
     closed_arcs = λ inside z below has_z. absurd (none-in z has_z);
     few = λ inside below. omega arith;
@@ -178,7 +131,8 @@ module _ (code front : Code) (a b : ℕ) (size : length front.crossings ≡ leng
       let x_in = name-in front a b x has_x in
       let y_in = name-in front a b y has_y in
       let both = alike x y (from-front x x_in.0) (from-front y y_in.0) x_in.1 y_in.1 in
-      same-tests (circle_at front state x) (circle_at front state y) (circle_at new new_state (number x)) (circle_at new new_state (number y))
+      same-tests (circle_at front state x) (circle_at front state y) (circle_at new new_state (number x))
+      (circle_at new new_state (number y))
       (λ same. both.0 (front-together state x y below same)) (λ same. together-front state x y below (both.1 same))
 
   pub SeeAlike-front : (inner closed state other : ℕ) → state < 2 ^ length code.crossings → other < 2 ^ length code.crossings

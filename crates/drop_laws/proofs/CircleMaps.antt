@@ -8,7 +8,7 @@ use Rattle.kh_types.specs.Darts.{HasArcsTwice}
 use Rattle.kh_types.proofs.ClassLemmas.{classes-finest, classes-together}
 use Rattle.kinks_and_fingers.specs.DropCircles.{joined_at}
 use Rattle.kinks_and_fingers.proofs.SmoothingPairs.{smoothings-all, smoothings-each, joined-below}
-use Rattle.drop_laws.specs.DropViews.{AreOnOne}
+use Rattle.view_laws.specs.Views.{AreTogether}
 
 -- a smoothing of other slots with the same values
 pub smoothing-onto : (f g : ℕ → ℕ) (b : ℕ) (slots others : List ℕ)
@@ -39,13 +39,14 @@ pub joined-there : (code : Code) (state place : ℕ) → HasArcsTwice code.cross
     → Respects (circle_of (circles_of code state)) (joined_at code.crossings state place)
 joined-there code state place twice below =
     smoothings-each (λ pair. circle_of (circles_of code state) pair.0 ≡ circle_of (circles_of code state) pair.1) code.crossings state place
-    (classes-together (arc_count code.crossings + code.loops + 1) (smoothings_of code.crossings state) (circles-below code state twice)) below
+    (classes-together (arc_count code.crossings + code.loops + 1) (smoothings_of code.crossings state) (circles-below code state twice))
+    below
 
 -- what has one value at both arcs of each pair has one value on each circle
 pub carried : (code : Code) (state : ℕ) (f : ℕ → ℕ) → HasArcsTwice code.crossings
     → ((place : ℕ) → place < length code.crossings → Respects f (joined_at code.crossings state place))
     → (x y : ℕ) → x < arc_count code.crossings + code.loops + 1 → y < arc_count code.crossings + code.loops + 1
-    → AreOnOne code state x y → f x ≡ f y
+    → AreTogether code state x y → f x ≡ f y
 carried code state f twice each x y x_below y_below same =
     classes-finest f (arc_count code.crossings + code.loops + 1) (smoothings_of code.crossings state)
     (smoothings-all (λ pair. f pair.0 ≡ f pair.1) code.crossings state each) (circles-below code state twice) x y x_below y_below same

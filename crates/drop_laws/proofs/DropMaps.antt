@@ -21,7 +21,8 @@ use Rattle.kinks_and_fingers.specs.DropCircles.{joined_at}
 use Rattle.kinks_and_fingers.specs.Drops.{dropped, kept_places, straight_names}
 use Rattle.kinks_and_fingers.proofs.KeptCodes.{arc_by_place-below, straight-finest}
 use Rattle.kinks_and_fingers.proofs.StandingNames.{arc_by_place-positive}
-use Rattle.drop_laws.specs.DropViews.{AreNumbered, AreOneOutside, AreOnOne, AreSeenAlike}
+use Rattle.drop_laws.specs.DropViews.{AreNumbered, AreOneOutside, AreSeenAlike}
+use Rattle.view_laws.specs.Views.{AreTogether}
 use Rattle.drop_laws.specs.NamesLeft.{names_left, number_left, straight_name}
 use Rattle.drop_laws.proofs.CircleMaps.{carried, joined-there, smoothing-onto}
 use Rattle.drop_laws.proofs.LeftNames as names
@@ -38,14 +39,17 @@ pub record MovesOff (code : Code) (gone : ℕ → Bool) (IsSide : ℕ → Type 0
 abbrev pub KeepsStraight : Code → (ℕ → Bool) → (ℕ → ℕ) → ℕ → Type 0
 KeepsStraight code gone off state =
     (place : ℕ) → place < length code.crossings → gone place ≡ true
-    → (circle_of (circles_of code state) (off (arc_by_place code.crossings place 0)) ≡ circle_of (circles_of code state) (off (arc_by_place code.crossings place 2)))
-    × (circle_of (circles_of code state) (off (arc_by_place code.crossings place 1)) ≡ circle_of (circles_of code state) (off (arc_by_place code.crossings place 3)))
+    → (circle_of (circles_of code state) (off (arc_by_place code.crossings place 0))
+    ≡ circle_of (circles_of code state) (off (arc_by_place code.crossings place 2)))
+    × (circle_of (circles_of code state) (off (arc_by_place code.crossings place 1))
+    ≡ circle_of (circles_of code state) (off (arc_by_place code.crossings place 3)))
 
 -- the smoothings of dropped crossings join what is on one circle after, under a map
 abbrev pub KeepsJoined : Code → (ℕ → Bool) → (ℕ → ℕ) → ℕ → ℕ → Type 0
 KeepsJoined code gone other state new_state =
     (place : ℕ) → place < length code.crossings → gone place ≡ true
-    → Respects (λ z. circle_of (circles_of (renumber (dropped code gone)) new_state) (number_left code gone (other z))) (joined_at code.crossings state place)
+    → Respects (λ z. circle_of (circles_of (renumber (dropped code gone)) new_state) (number_left code gone (other z)))
+    (joined_at code.crossings state place)
 
 module _ (code : Code) (gone : ℕ → Bool) (kept : ℕ → ℕ) (k : ℕ) (twice : HasArcsTwice code.crossings)
     (places : kept_places code.crossings gone ≡ map kept (range_with_len 0 k))
@@ -107,7 +111,8 @@ module _ (code : Code) (gone : ℕ → Bool) (kept : ℕ → ℕ) (k : ℕ) (twi
   -- what is on one circle after is on one circle before
   pub seen-back : (state new_state : ℕ) → AreOneOutside kept k state new_state → KeepsStraight code gone off state
       → (x y : ℕ) → IsName code x → IsName code y → (IsSide x → ⊥) → (IsSide y → ⊥)
-      → AreOnOne (renumber (dropped code gone)) new_state (number_left code gone x) (number_left code gone y) → AreOnOne code state x y
+      → AreTogether (renumber (dropped code gone)) new_state (number_left code gone x) (number_left code gone y)
+      → AreTogether code state x y
   seen-back state new_state agree keeps x y x_is y_is x_off y_off same =
       let x_within = (names.number-within code gone kept k twice places kept_below paired x x_is).within in
       let y_within = (names.number-within code gone kept k twice places kept_below paired y y_is).within in
@@ -115,13 +120,17 @@ module _ (code : Code) (gone : ℕ → Bool) (kept : ℕ → ℕ) (k : ℕ) (twi
       ∙ carried (renumber (dropped code gone)) new_state (λ m. circle_of (circles_of code state) (off (name_of code gone m))) new_twice
       (λ i below.
       let small : i < k = omega (arith, below, size-new) in
-      subst (λ (b : ℕ). Respects (λ m. circle_of (circles_of code state) (off (name_of code gone m))) (smoothing_of b (slots_in (renumber (dropped code gone)).crossings i)))
+      subst (λ (b : ℕ). Respects (λ m. circle_of (circles_of code state) (off (name_of code gone m)))
+      (smoothing_of b (slots_in (renumber (dropped code gone)).crossings i)))
       (sym (agree i small))
-      (smoothing-onto (λ m. circle_of (circles_of code state) (off (name_of code gone m))) (circle_of (circles_of code state)) (bit state (kept i))
+      (smoothing-onto (λ m. circle_of (circles_of code state) (off (name_of code gone m))) (circle_of (circles_of code state))
+      (bit state (kept i))
       (slots_in (renumber (dropped code gone)).crossings i) (slots_in code.crossings (kept i))
       (λ slot slot_below.
-      ap (λ m. circle_of (circles_of code state) (off (name_of code gone m))) (names.slot-number code gone kept k twice places kept_below paired i slot small slot_below)
-      ∙ circle-number state keeps (arc_by_place code.crossings (kept i) slot) (slot-name (kept i) slot (kept_below i small) slot_below) (outer i slot small slot_below))
+      ap (λ m. circle_of (circles_of code state) (off (name_of code gone m)))
+      (names.slot-number code gone kept k twice places kept_below paired i slot small slot_below)
+      ∙ circle-number state keeps (arc_by_place code.crossings (kept i) slot) (slot-name (kept i) slot (kept_below i small) slot_below)
+      (outer i slot small slot_below))
       (joined-there code state (kept i) twice (kept_below i small))))
       (number_left code gone x) (number_left code gone y) (omega (arith, x_within)) (omega (arith, y_within)) same
       ∙ circle-number state keeps y y_is y_off
@@ -138,12 +147,15 @@ module _ (code : Code) (gone : ℕ → Bool) (kept : ℕ → ℕ) (k : ℕ) (twi
       f_is slot slot_below
       ∙ ap (circle_of (circles_of (renumber (dropped code gone)) new_state))
       (sym (names.slot-number code gone kept k twice places kept_below paired i slot small slot_below)))
-      (subst (λ (b : ℕ). Respects (circle_of (circles_of (renumber (dropped code gone)) new_state)) (smoothing_of b (slots_in (renumber (dropped code gone)).crossings i)))
+      (subst (λ (b : ℕ). Respects (circle_of (circles_of (renumber (dropped code gone)) new_state))
+      (smoothing_of b (slots_in (renumber (dropped code gone)).crossings i)))
       (agree i small) (joined-there (renumber (dropped code gone)) new_state i new_twice (omega (arith, small, size-new))))
 
-  pub seen-onward : (state new_state : ℕ) → AreOneOutside kept k state new_state → (other : ℕ → ℕ) → ((x : ℕ) → (IsSide x → ⊥) → other x ≡ x)
+  pub seen-onward : (state new_state : ℕ) → AreOneOutside kept k state new_state → (other : ℕ → ℕ)
+      → ((x : ℕ) → (IsSide x → ⊥) → other x ≡ x)
       → KeepsJoined code gone other state new_state → (x y : ℕ) → IsName code x → IsName code y → (IsSide x → ⊥) → (IsSide y → ⊥)
-      → AreOnOne code state x y → AreOnOne (renumber (dropped code gone)) new_state (number_left code gone x) (number_left code gone y)
+      → AreTogether code state x y → AreTogether (renumber (dropped code gone)) new_state (number_left code gone x)
+      (number_left code gone y)
   seen-onward state new_state agree other same keeps x y x_is y_is x_off y_off joined =
       let new : ℕ → ℕ = λ m. circle_of (circles_of (renumber (dropped code gone)) new_state) m in
       let f : ℕ → ℕ = λ z. circle_of (circles_of (renumber (dropped code gone)) new_state) (number_left code gone (other z)) in
@@ -157,7 +169,8 @@ module _ (code : Code) (gone : ℕ → Bool) (kept : ℕ → ℕ) (k : ℕ) (twi
             subst (λ (q : ℕ). Respects f (joined_at code.crossings state q)) found.2
             (at_kept state new_state agree f found.0 found.1
             (λ slot slot_below.
-            ap (λ z. new (number_left code gone z)) (same (arc_by_place code.crossings (kept found.0) slot) (outer found.0 slot found.1 slot_below))))
+            ap (λ z. new (number_left code gone z)) (same (arc_by_place code.crossings (kept found.0) slot)
+            (outer found.0 slot found.1 slot_below))))
       ]) x y (omega (arith, x_is.within)) (omega (arith, y_is.within)) joined
       ∙ ap (λ z. new (number_left code gone z)) (same y y_off)
 

@@ -17,7 +17,8 @@ use Rattle.diagram_moves.specs.declared.change.Move.TheVariants.{FingerDrop, Kin
 use Rattle.diagram_moves.specs.declared.fault.MoveFault.{MoveFault}
 use Rattle.diagram_moves.proofs.DropLemmas.{bigon-found, kink-found}
 use Rattle.drop_laws.specs.DroppedCubes.{IsBigonCut, IsFingerDrop, IsKinkCut, IsKinkDrop, bigon_first, kink_first}
-use Rattle.drop_laws.specs.DroppedFirst.{first_to, two_first}
+use Rattle.drop_laws.specs.DroppedFirst.{two_first}
+use Rattle.view_laws.specs.Fronts.{first_to}
 use Rattle.drop_laws.proofs.BigonCuts.{IsBigonCut-dropped}
 use Rattle.drop_laws.proofs.KinkCuts.{IsKinkCut-dropped}
 use Rattle.drop_laws.proofs.Signs.{AreBigonSigns-dropped, AreKinkSigns-dropped}
@@ -45,7 +46,8 @@ unfolding moved
 IsFingerDrop-moved code new first second holds is =
     let c = place_of first in
     let d = place_of second in
-    let found = none-found (finger_drop_fault code first second) (renumber (without_finger code (place_of first) (place_of second))) new is in
+    let found = none-found (finger_drop_fault code first second) (renumber (without_finger code (place_of first) (place_of second))) new
+    is in
     let bigon = bigon-found code first second found.0 in
     let p = bigon.0 in
     let q = bigon.1 in

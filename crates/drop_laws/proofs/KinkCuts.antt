@@ -16,10 +16,11 @@ use Rattle.kinks_and_fingers.specs.Drops.{without_kink}
 use Rattle.kinks_and_fingers.specs.Pulls.{early}
 use Rattle.drop_laws.specs.DropViews.{AllShow, AreNumbered, AreSeenAlike, IsCircleOf, IsKinkView, IsOfTwo}
 use Rattle.drop_laws.specs.DroppedCubes.{IsKinkCut, kink_first}
-use Rattle.drop_laws.specs.DroppedFirst.{first_to}
+use Rattle.view_laws.specs.Fronts.{first_to}
 use Rattle.drop_laws.specs.NamesLeft.{number_left}
 use Rattle.drop_laws.proofs.ButSides.{IsView-front, IsView-left, SeeAlike-left}
-use Rattle.drop_laws.proofs.Fronts.{bit-home, bit-suc, bit-zero, circles-first, first-reordered, home-suc, home-zero, length-first, past-early, state_home}
+use Rattle.drop_laws.proofs.FrontCircles.{bit-home, bit-suc, bit-zero, circles-first, past-early, state_home}
+use Rattle.view_laws.proofs.Fronts.{first-reordered, home-suc, home-zero, length-first}
 use Rattle.drop_laws.proofs.Kinks.{IsKinkView-dropped}
 use Rattle.drop_laws.proofs.Signs.{AreKinkSigns-dropped}
 
@@ -31,7 +32,8 @@ twice-off a x off side = elim side [ inl first ↦ off first | inr second ↦ of
 off-twice : (a x : ℕ) → (IsOfTwo a a x → ⊥) → x ≡ a → ⊥
 off-twice a x off same = off (inl same)
 
-numbered-twice : (code new : Code) (a : ℕ) (number : ℕ → ℕ) → AreNumbered code new (λ x. x ≡ a) number → AreNumbered code new (IsOfTwo a a) number
+numbered-twice : (code new : Code) (a : ℕ) (number : ℕ → ℕ) → AreNumbered code new (λ x. x ≡ a) number
+    → AreNumbered code new (IsOfTwo a a) number
 numbered-twice code new a number numbered = record {
   within = numbered.within;
   onto = λ name is. let old = numbered.onto name is in (old.0, old.1, twice-off a old.0 old.2, old.3);
@@ -92,7 +94,8 @@ module _ (code : Code) (c p : ℕ) (is : IsTrue (accepted code)) (kink : HasKink
   unfolding back
   bit-other state i below i_below =
       ap (bit (state_home (length code.crossings - 1) c state)) (past-early c (length code.crossings - 1) i i_below ∙ sym (home-suc c i))
-      ∙ bit-home (length code.crossings - 1) c state (suc i) within (omega (arith, below, powers)) (omega (arith, i_below)) ∙ bit-suc state i
+      ∙ bit-home (length code.crossings - 1) c state (suc i) within (omega (arith, below, powers)) (omega (arith, i_below))
+      ∙ bit-suc state i
 
   front_size : length (first_to c code.crossings) ≡ length code.crossings
   front_size = length-first c code.crossings kink.below
@@ -106,7 +109,8 @@ module _ (code : Code) (c p : ℕ) (is : IsTrue (accepted code)) (kink : HasKink
   ]
 
   closes-at : (state : ℕ) → state < 2 ^ length code.crossings → state % 2 ≡ closing_at p
-      → IsCircleOf code (IsOfTwo (arc_by_place code.crossings c p) (arc_by_place code.crossings c p)) (back state) (arc_by_place code.crossings c p)
+      → IsCircleOf code (IsOfTwo (arc_by_place code.crossings c p) (arc_by_place code.crossings c p)) (back state)
+      (arc_by_place code.crossings c p)
   closes-at state below closes =
       circle-twice code (arc_by_place code.crossings c p) (back state) (view.closing (back state) (bit-kink state below ∙ closes))
 
@@ -122,7 +126,8 @@ module _ (code : Code) (c p : ℕ) (is : IsTrue (accepted code)) (kink : HasKink
       let signs = AreKinkSigns-dropped code c p is kink in
       record {
         order = first-reordered c code.crossings kink.below;
-        first_accepted = accepted-reordered code.loops code.crossings (first_to c code.crossings) (first-reordered c code.crossings kink.below) is;
+        first_accepted = accepted-reordered code.loops code.crossings (first_to c code.crossings)
+            (first-reordered c code.crossings kink.below) is;
         view = IsView-front code (kink_first code c) side side front_size refl back circles 1 (closing_at p) (omega (arith, kink.below))
             view.side_is closes-at shows;
         left = IsView-left code (kink_first code c) side side front_size refl back circles (renumber (without_kink code c))
@@ -140,7 +145,8 @@ module _ (code : Code) (c p : ℕ) (is : IsTrue (accepted code)) (kink : HasKink
             let none : 0 + 1 * outside ≡ outside = omega arith in
             SeeAlike-left code (kink_first code c) side side front_size refl back circles (renumber (without_kink code c))
             (number_left code (nat_eq c)) 1 (closing_at p) (inside + 2 * outside) (0 + 1 * outside) joint
-            (seen-twice code (renumber (without_kink code c)) side (number_left code (nat_eq c)) (back (inside + 2 * outside)) (0 + 1 * outside)
+            (seen-twice code (renumber (without_kink code c)) side (number_left code (nat_eq c)) (back (inside + 2 * outside))
+            (0 + 1 * outside)
             (view.seen (back (inside + 2 * outside)) (0 + 1 * outside)
             (λ i i_below. ap (λ s. bit s i) (none ∙ sym half) ∙ sym (bit-other (inside + 2 * outside) i joint i_below))
             (elim (closing_or_through p inside inside_below) [

@@ -28,7 +28,8 @@ use Rattle.kinks_and_fingers.proofs.OldDarts.{arc_of_dart-in}
 use Rattle.kinks_and_fingers.proofs.Smoothed.{dart_in-below}
 use Rattle.kinks_and_fingers.proofs.Sound.{IsSound-kink}
 use Rattle.kinks_and_fingers.proofs.StandingNames.{arc_by_place-positive}
-use Rattle.drop_laws.specs.DropViews.{AllShow, AreOnOne, IsCircleOf, IsKinkView}
+use Rattle.drop_laws.specs.DropViews.{AllShow, IsCircleOf, IsKinkView}
+use Rattle.view_laws.specs.Views.{AreTogether}
 use Rattle.drop_laws.specs.NamesLeft.{names_left, number_left, straight_name}
 use Rattle.drop_laws.proofs.CircleMaps.{carried, joined-there}
 use Rattle.drop_laws.proofs.DropMaps.{KeepsJoined, KeepsStraight, MovesOff, numbered-dropped, seen-dropped}
@@ -145,18 +146,21 @@ module _ (code : Code) (c p : ℕ) (is : IsTrue (accepted code)) (kink : HasKink
   outer i slot below slot_below =
       apart (early c (length code.crossings - 1) i) slot (kept_below i below) slot_below
       (λ same. both_ways (nat_eq c (early c (length code.crossings - 1) i))
-      (names.kept-stays code (nat_eq c) (early c (length code.crossings - 1)) (length code.crossings - 1) twice places kept_below paired i below)
+      (names.kept-stays code (nat_eq c) (early c (length code.crossings - 1)) (length code.crossings - 1) twice places kept_below paired i
+      below)
       (eq-eqb c (early c (length code.crossings - 1) i) (sym same)))
 
   -- in each state the two arcs that lead away are on one circle
-  leading : (state : ℕ) → (bit state c ≡ through_at p) ⊎ (bit state c ≡ closing_at p) → AreOnOne code state first second
+  leading : (state : ℕ) → (bit state c ≡ through_at p) ⊎ (bit state c ≡ closing_at p) → AreTogether code state first second
   leading state bit_is =
       let here = joined-there code state c twice kink.below in
       elim bit_is [
         | inl through ↦
-            let two = through-joined (circle_of (circles_of code state)) (slots_in code.crossings c) p (bit state c) kink.slot through here in
+            let two = through-joined (circle_of (circles_of code state)) (slots_in code.crossings c) p (bit state c) kink.slot through
+            here in
             sym two.0 ∙ ap (circle_of (circles_of code state)) (sym kink.same) ∙ sym two.1
-        | inr closes ↦ (closing-joined (circle_of (circles_of code state)) (slots_in code.crossings c) p (bit state c) kink.slot closes here).1
+        | inr closes ↦ (closing-joined (circle_of (circles_of code state)) (slots_in code.crossings c) p (bit state c) kink.slot closes
+            here).1
       ]
 
   straight : (state : ℕ) → (bit state c ≡ through_at p) ⊎ (bit state c ≡ closing_at p)
@@ -170,7 +174,8 @@ module _ (code : Code) (c p : ℕ) (is : IsTrue (accepted code)) (kink : HasKink
       let here : Respects (λ z. circle_of (circles_of code state) (moved_one side first z)) (passes_of (slots_in code.crossings c)) =
       pass-straight f (slots_in code.crossings c) p kink.slot (at_side ∙ sym at_first)
       (ap f (sym kink.same) ∙ at_side ∙ leading state bit_is ∙ sym at_second) in
-      let there = subst (λ (q : ℕ). Respects (λ z. circle_of (circles_of code state) (moved_one side first z)) (passes_of (slots_in code.crossings q)))
+      let there = subst (λ (q : ℕ). Respects (λ z. circle_of (circles_of code state) (moved_one side first z))
+      (passes_of (slots_in code.crossings q)))
       (eqb-true c place gone_there) here in
       (there.0, there.1.0)
 
@@ -210,8 +215,10 @@ module _ (code : Code) (c p : ℕ) (is : IsTrue (accepted code)) (kink : HasKink
     all = λ x same. ap (circle_of (circles_of code state)) same;
     alone = λ x x_is together.
         let f : ℕ → ℕ = λ z. mark (arc_by_place code.crossings c p) z in
-        let off : (place slot : ℕ) → place < length code.crossings → slot < 4 → place ≢ c → mark side (arc_by_place code.crossings place slot) ≡ 0 =
-        λ place slot below slot_below other. mark-off side (arc_by_place code.crossings place slot) (apart place slot below slot_below other) in
+        let off : (place slot : ℕ) → place < length code.crossings → slot < 4 → place ≢ c
+        → mark side (arc_by_place code.crossings place slot) ≡ 0 =
+        λ place slot below slot_below other. mark-off side (arc_by_place code.crossings place slot)
+        (apart place slot below slot_below other) in
         let side_is = name-at p kink.slot in
         let same = carried code state (λ z. mark (arc_by_place code.crossings c p) z) twice
         (λ place below.
@@ -235,7 +242,8 @@ module _ (code : Code) (c p : ℕ) (is : IsTrue (accepted code)) (kink : HasKink
   pub IsKinkView-dropped : IsKinkView code (renumber (without_kink code c)) c p (number_left code (nat_eq c))
   IsKinkView-dropped = record {
     side_is = name-at p kink.slot;
-    numbered = numbered-dropped code (nat_eq c) (early c (length code.crossings - 1)) (length code.crossings - 1) twice places kept_below paired
+    numbered = numbered-dropped code (nat_eq c) (early c (length code.crossings - 1)) (length code.crossings - 1) twice places kept_below
+        paired
         (λ z. z ≡ side) (moved_one side first) moves outer;
     apart = apart;
     seen = λ state new_state agree bit_is.

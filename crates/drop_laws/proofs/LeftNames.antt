@@ -77,19 +77,24 @@ module _ (code : Code) (gone : ℕ → Bool) (kept : ℕ → ℕ) (k : ℕ) (twi
   size-left = length-kept code.crossings gone kept k places
 
   pub size-new : length (renumber (dropped code gone)).crossings ≡ k
-  size-new = length-map (kept_crossings code.crossings gone) (renamed_crossing (number_in (order_of (passes_through (dropped code gone))))) ∙ size-left
+  size-new = length-map (kept_crossings code.crossings gone)
+      (renamed_crossing (number_in (order_of (passes_through (dropped code gone))))) ∙ size-left
 
   -- classes of arcs are arcs
   pub class-least : (x : ℕ) → x < arc_count code.crossings + 1 → slice_index (straight_names code.crossings gone) x ≤ x
-  class-least = (IsNamed-classes_of (arc_count code.crossings + 1) (straight_pairs code.crossings gone) (straight-below code.crossings gone twice)).least
+  class-least = (IsNamed-classes_of (arc_count code.crossings + 1) (straight_pairs code.crossings gone)
+      (straight-below code.crossings gone twice)).least
 
   pub class-own : (x : ℕ) → x < arc_count code.crossings + 1
-      → slice_index (straight_names code.crossings gone) (slice_index (straight_names code.crossings gone) x) ≡ slice_index (straight_names code.crossings gone) x
-  class-own = (IsNamed-classes_of (arc_count code.crossings + 1) (straight_pairs code.crossings gone) (straight-below code.crossings gone twice)).own
+      → slice_index (straight_names code.crossings gone) (slice_index (straight_names code.crossings gone) x)
+      ≡ slice_index (straight_names code.crossings gone) x
+  class-own = (IsNamed-classes_of (arc_count code.crossings + 1) (straight_pairs code.crossings gone)
+      (straight-below code.crossings gone twice)).own
 
   pub class-positive : (x : ℕ) → 1 ≤ x → x < arc_count code.crossings + 1 → 1 ≤ slice_index (straight_names code.crossings gone) x
   class-positive x positive below =
-      let low : slice_index (straight_names code.crossings gone) x < arc_count code.crossings + 1 = omega (arith, class-least x below, below) in
+      let low : slice_index (straight_names code.crossings gone) x < arc_count code.crossings + 1 = omega
+      (arith, class-least x below, below) in
       let same = straight-finest code.crossings gone (λ z. min z 1) twice
       (λ place place_below is.
       let at = λ (slot : ℕ) (slot_below : slot < 4). arc_by_place-positive code.crossings place slot twice place_below slot_below in (
@@ -113,14 +118,16 @@ module _ (code : Code) (gone : ℕ → Bool) (kept : ℕ → ℕ) (k : ℕ) (twi
       ∙ renamed_slots-at (straight_names code.crossings gone) (slots_in code.crossings (kept i)) slot slot_below
 
   -- a name that stands is a head, so it is in the order; it is an arc, and names its class
-  pub standing-ordered : (x : ℕ) → stands_in (kept_crossings code.crossings gone) x ≡ true → IsIn x (order_of (passes_through (dropped code gone)))
+  pub standing-ordered : (x : ℕ) → stands_in (kept_crossings code.crossings gone) x ≡ true
+      → IsIn x (order_of (passes_through (dropped code gone)))
   standing-ordered x holds =
       stands-some (λ y. IsIn y (order_of (passes_through (dropped code gone)))) (kept_crossings code.crossings gone) x
       (λ place slot below slot_below.
       heads-order (dropped code gone) paired (arc_by_place (kept_crossings code.crossings gone) place slot)
       (slot-head (dropped code gone) paired place slot below slot_below)) holds
 
-  pub ordered-standing : (x : ℕ) → IsIn x (order_of (passes_through (dropped code gone))) → stands_in (kept_crossings code.crossings gone) x ≡ true
+  pub ordered-standing : (x : ℕ) → IsIn x (order_of (passes_through (dropped code gone)))
+      → stands_in (kept_crossings code.crossings gone) x ≡ true
   ordered-standing x is = heads-stand (dropped code gone) paired x (order-heads (dropped code gone) paired x is)
 
   pub standing-own : (x : ℕ) → stands_in (kept_crossings code.crossings gone) x ≡ true → IsOwnName code gone x
@@ -144,7 +151,8 @@ module _ (code : Code) (gone : ℕ → Bool) (kept : ℕ → ℕ) (k : ℕ) (twi
     | inl holds ↦ IsIn-left x (order_of (passes_through (dropped code gone))) (loops_left code gone) (standing-ordered x holds)
     | inr fails ↦
         IsIn-right x (order_of (passes_through (dropped code gone))) (loops_left code gone)
-        (IsIn-right x (range_with_len (arc_count code.crossings + 1) code.loops) (filter (is_ring code.crossings gone) (arcs code.crossings))
+        (IsIn-right x (range_with_len (arc_count code.crossings + 1) code.loops)
+        (filter (is_ring code.crossings gone) (arcs code.crossings))
         (in-filter (is_ring code.crossings gone) (arcs code.crossings) x
         (in-range 1 (arc_count code.crossings) x is.positive (omega (arith, is.below)))
         (ring (nat_eq (slice_index (straight_names code.crossings gone) x) x) (stands_in (kept_crossings code.crossings gone) x)
@@ -154,7 +162,8 @@ module _ (code : Code) (gone : ℕ → Bool) (kept : ℕ → ℕ) (k : ℕ) (twi
       ring : (a b : Bool) → a ≡ true → b ≡ false → (a && not b) ≡ true
       ring a b a_is b_is = grind (arith, nat_tests)
 
-  pub loop-stands : (x : ℕ) → arc_count code.crossings + 1 ≤ x → x < arc_count code.crossings + 1 + code.loops → IsIn x (names_left code gone)
+  pub loop-stands : (x : ℕ) → arc_count code.crossings + 1 ≤ x → x < arc_count code.crossings + 1 + code.loops
+      → IsIn x (names_left code gone)
   loop-stands x from below =
       IsIn-right x (order_of (passes_through (dropped code gone))) (loops_left code gone)
       (IsIn-left x (range_with_len (arc_count code.crossings + 1) code.loops) (filter (is_ring code.crossings gone) (arcs code.crossings))
@@ -166,12 +175,14 @@ module _ (code : Code) (gone : ℕ → Bool) (kept : ℕ → ℕ) (k : ℕ) (twi
   names-are x is = elim (IsIn-parts x (order_of (passes_through (dropped code gone))) (loops_left code gone) is) [
     | inl front ↦ inl (standing-own x (ordered-standing x front))
     | inr back ↦
-        elim (IsIn-parts x (range_with_len (arc_count code.crossings + 1) code.loops) (filter (is_ring code.crossings gone) (arcs code.crossings)) back) [
+        elim (IsIn-parts x (range_with_len (arc_count code.crossings + 1) code.loops)
+        (filter (is_ring code.crossings gone) (arcs code.crossings)) back) [
           | inl loop ↦ inr (range-in (arc_count code.crossings + 1) code.loops x loop)
           | inr ring ↦
               let found = filter-in (is_ring code.crossings gone) (arcs code.crossings) x ring in
               let within = range-in 1 (arc_count code.crossings) x found.0 in
-              let least = first (nat_eq (slice_index (straight_names code.crossings gone) x) x) (stands_in (kept_crossings code.crossings gone) x) found.1 in
+              let least = first (nat_eq (slice_index (straight_names code.crossings gone) x) x)
+              (stands_in (kept_crossings code.crossings gone) x) found.1 in
               inl (record {
                 positive = within.0;
                 below = omega (arith, within.1);
@@ -187,8 +198,11 @@ module _ (code : Code) (gone : ℕ → Bool) (kept : ℕ → ℕ) (k : ℕ) (twi
       → (x < arc_count code.crossings + 1) × (stands_in (kept_crossings code.crossings gone) x ≡ false)
   rings-fall x ring =
       let found = filter-in (is_ring code.crossings gone) (arcs code.crossings) x ring in
-      let within = range-in 1 (arc_count code.crossings) x found.0 in
-      (omega (arith, within.1), second (nat_eq (slice_index (straight_names code.crossings gone) x) x) (stands_in (kept_crossings code.crossings gone) x) found.1)
+      let within = range-in 1 (arc_count code.crossings) x found.0 in (
+        omega (arith, within.1),
+        second (nat_eq (slice_index (straight_names code.crossings gone) x) x)
+            (stands_in (kept_crossings code.crossings gone) x) found.1,
+      )
     where
       second : (a b : Bool) → (a && not b) ≡ true → b ≡ false
       second a b holds = grind (arith, nat_tests)
@@ -197,7 +211,8 @@ module _ (code : Code) (gone : ℕ → Bool) (kept : ℕ → ℕ) (k : ℕ) (twi
   pub distinct-names : AreDistinct (names_left code gone)
   distinct-names =
       AreDistinct-append (order_of (passes_through (dropped code gone))) (loops_left code gone) (distinct-order (dropped code gone) paired)
-      (AreDistinct-append (range_with_len (arc_count code.crossings + 1) code.loops) (filter (is_ring code.crossings gone) (arcs code.crossings))
+      (AreDistinct-append (range_with_len (arc_count code.crossings + 1) code.loops)
+      (filter (is_ring code.crossings gone) (arcs code.crossings))
       (distinct-range (arc_count code.crossings + 1) code.loops)
       (distinct-filter (is_ring code.crossings gone) (arcs code.crossings) (distinct-range 1 (arc_count code.crossings)))
       (λ x loop ring.
@@ -206,7 +221,8 @@ module _ (code : Code) (gone : ℕ → Bool) (kept : ℕ → ℕ) (k : ℕ) (twi
       absurd (omega (arith, from, below))))
       (λ x front back.
       let stands = ordered-standing x front in
-      elim (IsIn-parts x (range_with_len (arc_count code.crossings + 1) code.loops) (filter (is_ring code.crossings gone) (arcs code.crossings)) back) [
+      elim (IsIn-parts x (range_with_len (arc_count code.crossings + 1) code.loops)
+      (filter (is_ring code.crossings gone) (arcs code.crossings)) back) [
         | inl loop ↦
             let from = (range-in (arc_count code.crossings + 1) code.loops x loop).0 in
             let below = (standing-own x stands).below in
@@ -214,25 +230,31 @@ module _ (code : Code) (gone : ℕ → Bool) (kept : ℕ → ℕ) (k : ℕ) (twi
         | inr ring ↦ both_ways (stands_in (kept_crossings code.crossings gone) x) (rings-fall x ring).1 stands
       ])
 
-  pub length-names : length (names_left code gone) ≡ arc_count (renumber (dropped code gone)).crossings + (renumber (dropped code gone)).loops
+  pub length-names : length (names_left code gone) ≡ arc_count
+      (renumber (dropped code gone)).crossings + (renumber (dropped code gone)).loops
   length-names =
       let order = length-order (dropped code gone) paired in
       let all = length-append (order_of (passes_through (dropped code gone))) (loops_left code gone) in
-      let loops = length-append (range_with_len (arc_count code.crossings + 1) code.loops) (filter (is_ring code.crossings gone) (arcs code.crossings)) in
+      let loops = length-append (range_with_len (arc_count code.crossings + 1) code.loops)
+      (filter (is_ring code.crossings gone) (arcs code.crossings)) in
       let range = length-range_with_len (arc_count code.crossings + 1) code.loops in
       let rings = length-filter (is_ring code.crossings gone) (arcs code.crossings) in
       let double : 2 * length (renumber (dropped code gone)).crossings ≡ 2 * length (kept_crossings code.crossings gone) =
       ap (λ n. 2 * n) (size-new ∙ sym size-left) in
       omega (arith, order, all, loops, range, rings, double)
 
-  pub straight-arc : (x : ℕ) → x < arc_count code.crossings + 1 → straight_name code gone x ≡ slice_index (straight_names code.crossings gone) x
-  straight-arc x below = ap (λ t. cond t (slice_index (straight_names code.crossings gone) x) x) (test x (arc_count code.crossings + 1) below)
+  pub straight-arc : (x : ℕ) → x < arc_count code.crossings + 1 → straight_name code gone x
+      ≡ slice_index (straight_names code.crossings gone) x
+  straight-arc x below =
+      ap (λ t. cond t (slice_index (straight_names code.crossings gone) x) x)
+      (test x (arc_count code.crossings + 1) below)
     where
       test : (x y : ℕ) → x < y → nat_lt x y ≡ true
       test x y below = grind (arith, nat_tests)
 
   pub straight-loop : (x : ℕ) → arc_count code.crossings + 1 ≤ x → straight_name code gone x ≡ x
-  straight-loop x from = ap (λ t. cond t (slice_index (straight_names code.crossings gone) x) x) (test x (arc_count code.crossings + 1) from)
+  straight-loop x from = ap (λ t. cond t (slice_index (straight_names code.crossings gone) x) x)
+      (test x (arc_count code.crossings + 1) from)
     where
       test : (x y : ℕ) → y ≤ x → nat_lt x y ≡ false
       test x y from = grind (arith, nat_tests)
@@ -281,7 +303,8 @@ module _ (code : Code) (gone : ℕ → Bool) (kept : ℕ → ℕ) (k : ℕ) (twi
   pub name_of-in : (number : ℕ) → IsName (renumber (dropped code gone)) number → IsIn (name_of code gone number) (names_left code gone)
   name_of-in number is = IsIn-get (names_left code gone) (number - 1) (omega (arith, is.positive, is.within, length-names))
 
-  pub name_of-number : (number : ℕ) → IsName (renumber (dropped code gone)) number → number_in (names_left code gone) (name_of code gone number) ≡ number
+  pub name_of-number : (number : ℕ) → IsName (renumber (dropped code gone)) number
+      → number_in (names_left code gone) (name_of code gone number) ≡ number
   name_of-number number is =
       number-get (names_left code gone) (number - 1) distinct-names (omega (arith, is.positive, is.within, length-names))
       ∙ omega (arith, is.positive)
@@ -303,9 +326,12 @@ module _ (code : Code) (gone : ℕ → Bool) (kept : ℕ → ℕ) (k : ℕ) (twi
       let i_below : i < length (kept_crossings code.crossings gone) = omega (arith, below, size-left) in
       let ordered = standing-ordered (arc_by_place (kept_crossings code.crossings gone) i slot)
       (stands-slot (kept_crossings code.crossings gone) i slot i_below slot_below) in
-      ap (λ slots. arc_in slots slot) (get_or-map (renamed_crossing (number_in (order_of (passes_through (dropped code gone))))) (kept_crossings code.crossings gone) i [] [] i_below)
-      ∙ renamed-slot (number_in (order_of (passes_through (dropped code gone)))) (slots_in (kept_crossings code.crossings gone) i) slot slot_below
-      ∙ sym (number-front (order_of (passes_through (dropped code gone))) (loops_left code gone) (arc_by_place (kept_crossings code.crossings gone) i slot)
+      ap (λ slots. arc_in slots slot) (get_or-map (renamed_crossing (number_in (order_of (passes_through (dropped code gone)))))
+      (kept_crossings code.crossings gone) i [] [] i_below)
+      ∙ renamed-slot (number_in (order_of (passes_through (dropped code gone)))) (slots_in (kept_crossings code.crossings gone) i) slot
+      slot_below
+      ∙ sym (number-front (order_of (passes_through (dropped code gone))) (loops_left code gone)
+      (arc_by_place (kept_crossings code.crossings gone) i slot)
       (distinct-order (dropped code gone) paired) distinct-names ordered)
       ∙ ap (number_in (names_left code gone)) (name ∙ sym (straight-arc old old_below))
 

@@ -12,7 +12,8 @@ use Rattle.kh_types.specs.Darts.{HasArcsTwice}
 use Rattle.code_passes.specs.Parts.{slots_in}
 use Rattle.gluing.specs.Arcs.{arc_by_place}
 use Rattle.kinks_and_fingers.specs.DropCircles.{joined_at}
-use Rattle.drop_laws.specs.DropViews.{AllShow, AreOnOne, DifferAt, IsOfTwo}
+use Rattle.drop_laws.specs.DropViews.{AllShow, DifferAt, IsOfTwo}
+use Rattle.view_laws.specs.Views.{AreTogether}
 use Rattle.drop_laws.specs.NamesLeft.{straight_name}
 use Rattle.drop_laws.proofs.CircleMaps.{carried, joined-there, smoothing-onto}
 use Rattle.drop_laws.proofs.DropMaps.{MovesOff}
@@ -108,7 +109,7 @@ MovesOff-two code gone a b x y apart x_off y_off x_is y_is x_class y_class =
 
 -- each circle shows, where those of two sides do
 pub AllShow-two : (code : Code) (state a b u w : ℕ) → IsName code u → IsName code w → (IsOfTwo a b u → ⊥) → (IsOfTwo a b w → ⊥)
-    → AreOnOne code state u a → AreOnOne code state w b → AllShow code (IsOfTwo a b) state
+    → AreTogether code state u a → AreTogether code state w b → AllShow code (IsOfTwo a b) state
 AllShow-two code state a b u w u_is w_is u_off w_off u_a w_b x x_is = elim (of_two a b x) [
   | inl first ↦ (u, u_is, u_off, u_a ∙ ap (circle_of (circles_of code state)) (sym first))
   | inr rest ↦ elim rest [
@@ -120,11 +121,12 @@ AllShow-two code state a b u w u_is w_is u_off w_off u_a w_b x x_is = elim (of_t
 -- two states of one code with one bit at each crossing but two: what is on one circle in the first is so in the second, where the
 -- smoothings of the two crossings join what is so, the sides moved off
 pub alike-onward : (code : Code) (c d a b s t state other : ℕ) → HasArcsTwice code.crossings → DifferAt code c d state other
-    → ((place slot : ℕ) → place < length code.crossings → slot < 4 → place ≢ c → place ≢ d → IsOfTwo a b (arc_by_place code.crossings place slot) → ⊥)
+    → ((place slot : ℕ) → place < length code.crossings → slot < 4 → place ≢ c → place ≢ d
+    → IsOfTwo a b (arc_by_place code.crossings place slot) → ⊥)
     → Respects (λ z. circle_of (circles_of code other) (moved_two a b s t z)) (joined_at code.crossings state c)
     → Respects (λ z. circle_of (circles_of code other) (moved_two a b s t z)) (joined_at code.crossings state d)
     → (x y : ℕ) → IsName code x → IsName code y → (IsOfTwo a b x → ⊥) → (IsOfTwo a b y → ⊥)
-    → AreOnOne code state x y → AreOnOne code other x y
+    → AreTogether code state x y → AreTogether code other x y
 alike-onward code c d a b s t state other twice differ apart at_c at_d x y x_is y_is x_off y_off same =
     let f : ℕ → ℕ = λ z. circle_of (circles_of code other) (moved_two a b s t z) in
     sym (ap (circle_of (circles_of code other)) (moved_two-off a b s t x x_off))
@@ -135,7 +137,8 @@ alike-onward code c d a b s t state other twice differ apart at_c at_d x y x_is 
       | inr not_c ↦ elim (cases_eq place d) [
         | inl is_d ↦ subst (λ (q : ℕ). Respects f (joined_at code.crossings state q)) (sym is_d) at_d
         | inr not_d ↦
-            smoothing-onto f (circle_of (circles_of code other)) (bit state place) (slots_in code.crossings place) (slots_in code.crossings place)
+            smoothing-onto f (circle_of (circles_of code other)) (bit state place) (slots_in code.crossings place)
+            (slots_in code.crossings place)
             (λ slot slot_below.
             ap (circle_of (circles_of code other))
             (moved_two-off a b s t (arc_by_place code.crossings place slot) (apart place slot below slot_below not_c not_d)))

@@ -27,7 +27,8 @@ use Rattle.diagram_moves.proofs.DroppedCodes.{IsKept-finger, IsKept-kink}
 use Rattle.drop_laws.specs.DropSigns.{AreBigonSigns, AreKinkSigns}
 
 -- the positive crossings by places
-plus-by_places : (code : Code) → plus_count code.crossings ≡ count_by (λ x. is_positive code.crossings (x + 1)) (range_with_len 0 (length code.crossings))
+plus-by_places : (code : Code) → plus_count code.crossings ≡ count_by (λ x. is_positive code.crossings (x + 1))
+    (range_with_len 0 (length code.crossings))
 plus-by_places code =
     let e : 0 + 1 ≡ 1 = omega arith in
     ap (λ a. count_by (is_positive code.crossings) (range_with_len a (length code.crossings))) (sym e)
@@ -56,7 +57,8 @@ AreKinkSigns-dropped code c p is kink =
     let kept = IsKept-kink code c p is kink in
     let size : length code.crossings ≡ length code.crossings - 1 + 1 = omega (arith, kink.below) in
     let places = kept_are code c (length code.crossings - 1) size (omega (arith, kink.below)) in
-    let left = plus-left code (renumber (without_kink code c)) (nat_eq c) (early c (length code.crossings - 1)) (length code.crossings - 1) places kept in
+    let left = plus-left code (renumber (without_kink code c)) (nat_eq c) (early c (length code.crossings - 1))
+    (length code.crossings - 1) places kept in
     let counted = plus-kept code c kink.below in
     let sign : one_if (positive_at code.crossings c) ≡ through_at p = ap one_if (kink-sign code c p is kink) in
     let both = by (nat_eq (p % 2) 0) in
@@ -78,12 +80,14 @@ AreBigonSigns-dropped code c d p q is bigon =
     let directed = HasNoSingleArcs-accepted code is in
     let size = two_below (length code.crossings) c d bigon.first_below bigon.second_below bigon.apart in
     let places = ap (λ n. filter (λ z. not (nat_eq c z || nat_eq d z)) (range_with_len 0 n)) size
-    ∙ places-two c d (length code.crossings - 2) (omega (arith, bigon.first_below, size)) (omega (arith, bigon.second_below, size)) bigon.apart in
+    ∙ places-two c d (length code.crossings - 2) (omega (arith, bigon.first_below, size)) (omega (arith, bigon.second_below, size))
+    bigon.apart in
     let left = plus-left code (renumber (without_finger code c d)) (is_of_two c d)
     (λ i. early c (length code.crossings - 2 + 1) (early (late c (length code.crossings - 2 + 1) d) (length code.crossings - 2) i))
     (length code.crossings - 2) places kept in
     let counted = plus-kept_two code c d bigon.first_below bigon.second_below bigon.apart in
-    let sign = bigon-signs code c d (p % 4) (q % 4) directed.0 directed.1 (HasBigonAt-slots code.crossings c d p q bigon) (omega arith) (omega arith) in
+    let sign = bigon-signs code c d (p % 4) (q % 4) directed.0 directed.1 (HasBigonAt-slots code.crossings c d p q bigon) (omega arith)
+    (omega arith) in
     let both : one_if (positive_at code.crossings c) + one_if (positive_at code.crossings d) ≡ 1 =
     ap (λ b. one_if (positive_at code.crossings c) + one_if b) sign ∙ one_of_two (positive_at code.crossings c) in
     let few = plus-few (renumber (without_finger code c d)) in

@@ -8,7 +8,8 @@ use Rattle.kinks_and_fingers.specs.DropCircles.{closing_at, through_at}
 use Rattle.kinks_and_fingers.specs.Drops.{is_of_two}
 use Rattle.view_laws.specs.Views.{IsView, SeeAlike, View, joint_state}
 use Rattle.drop_laws.specs.DropSigns.{AreBigonSigns, AreKinkSigns}
-use Rattle.drop_laws.specs.DroppedFirst.{first_to, two_first, view_but, view_left}
+use Rattle.drop_laws.specs.DroppedFirst.{two_first, view_but, view_left}
+use Rattle.view_laws.specs.Fronts.{first_to}
 use Rattle.drop_laws.specs.NamesLeft.{number_left}
 
 -- the code with the crossing of a kink first

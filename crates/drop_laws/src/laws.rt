@@ -20,9 +20,9 @@ ghost use Rattle.drop_laws.specs.DroppedCubes.{IsBigonCut, IsFingerDrop, IsKinkC
 ghost use Rattle.drop_laws.specs.DropViews.{IsBigonView, IsKinkView};
 ghost use Rattle.drop_laws.specs.NamesLeft.{number_left};
 
-/// Where a crossing with a kink is dropped, each arc and loop has a number in the code that is left;
-/// states with the same bits elsewhere have the same circles, seen without the kink's arc, and the
-/// kink's arc is a circle of its own where the state closes the kink.
+/// Where a crossing with a kink is dropped, each arc and loop has a number in the code that is
+/// left; states with the same bits elsewhere have the same circles, seen without the kink's arc,
+/// and the kink's arc is a circle of its own where the state closes the kink.
 pub fn kinks_are_seen_alike()
     ensures view { (code : Code) (c p : ℕ) → IsTrue (accepted code) → HasKinkAt code.crossings c p
         → IsKinkView code (renumber (without_kink code c)) c p (number_left code (nat_eq c)) }
@@ -32,16 +32,19 @@ pub fn kinks_are_seen_alike()
 
 /// So where two crossings that meet in a bigon are dropped, for states that go through both.
 pub fn bigons_are_seen_alike()
-    ensures view { (code : Code) (c d p q : ℕ) → IsTrue (accepted code) → HasBigonAt code.crossings c d p q
+    ensures view { (code : Code) (c d p q : ℕ) → IsTrue (accepted code)
+        → HasBigonAt code.crossings c d p q
         → p < 4 → q < 4 → IsBigonView code (renumber (without_finger code c d)) c d p q
         (arc_by_place code.crossings c p) (arc_by_place code.crossings d q)
         (number_left code (is_of_two c d)) }
-    ensures signs { (code : Code) (c d p q : ℕ) → IsTrue (accepted code) → HasBigonAt code.crossings c d p q
+    ensures signs { (code : Code) (c d p q : ℕ) → IsTrue (accepted code)
+        → HasBigonAt code.crossings c d p q
         → AreBigonSigns code (renumber (without_finger code c d)) }
 {}
 
 /// The code with the kink's crossing first is seen through all its arcs and loops but the kink's
-/// arc, which closes at one of the two inner states; and at both it is seen as the code that is left.
+/// arc, which closes at one of the two inner states; and at both it is seen as the code that is
+/// left.
 pub fn kinks_are_cut()
     ensures { (code : Code) (c p : ℕ) → IsTrue (accepted code) → HasKinkAt code.crossings c p
         → IsKinkCut code (renumber (without_kink code c)) c p }
@@ -51,7 +54,8 @@ pub fn kinks_are_cut()
 /// which close at one of the four inner states; the states 0 and 3 are seen as that one, and the
 /// fourth as the code that is left.
 pub fn bigons_are_cut()
-    ensures { (code : Code) (c d p q : ℕ) → IsTrue (accepted code) → HasBigonAt code.crossings c d p q
+    ensures { (code : Code) (c d p q : ℕ) → IsTrue (accepted code)
+        → HasBigonAt code.crossings c d p q
         → p < 4 → q < 4 → IsBigonCut code (renumber (without_finger code c d)) c d p q }
 {}
 

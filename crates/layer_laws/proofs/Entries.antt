@@ -14,7 +14,7 @@ use Rattle.kh_types.proofs.Residues.{same-equal, same-mul, same-scaled}
 use Rattle.cell_complexes.specs.Layers.{IsTimesIdentity, Layer, Layers, inner_left, layer_coefficient, layer_of, layers_left}
 use Rattle.cell_complexes.proofs.Members.{sum_by-nothing, sum_by-same}
 use Rattle.layer_laws.specs.Cuts.{IsNothing, IsTimes, same_label}
-use Rattle.layer_laws.proofs.LayerFacts.{inside-state}
+use Rattle.cell_complexes.proofs.LayerCells.{inside-state}
 use Rattle.layer_laws.proofs.Signs.{equal-below, less-nothing, less-something, nothing-times, times-nothing}
 
 same_label-itself : (state label : ℕ) → same_label state label label ≡ 1

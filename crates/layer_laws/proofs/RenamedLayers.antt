@@ -11,7 +11,8 @@ use Rattle.cell_complexes.proofs.AlikeCells.{dimension-alike}
 use Rattle.cell_complexes.proofs.Listings.{listed-flat, listed-named}
 use Rattle.cell_complexes.proofs.NoDoubles.{flat_map-range, map-flat_map, map-map}
 use Rattle.layer_laws.specs.Renamed.{AreRenamed}
-use Rattle.layer_laws.proofs.LayerFacts.{IsCellIn, between-states, cell-in, inside-state, nowhere}
+use Rattle.layer_laws.proofs.LayerFacts.{IsCellIn, between-states, cell-in}
+use Rattle.cell_complexes.proofs.LayerCells.{inside-state, nowhere}
 
 module _ (p : ℕ) (to : ℕ → ℕ) (sign : ℕ → ℕ → ℕ) (first second : Layers) (are : AreRenamed p to sign first second) where
   abbrev pub renamed : Layer → Layer

@@ -6,7 +6,7 @@ use Rattle.kh_types.specs.Residues.{HasInverses, Same}
 use Rattle.kh_types.proofs.Reduced.{minus_mod-added}
 use Rattle.kh_types.proofs.Residues.{same-equal, same-inverse, same-minus, same-mul, same-rest, same-scaled}
 use Rattle.cube_squares.proofs.Signs.{same_parity, signs-product}
-use Rattle.layer_laws.specs.Cuts.{sign_of}
+use Rattle.cell_complexes.specs.Signs.{sign_of_power}
 
 pub less-nothing : (p x s : ℕ) → 0 < p → Same p s 0 → Same p (minus_mod p x s) x
 less-nothing p x s positive none = same-rest p s (minus_mod p x s) x none (minus_mod-added p x s positive)
@@ -26,15 +26,15 @@ pub equal-below : (p a b : ℕ) → Same p a b → a < p → b < p → a ≡ b
 equal-below p a b same a_below b_below = sym (mod-eq_of_lt a_below) ∙ same ∙ mod-eq_of_lt b_below
 
 -- signs
-pub sign-parity : (p a b : ℕ) → a % 2 ≡ b % 2 → sign_of p a ≡ sign_of p b
+pub sign-parity : (p a b : ℕ) → a % 2 ≡ b % 2 → sign_of_power p a ≡ sign_of_power p b
 sign-parity p a b same = same_parity p a b same
 
-pub sign-sum : (p a b : ℕ) → 0 < p → Same p (sign_of p a * sign_of p b) (sign_of p (a + b))
+pub sign-sum : (p a b : ℕ) → 0 < p → Same p (sign_of_power p a * sign_of_power p b) (sign_of_power p (a + b))
 sign-sum p a b positive = signs-product p a b positive
 
-pub sign-squared : (p a : ℕ) → 0 < p → Same p (sign_of p a * sign_of p a) 1
+pub sign-squared : (p a : ℕ) → 0 < p → Same p (sign_of_power p a * sign_of_power p a) 1
 sign-squared p a positive =
-    sign-sum p a a positive ∙ same-equal p (sign_of p (a + a)) 1 (sign-parity p (a + a) 0 (omega arith))
+    sign-sum p a a positive ∙ same-equal p (sign_of_power p (a + a)) 1 (sign-parity p (a + a) 0 (omega arith))
 
 -- a number whose square is 1 is its own inverse
 pub inverse-sign : (p n : ℕ) → HasInverses p → Same p (n * n) 1 → Same p (inverse p (n % p)) n
@@ -43,7 +43,8 @@ inverse-sign p n field square =
     let inv = inverse p m in
     let low : Same p m n = mod-mod n p in
     let one : Same p (m * m) 1 = same-mul p m n m n low low ∙ square in
-    let inverts : Same p (m * inv) 1 = same-inverse p m field (λ none. zero_or_one field.above_one (sym (times-nothing p m m none) ∙ one)) in
+    let inverts : Same p (m * inv) 1 = same-inverse p m field
+    (λ none. zero_or_one field.above_one (sym (times-nothing p m m none) ∙ one)) in
     same-equal p inv (1 * inv) (omega arith)
     ∙ same-mul p 1 (m * m) inv inv (sym one) refl
     ∙ same-equal p (m * m * inv) (m * (m * inv)) (omega arith)
@@ -58,15 +59,15 @@ inverse-sign p n field square =
 
 -- what is taken off by a way of three signs, of which the middle one is the pivot's
 pub way-sign : (p a b c : ℕ) → HasInverses p
-    → Same p ((p - 1) * (sign_of p a * (inverse p (sign_of p b % p) * sign_of p c))) (sign_of p (1 + (a + (b + c))))
+    → Same p ((p - 1) * (sign_of_power p a * (inverse p (sign_of_power p b % p) * sign_of_power p c))) (sign_of_power p (1 + (a + (b + c))))
 way-sign p a b c field =
     let positive : 0 < p = omega (arith, field.above_one) in
-    let x = sign_of p a in
-    let y = sign_of p b in
-    let z = sign_of p c in
+    let x = sign_of_power p a in
+    let y = sign_of_power p b in
+    let z = sign_of_power p c in
     let inv = inverse p (y % p) in
-    same-scaled p (p - 1) (x * (inv * z)) (sign_of p (a + (b + c)))
-    (same-scaled p x (inv * z) (sign_of p (b + c))
+    same-scaled p (p - 1) (x * (inv * z)) (sign_of_power p (a + (b + c)))
+    (same-scaled p x (inv * z) (sign_of_power p (b + c))
     (same-mul p inv y z z (inverse-sign p y field (sign-squared p b positive)) refl ∙ sign-sum p b c positive)
     ∙ sign-sum p a (b + c) positive)
     ∙ sign-sum p 1 (a + (b + c)) positive

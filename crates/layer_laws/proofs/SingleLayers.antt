@@ -9,7 +9,8 @@ use Rattle.cell_complexes.specs.Cells.{AreComplex, dimension_at}
 use Rattle.cell_complexes.specs.Layers.{Layers, cells_of, layer_of}
 use Rattle.cell_complexes.proofs.Listings.{listed-named}
 use Rattle.layer_laws.specs.Renamed.{AreRenamed}
-use Rattle.layer_laws.specs.Cuts.{IsLikeOne, IsNothing, sign_of}
+use Rattle.layer_laws.specs.Cuts.{IsLikeOne, IsNothing}
+use Rattle.cell_complexes.specs.Signs.{sign_of_power}
 use Rattle.layer_laws.proofs.RenamedLayers.{dimension-renamed}
 use Rattle.layer_laws.proofs.Signs.{sign-parity, sign-squared, sign-sum, times-nothing}
 
@@ -35,7 +36,7 @@ module _ (p object r : ℕ) (level : ℕ → ℕ) (layers single : Layers) (inne
   positive = omega (arith, field.above_one)
 
   abbrev sign_there : ℕ → ℕ → ℕ
-  sign_there x state = sign_of p (r * level state)
+  sign_there x state = sign_of_power p (r * level state)
 
   at-object : (P : ℕ → Type 0) → P object → (x : ℕ) → Contains (object ∷ []) x → P x
   at-object P here x has = subst P (sym (one_in x object has)) here
@@ -53,18 +54,18 @@ module _ (p object r : ℕ) (level : ℕ → ℕ) (layers single : Layers) (inne
   outer-signed : (state next label other : ℕ) → state < layers.states → next < layers.states → state ≢ next
       → label < layers.labels object state → other < layers.labels object next
       → Same p (layers.outer object state next label other)
-      (sign_of p (r * level state) * (sign_of p (r * level next) * single.outer 0 state next label other))
+      (sign_of_power p (r * level state) * (sign_of_power p (r * level next) * single.outer 0 state next label other))
   outer-signed state next label other state_below next_below differ label_below other_below =
       let d = single.outer 0 state next label other in
-      let a = sign_of p (r * level state) in
-      let b = sign_of p (r * level next) in
+      let a = sign_of_power p (r * level state) in
+      let b = sign_of_power p (r * level next) in
       like.outer state next label other state_below next_below differ label_below other_below
       ∙ (elim (like.steps state next label other state_below next_below differ label_below other_below) as
-      (λ either. Same p (sign_of p r * d) (a * (b * d))) [
-        | inl none ↦ times-nothing p (sign_of p r) d none ∙ sym (times-nothing p a (b * d) (times-nothing p b d none))
+      (λ either. Same p (sign_of_power p r * d) (a * (b * d))) [
+        | inl none ↦ times-nothing p (sign_of_power p r) d none ∙ sym (times-nothing p a (b * d) (times-nothing p b d none))
         | inr up ↦
-            same-mul p (sign_of p r) (a * b) d d
-            (same-equal p (sign_of p r) (sign_of p (r * level state + r * level next))
+            same-mul p (sign_of_power p r) (a * b) d d
+            (same-equal p (sign_of_power p r) (sign_of_power p (r * level state + r * level next))
             (sign-parity p r (r * level state + r * level next) (sym (next-level (level state) (level next) up)))
             ∙ sym (sign-sum p (r * level state) (r * level next) positive)) refl
             ∙ same-equal p (a * b * d) (a * (b * d)) (regrouped a b d)
@@ -83,10 +84,12 @@ module _ (p object r : ℕ) (level : ℕ → ℕ) (layers single : Layers) (inne
         labels = λ x state has below.
             at-object (λ x. single.labels 0 state ≡ layers.labels x state) (like.labels state below) x has;
         homological = λ x state label has below.
-            at-object (λ x. label < layers.labels x state → single.homological (layer_of 0 state label) ≡ layers.homological (layer_of x state label))
+            at-object (λ x. label < layers.labels x state → single.homological (layer_of 0 state label)
+            ≡ layers.homological (layer_of x state label))
             (λ label_below. like.homological state label below label_below) x has;
         quantum = λ x state label has below.
-            at-object (λ x. label < layers.labels x state → single.quantum (layer_of 0 state label) ≡ layers.quantum (layer_of x state label))
+            at-object (λ x. label < layers.labels x state → single.quantum (layer_of 0 state label)
+            ≡ layers.quantum (layer_of x state label))
             (λ label_below. like.quantum state label below label_below) x has;
         squares = λ x state has below. sign-squared p (r * level state) positive;
         inner = λ x y state label other has_x has_y below label_below other_below.
@@ -107,7 +110,7 @@ module _ (p object r : ℕ) (level : ℕ → ℕ) (layers single : Layers) (inne
         outer = λ x state next label other has below next_below differ.
             at-object (λ x. label < layers.labels x state → other < layers.labels x next
             → Same p (layers.outer x state next label other)
-            (sign_of p (r * level state) * (sign_of p (r * level next) * single.outer 0 state next label other)))
+            (sign_of_power p (r * level state) * (sign_of_power p (r * level next) * single.outer 0 state next label other)))
             (λ label_below other_below. outer-signed state next label other below next_below differ label_below other_below) x has;
       }
 

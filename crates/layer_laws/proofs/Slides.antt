@@ -1,5 +1,5 @@
--- A slide: what two eliminations leave before and after is the same, where the state opposite the closing one and a neighbour of the closing
--- one change their places.
+-- A slide: what two eliminations leave before and after is the same, where the state opposite the closing one and a neighbour of the
+-- closing one change their places.
 use Rattle.std.proofs.Common.{◌≡◌, ◌≢◌, ℕ, ◌+◌, ◌*◌, ◌%◌, ◌<◌, ◌∙◌, ℤ, map, refl, sym, subst, ap, ap₂, arith, Bool, true, false, not, ◌&&◌}
 use Rattle.std.specs.Prelude.{nat_eq, if◌then◌else◌}
 use Rattle.std.specs.List.{Contains, range_with_len}
@@ -14,7 +14,8 @@ use Rattle.cell_complexes.specs.Layers.{Layers, cells_of}
 use Rattle.cell_complexes.proofs.Listings.{listed-later, listed-named}
 use Rattle.cell_complexes.proofs.Members.{Contains-kept}
 use Rattle.layer_laws.specs.Renamed.{AreRenamed}
-use Rattle.layer_laws.specs.Cuts.{IsCut, sign_of}
+use Rattle.layer_laws.specs.Cuts.{IsCut}
+use Rattle.cell_complexes.specs.Signs.{sign_of_power}
 use Rattle.layer_laws.specs.Slid.{AreFiveLeft, IsMeasured, above_of, below_of, is_near, kind_after, kind_before, left_number}
 use Rattle.layer_laws.proofs.RenamedLayers.{dimension-renamed}
 use Rattle.layer_laws.proofs.Reorderings.{listed-reordered}
@@ -24,15 +25,17 @@ use Rattle.layer_laws.proofs.TwoPairs.{ArePairs, complex-left, dimension-left, e
 
 -- a number for an entry or 0, up to the signs of both ends
 signed-number : (p a b c d : ℕ) (joined other : Bool) → 0 < p → joined ≡ other → (joined ≡ true → (a + (b + (c + d))) % 2 ≡ 0)
-    → Same p (if joined then sign_of p a else 0) (sign_of p b * (sign_of p c * (if other then sign_of p d else 0)))
+    → Same p (if joined then sign_of_power p a else 0) (sign_of_power p b * (sign_of_power p c * (if other then sign_of_power p d else 0)))
 signed-number p a b c d true true positive same even =
-    same-equal p (sign_of p a) (sign_of p (b + (c + d))) (sign-parity p a (b + (c + d)) (one_parity a (b + (c + d)) (even refl)))
-    ∙ sym (same-scaled p (sign_of p b) (sign_of p c * sign_of p d) (sign_of p (c + d)) (sign-sum p c d positive)
+    same-equal p (sign_of_power p a) (sign_of_power p (b + (c + d)))
+    (sign-parity p a (b + (c + d)) (one_parity a (b + (c + d)) (even refl)))
+    ∙ sym (same-scaled p (sign_of_power p b) (sign_of_power p c * sign_of_power p d) (sign_of_power p (c + d)) (sign-sum p c d positive)
     ∙ sign-sum p b (c + d) positive)
   where
     one_parity : (x y : ℕ) → (x + y) % 2 ≡ 0 → x % 2 ≡ y % 2
     one_parity x y even = omega (arith, even)
-signed-number p a b c d false false positive same even = same-equal p 0 (sign_of p b * (sign_of p c * 0)) (none (sign_of p b) (sign_of p c))
+signed-number p a b c d false false positive same even = same-equal p 0 (sign_of_power p b * (sign_of_power p c * 0))
+    (none (sign_of_power p b) (sign_of_power p c))
   where
     none : (x y : ℕ) → 0 ≡ x * (y * 0)
     none x y = omega arith
@@ -141,12 +144,12 @@ module _ (p o : ℕ) (count : ℕ → ℕ → ℕ) (saddle : ℕ → ℕ → ℕ
   inner-exchanged : (x y state label other : ℕ) → IsLast o x → IsLast o y → state < first.states → label < first.labels x state
       → other < first.labels y state
       → Same p (left_first.inner x y state label other)
-      (sign_of p (turn_of o x) * (sign_of p (turn_of o y) * left_second.inner (to x) (to y) state label other))
+      (sign_of_power p (turn_of o x) * (sign_of_power p (turn_of o y) * left_second.inner (to x) (to y) state label other))
   inner-exchanged x y state label other x_is y_is below_states label_below other_below =
       let n = left_number p 3 o (above_of o) (below_of o) x y in
       let m = left_number p 3 o (above_of o) (below_of o) (to x) (to y) in
-      let a = sign_of p (turn_of o x) in
-      let b = sign_of p (turn_of o y) in
+      let a = sign_of_power p (turn_of o x) in
+      let b = sign_of_power p (turn_of o y) in
       let g = saddle (kind_before o x) (kind_before o y) state label other in
       let h = saddle (kind_after o (to x)) (kind_after o (to y)) state label other in
       let signs = signed-is o x y above below x_is.within y_is.within x_is.last y_is.last in
@@ -172,9 +175,9 @@ module _ (p o : ℕ) (count : ℕ → ℕ → ℕ) (saddle : ℕ → ℕ → ℕ
   outer-exchanged : (x state next label other : ℕ) → IsLast o x → state < first.states → next < first.states → state ≢ next
       → label < first.labels x state → other < first.labels x next
       → Same p (first.outer x state next label other)
-      (sign_of p (turn_of o x) * (sign_of p (turn_of o x) * second.outer (to x) state next label other))
+      (sign_of_power p (turn_of o x) * (sign_of_power p (turn_of o x) * second.outer (to x) state next label other))
   outer-exchanged x state next label other is below_states next_below differ label_below other_below =
-      let a = sign_of p (turn_of o x) in
+      let a = sign_of_power p (turn_of o x) in
       let e = there x is in
       let d = second.outer (to x) state next label other in
       measured_first.outer x state next label other is.within is.other below_states next_below differ label_below other_below
@@ -199,7 +202,7 @@ module _ (p o : ℕ) (count : ℕ → ℕ → ℕ) (saddle : ℕ → ℕ → ℕ
       listed-later to (λ (x : ℕ). x) (last_objects o) (map to (last_objects o)) (last_objects o) (listed-named to (last_objects o))
       (listed-reordered (map to (last_objects o)) (last_objects o) (listed-exchanged o above below))
 
-  renamed-slide : AreRenamed p to (λ x state. sign_of p (turn_of o x)) left_first left_second
+  renamed-slide : AreRenamed p to (λ x state. sign_of_power p (turn_of o x)) left_first left_second
   renamed-slide =
       record {
         listed = listed-to;
@@ -231,7 +234,7 @@ module _ (p o : ℕ) (count : ℕ → ℕ → ℕ) (saddle : ℕ → ℕ → ℕ
   pub dimension-slide : (i j : ℤ) → dimension_at p (cells_of second) i j ≡ dimension_at p (cells_of first) i j
   dimension-slide i j =
       sym (dimension-left p 3 o (above_of o) (below_of o) (kind_after o) count saddle second field cut_second pairs_second i j)
-      ∙ dimension-renamed p to (λ x state. sign_of p (turn_of o x)) left_first left_second renamed-slide field
+      ∙ dimension-renamed p to (λ x state. sign_of_power p (turn_of o x)) left_first left_second renamed-slide field
       (complex-left p 3 o (above_of o) (below_of o) (kind_before o) count saddle first field cut_first pairs_first)
       (complex-left p 3 o (above_of o) (below_of o) (kind_after o) count saddle second field cut_second pairs_second) i j
       ∙ dimension-left p 3 o (above_of o) (below_of o) (kind_before o) count saddle first field cut_first pairs_first i j

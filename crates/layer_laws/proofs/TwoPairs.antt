@@ -10,7 +10,8 @@ use Rattle.cell_complexes.specs.Cells.{AreComplex, dimension_at}
 use Rattle.cell_complexes.specs.Layers.{IsTimesIdentity, Layers, cells_of, layers_left}
 use Rattle.cell_complexes.proofs.LayerCells.{complex-layers, dimension-layers}
 use Rattle.cell_complexes.proofs.Listings.{listed-same}
-use Rattle.layer_laws.specs.Cuts.{IsCut, IsNothing, IsTimes, cut_objects, is_step, ones_before, same_label, sign_of, step_sign}
+use Rattle.layer_laws.specs.Cuts.{IsCut, IsNothing, IsTimes, cut_objects, is_step, ones_before, same_label, step_sign}
+use Rattle.cell_complexes.specs.Signs.{sign_of_power}
 use Rattle.layer_laws.specs.Slid.{goes_above, goes_below, is_left, left_number, left_objects}
 use Rattle.layer_laws.proofs.Entries.{nothing-kept, times-begins, times-ends, times-identity, times-kept, times-none, times-same}
 use Rattle.layer_laws.proofs.Reorderings.{gone-from, is_in, is_reordered, listed-reordered}
@@ -195,7 +196,7 @@ module _ (p k closing above below : ℕ) (kind : ℕ → ℕ) (count : ℕ → �
           (cut.apart below y are.below_within y_within apart))
     ]
 
-    along-edge : by_step ≡ true → by_above ≡ false → by_below ≡ false → Has (sign_of p (ones_before k x y))
+    along-edge : by_step ≡ true → by_above ≡ false → by_below ≡ false → Has (sign_of_power p (ones_before k x y))
     along-edge edge none none_below =
         times-left x y (step_sign p k x y) given (no-way-second none_below)
         (times-between x y (step_sign p k x y) given (no-way-first none)
@@ -208,7 +209,7 @@ module _ (p k closing above below : ℕ) (kind : ℕ → ℕ) (count : ℕ → �
         (times-none p layers x y given (cut.apart x y x_within y_within no_edge)))
 
     along-above : by_step ≡ false → by_above ≡ true → by_below ≡ false
-        → Has (sign_of p (1 + (ones_before k x above + (ones_before k closing above + ones_before k closing y))))
+        → Has (sign_of_power p (1 + (ones_before k x above + (ones_before k closing above + ones_before k closing y))))
     along-above no_edge way none_below =
         let steps = and_parts (is_step k x above) (is_step k closing y) way in
         let y_kind = are.near_above y y_within steps.1 in
@@ -216,7 +217,7 @@ module _ (p k closing above below : ℕ) (kind : ℕ → ℕ) (count : ℕ → �
         let n = step_sign p k x above in
         let e = step_sign p k closing y in
         let n_left = (p - 1) * (n * (inverse p first_number * e)) in
-        let n_last = sign_of p (1 + (ones_before k x above + (ones_before k closing above + ones_before k closing y))) in
+        let n_last = sign_of_power p (1 + (ones_before k x above + (ones_before k closing above + ones_before k closing y))) in
         times-left x y n_last given (no-way-second none_below)
         (times-same p between x y n_left n_last given
         (way-sign p (ones_before k x above) (ones_before k closing above) (ones_before k closing y) field)
@@ -228,7 +229,7 @@ module _ (p k closing above below : ℕ) (kind : ℕ → ℕ) (count : ℕ → �
         (λ state below_states. labels-kind y closing state y_within are.closing_within y_kind below_states))))
 
     along-below : by_step ≡ false → by_above ≡ false → by_below ≡ true
-        → Has (sign_of p (1 + (ones_before k x closing + (ones_before k below closing + ones_before k below y))))
+        → Has (sign_of_power p (1 + (ones_before k x closing + (ones_before k below closing + ones_before k below y))))
     along-below no_edge none way =
         let steps = and_parts (is_step k x closing) (is_step k below y) way in
         let x_kind = are.near_below x x_within steps.0 in
@@ -236,7 +237,9 @@ module _ (p k closing above below : ℕ) (kind : ℕ → ℕ) (count : ℕ → �
         let e = step_sign p k x closing in
         let n = step_sign p k below y in
         let n_left = (p - 1) * (e * (inverse p second_number * n)) in
-        times-same p left x y n_left (sign_of p (1 + (ones_before k x closing + (ones_before k below closing + ones_before k below y)))) given
+        times-same p left x y n_left (sign_of_power p
+        (1 + (ones_before k x closing + (ones_before k below closing + ones_before k below y))))
+        given
         (way-sign p (ones_before k x closing) (ones_before k below closing) (ones_before k below y) field)
         (subst (λ (m : ℕ). IsTimes p left x y n_left (saddle m (kind y))) (below_kind ∙ sym x_kind)
         (times-begins p between below closed second_number others x y positive second-labels n e (saddle (kind below) (kind y))
@@ -251,7 +254,7 @@ module _ (p k closing above below : ℕ) (kind : ℕ → ℕ) (count : ℕ → �
     abbrev number_by : Bool → Bool → Bool → ℕ
     number_by edge way way_below =
         if edge || (way || way_below)
-        then sign_of p (if edge then ones_before k x y
+        then sign_of_power p (if edge then ones_before k x y
         else if way then 1 + (ones_before k x above + (ones_before k closing above + ones_before k closing y))
         else 1 + (ones_before k x closing + (ones_before k below closing + ones_before k below y)))
         else 0

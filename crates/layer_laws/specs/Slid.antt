@@ -6,7 +6,8 @@ use Rattle.kh_types.specs.Bits.{ones}
 use Rattle.kh_types.specs.Residues.{Same}
 use Rattle.cell_complexes.specs.Cells.{AreComplex, dimension_at}
 use Rattle.cell_complexes.specs.Layers.{Layers, cells_of, layer_of}
-use Rattle.layer_laws.specs.Cuts.{IsTimes, is_step, ones_before, sign_of}
+use Rattle.layer_laws.specs.Cuts.{IsTimes, is_step, ones_before}
+use Rattle.cell_complexes.specs.Signs.{sign_of_power}
 
 -- what is left when the circle's state with v+ goes with a state above it, and a state below it with the circle's state with v-
 abbrev pub is_left : ℕ → ℕ → ℕ → ℕ → Bool
@@ -38,7 +39,7 @@ left_power k closing above below tail head =
 
 abbrev pub left_number : ℕ → ℕ → ℕ → ℕ → ℕ → ℕ → ℕ → ℕ
 left_number p k closing above below tail head =
-    if is_joined k closing above below tail head then sign_of p (left_power k closing above below tail head) else 0
+    if is_joined k closing above below tail head then sign_of_power p (left_power k closing above below tail head) else 0
 
 -- with three inner crossings: a state above the closing one, and a state below it
 abbrev pub above_of : ℕ → ℕ

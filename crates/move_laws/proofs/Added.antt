@@ -52,7 +52,8 @@ same-dimension p code back field holds back_holds same plus i j =
     dimension-renumbered_code p (λ x. x) code back field holds back_holds same plus
     (ap₂ (λ (m n : ℕ). m - n) same.size plus) i j
 
-pub dimension-kinked : (p : ℕ) (code : Code) (a : ℕ) (over positive : Bool) → HasInverses p → IsTrue (accepted code) → IsArc code.crossings a
+pub dimension-kinked : (p : ℕ) (code : Code) (a : ℕ) (over positive : Bool) → HasInverses p → IsTrue (accepted code)
+    → IsArc code.crossings a
     → (i j : ℤ) → dimension p (with_kink over positive a code) i j ≡ dimension p code i j
 dimension-kinked p code a over positive field holds arc i j =
     let new = with_kink over positive a code in

@@ -11,10 +11,11 @@ use Rattle.kh_types.proofs.Residues.{same-equal}
 use Rattle.cell_complexes.specs.Cells.{AreComplex}
 use Rattle.cell_complexes.specs.Layers.{IsTimesIdentity, Layers, cells_of}
 use Rattle.cell_complexes.proofs.NoDoubles.{flat_map-range}
-use Rattle.layer_laws.specs.Cuts.{IsCut, IsNothing, IsTimes, cut_objects, is_step, same_label, sign_of, step_sign}
+use Rattle.layer_laws.specs.Cuts.{IsCut, IsNothing, IsTimes, cut_objects, is_step, same_label, step_sign}
+use Rattle.cell_complexes.specs.Signs.{sign_of_power}
 use Rattle.view_laws.specs.Partitions.{AgreeOn, saddle_number, seen_count}
 use Rattle.view_laws.specs.Views.{HasCircles, IsInnerStep, SeeAlike, View, joint_state, together}
-use Rattle.view_laws.specs.ViewLayers.{closed_of, inside_of, object_of, objects_at, outer_count, relation_of, seen_at, sign_of_power, view_layers, view_objects}
+use Rattle.view_laws.specs.ViewLayers.{closed_of, inside_of, object_of, objects_at, outer_count, relation_of, seen_at, view_layers, view_objects}
 use Rattle.view_laws.proofs.InnerEdges.{inner-none, inner-saddle, merge-identity, split-identity}
 use Rattle.view_laws.proofs.Cells.{object-closed, object-inside}
 use Rattle.view_laws.proofs.Seen.{saddle-alike, seen-alike}
@@ -110,7 +111,8 @@ module _ (p : ℕ) (code : Code) (plus minus : ℕ) (view : View) (closing : ℕ
       → SeeAlike code view (joint_state view t s) code view (joint_state view u s)
   both-seen t u s t_within u_within below same =
       λ x y has_x has_y.
-      seen.seen t s t_within below x y has_x has_y ∙ ap (λ (i : ℕ). relation i s x y) same ∙ sym (seen.seen u s u_within below x y has_x has_y)
+      seen.seen t s t_within below x y has_x has_y ∙ ap (λ (i : ℕ). relation i s x y) same
+      ∙ sym (seen.seen u s u_within below x y has_x has_y)
 
   -- no steps
   nothing-there : (x y t u : ℕ) → inside_of view x ≡ t → inside_of view y ≡ u → is_step k t u ≡ false → IsNothing p layers x y
@@ -126,7 +128,7 @@ module _ (p : ℕ) (code : Code) (plus minus : ℕ) (view : View) (closing : ℕ
 
   -- steps
   sign-found : (t u : ℕ) (found : IsStepFound view t u) → sign_of_power p (ones found.place t) ≡ step_sign p k t u
-  sign-found t u found = ap (λ (n : ℕ). sign_of p n) (sym found.before)
+  sign-found t u found = ap (λ (n : ℕ). sign_of_power p n) (sym found.before)
 
   differs : (a b : ℕ) → IsStepFound view a b → b ≡ a → ⊥
   differs a b found same = omega (arith, found.step.behind, same, pow_pos found.place)
@@ -166,12 +168,15 @@ module _ (p : ℕ) (code : Code) (plus minus : ℕ) (view : View) (closing : ℕ
       let found = step-found view t u t_within is in
       record {
         is = λ s label other below label_below other_below.
-            same-equal p (layers.inner t u s label other) (step_sign p k t u * saddle_by relation view.names (kind t) (kind u) s label other)
+            same-equal p (layers.inner t u s label other)
+            (step_sign p k t u * saddle_by relation view.names (kind t) (kind u) s label other)
             (ap₂ (λ (a b : ℕ). layers.inner a b s label other) (sym (object-open t)) (sym (object-open u))
             ∙ inner-saddle p code plus minus view seen.is circles t u found.place found.step s below (open-none t t_within t_other)
             (open-none u u_within u_other) label other
-            (subst (λ (a : ℕ). label < 2 ^ seen_count (together code view (joint_state view a s)) view.names) (inside-open t t_within) label_below)
-            (subst (λ (a : ℕ). other < 2 ^ seen_count (together code view (joint_state view a s)) view.names) (inside-open u u_within) other_below)
+            (subst (λ (a : ℕ). label < 2 ^ seen_count (together code view (joint_state view a s)) view.names) (inside-open t t_within)
+            label_below)
+            (subst (λ (a : ℕ). other < 2 ^ seen_count (together code view (joint_state view a s)) view.names) (inside-open u u_within)
+            other_below)
             ∙ ap₂ (λ (m d : ℕ). m * d) (sign-found t u found)
             (saddle-alike (together code view (joint_state view t s)) (together code view (joint_state view u s)) (relation (kind t) s)
             (relation (kind u) s) view.names label other (seen.seen t s t_within below) (seen.seen u s u_within below)));

@@ -27,11 +27,11 @@ use Rattle.move_laws.proofs.CutViews.{count_by, cut-view, saddle_by}
 use Rattle.move_laws.proofs.OneObject.{like-one}
 use Rattle.drop_laws.specs.DropSigns.{AreBigonSigns}
 use Rattle.drop_laws.specs.DroppedCubes.{IsBigonCut, bigon_closing, bigon_first, bigon_left, bigon_through, bigon_view}
-use Rattle.drop_laws.specs.DroppedFirst.{first_to}
+use Rattle.view_laws.specs.Fronts.{first_to}
 use Rattle.drop_laws.specs.NamesLeft.{number_left}
 use Rattle.drop_laws.proofs.DroppedMoves.{dimension-bigon_first}
-use Rattle.move_laws.proofs.DroppedKinks.{closes-elsewhere, closes-there}
-use Rattle.move_laws.proofs.Orders.{reordered-length}
+use Rattle.view_laws.proofs.ClosedOne.{closes-elsewhere, closes-there}
+use Rattle.cell_complexes.proofs.Reordered.{reordered-length}
 
 module _ (p : ℕ) (code new : Code) (c d slot other_slot : ℕ) (field : HasInverses p) (holds : IsTrue (accepted code))
     (cut : IsBigonCut code new c d slot other_slot) (signs : AreBigonSigns code new) where
@@ -83,7 +83,8 @@ module _ (p : ℕ) (code new : Code) (c d slot other_slot : ℕ) (field : HasInv
   complex = complex-cut p first view plus minus above circles cut.view (AreComplex-cube p first plus minus above cut.first_accepted)
 
   new_complex : AreComplex p (cells_of single)
-  new_complex = complex-cut p new plain new_plus new_minus above new_circles cut.left (AreComplex-cube p new new_plus new_minus above signs.accepted_too)
+  new_complex = complex-cut p new plain new_plus new_minus above new_circles cut.left
+      (AreComplex-cube p new new_plus new_minus above signs.accepted_too)
 
   size : outer_count first view ≡ length new.crossings
   size =
@@ -124,12 +125,14 @@ module _ (p : ℕ) (code new : Code) (c d slot other_slot : ℕ) (field : HasInv
         λ x y has_x has_y.
         ap (λ (a : ℕ). together first view (joint_state view a s) x y) (fourth ∙ sym through-is)
         ∙ cut.fourth_alike s below x y has_x has_y
-        ∙ ap (λ (b : Bool). if b then together new plain (joint_state plain 0 s) x y else together first view (joint_state view closing s) x y)
+        ∙ ap (λ (b : Bool). if b then together new plain (joint_state plain 0 s) x y else together first view (joint_state view closing s)
+        x y)
         (sym (kind-one t fourth))
     | inr other ↦
         λ x y has_x has_y.
         as-closing t s x y within below other has_x has_y
-        ∙ ap (λ (b : Bool). if b then together new plain (joint_state plain 0 s) x y else together first view (joint_state view closing s) x y)
+        ∙ ap (λ (b : Bool). if b then together new plain (joint_state plain 0 s) x y else together first view (joint_state view closing s)
+        x y)
         (sym (kind-zero t other))
   ]
     where
@@ -194,7 +197,8 @@ module _ (p : ℕ) (code new : Code) (c d slot other_slot : ℕ) (field : HasInv
         let here : length (view.closed 2) ≡ 0 =
         ap (λ (xs : List ℕ). length xs) (closes-elsewhere _ closing 2 (λ same. omega (arith, same, one))) in
         ends i j
-        (bigon-closes_first p (count_by relation view.names) (saddle_by relation view.names) (ones (length new.crossings)) layers single field
+        (bigon-closes_first p (count_by relation view.names) (saddle_by relation view.names) (ones (length new.crossings)) layers single
+        field
         (subst (λ (n : ℕ). IsCut p 2 n (kind_of_bigon n) (count_by relation view.names) (saddle_by relation view.names) layers) one is-cut)
         (like-one p first new plus minus new_plus new_minus view (number_left code (is_of_two c d)) 2 0 (omega arith) (omega (arith, above))
         cut.left new_circles new_complex size (left-alike 2 (omega (arith, one))) (omega (arith, signs.minus))
@@ -204,7 +208,8 @@ module _ (p : ℕ) (code new : Code) (c d slot other_slot : ℕ) (field : HasInv
         let here : length (view.closed 1) ≡ 0 =
         ap (λ (xs : List ℕ). length xs) (closes-elsewhere _ closing 1 (λ same. omega (arith, same, two))) in
         ends i j
-        (bigon-closes_second p (count_by relation view.names) (saddle_by relation view.names) (ones (length new.crossings)) layers single field
+        (bigon-closes_second p (count_by relation view.names) (saddle_by relation view.names) (ones (length new.crossings)) layers single
+        field
         (subst (λ (n : ℕ). IsCut p 2 n (kind_of_bigon n) (count_by relation view.names) (saddle_by relation view.names) layers) two is-cut)
         (like-one p first new plus minus new_plus new_minus view (number_left code (is_of_two c d)) 1 0 (omega arith) (omega (arith, above))
         cut.left new_circles new_complex size (left-alike 1 (omega (arith, two))) (omega (arith, signs.minus))

@@ -2,7 +2,6 @@
 -- is cut, and what is left of it is the code without the kink.
 use Rattle.std.proofs.Common.{◌≡◌, ◌≢◌, ℕ, ◌⊎◌, inl, inr, ◌+◌, ◌*◌, ◌%◌, ◌^◌, ◌<◌, ◌∙◌, ℤ, pos, ◌+ℤ◌, ◌-ℤ◌, List, [], ◌∷◌, length, refl, sym, subst, ap, arith, Bool, true, false, IsTrue}
 use Rattle.std.specs.Prelude.{nat_eq, if◌then◌else◌}
-use Rattle.std.proofs.lemmas.Bool.{eq-eqb, ne_eqb}
 use Rattle.std.proofs.lemmas.Int.{ints}
 use Rattle.kh_types.specs.Acceptance.{accepted}
 use Rattle.kh_types.specs.Bits.{ones}
@@ -25,18 +24,12 @@ use Rattle.move_laws.proofs.CutViews.{count_by, cut-view, saddle_by}
 use Rattle.move_laws.proofs.OneObject.{like-one}
 use Rattle.drop_laws.specs.DropSigns.{AreKinkSigns}
 use Rattle.drop_laws.specs.DroppedCubes.{IsKinkCut, kink_first, kink_left, kink_view}
-use Rattle.drop_laws.specs.DroppedFirst.{closed_one}
 use Rattle.drop_laws.specs.NamesLeft.{number_left}
 use Rattle.drop_laws.proofs.DroppedMoves.{dimension-kink_first}
-use Rattle.move_laws.proofs.Orders.{reordered-length}
+use Rattle.cell_complexes.proofs.Reordered.{reordered-length}
+use Rattle.view_laws.proofs.ClosedOne.{closes-there, closes-elsewhere}
 
 -- one circle closes at one inner state
-pub closes-there : (side closing : ℕ) → closed_one side closing closing ≡ side ∷ []
-closes-there side closing = ap (λ (b : Bool). if b then side ∷ [] else []) (eq-eqb closing closing refl)
-
-pub closes-elsewhere : (side closing t : ℕ) → t ≢ closing → closed_one side closing t ≡ []
-closes-elsewhere side closing t differ = ap (λ (b : Bool). if b then side ∷ [] else []) (ne_eqb t closing differ)
-
 -- which smoothing closes
 which : (slot : ℕ) → ((closing_at slot ≡ 0) × (through_at slot ≡ 1)) ⊎ ((closing_at slot ≡ 1) × (through_at slot ≡ 0))
 which slot = by (nat_eq (slot % 2) 0)
@@ -94,7 +87,8 @@ module _ (p : ℕ) (code new : Code) (c slot : ℕ) (field : HasInverses p) (hol
   complex = complex-cut p first view plus minus above circles cut.view (AreComplex-cube p first plus minus above cut.first_accepted)
 
   new_complex : AreComplex p (cells_of single)
-  new_complex = complex-cut p new plain new_plus new_minus above new_circles cut.left (AreComplex-cube p new new_plus new_minus above signs.accepted_too)
+  new_complex = complex-cut p new plain new_plus new_minus above new_circles cut.left
+      (AreComplex-cube p new new_plus new_minus above signs.accepted_too)
 
   size : outer_count first view ≡ length new.crossings
   size = omega (arith, reordered-length code.crossings first.crossings cut.order, cut.size)
@@ -132,7 +126,8 @@ module _ (p : ℕ) (code new : Code) (c slot : ℕ) (field : HasInverses p) (hol
         let here : length (view.closed 0) ≡ 1 =
         ap (λ (n : ℕ). length (view.closed n)) (sym zero.0) ∙ ap (λ (xs : List ℕ). length xs) (closes-there _ closing) in
         ends i j
-        (kink-closes_first p (count_by relation view.names) (saddle_by relation view.names) (ones (length new.crossings)) layers single field
+        (kink-closes_first p (count_by relation view.names) (saddle_by relation view.names) (ones (length new.crossings)) layers single
+        field
         (subst (λ (n : ℕ). IsCut p 1 n (λ t. 0) (count_by relation view.names) (saddle_by relation view.names) layers) zero.0 is-cut)
         (like-one p first new plus minus new_plus new_minus view (number_left code (nat_eq c)) 0 1 (omega arith) (omega (arith, above))
         cut.left new_circles new_complex size (λ s below. cut.alike 0 s (omega arith) below) (omega (arith, signs.minus, zero.0))
@@ -142,7 +137,8 @@ module _ (p : ℕ) (code new : Code) (c slot : ℕ) (field : HasInverses p) (hol
         let here : length (view.closed 1) ≡ 1 =
         ap (λ (n : ℕ). length (view.closed n)) (sym one.0) ∙ ap (λ (xs : List ℕ). length xs) (closes-there _ closing) in
         ends i j
-        (kink-closes_second p (count_by relation view.names) (saddle_by relation view.names) (ones (length new.crossings)) layers single field
+        (kink-closes_second p (count_by relation view.names) (saddle_by relation view.names) (ones (length new.crossings)) layers single
+        field
         (subst (λ (n : ℕ). IsCut p 1 n (λ t. 0) (count_by relation view.names) (saddle_by relation view.names) layers) one.0 is-cut)
         (like-one p first new plus minus new_plus new_minus view (number_left code (nat_eq c)) 1 0 (omega arith) (omega (arith, above))
         cut.left new_circles new_complex size (λ s below. cut.alike 1 s (omega arith) below) (omega (arith, signs.minus, one.0))

@@ -2,7 +2,6 @@ pub mod Steps
 pub mod CutViews
 pub mod Measured
 pub mod OneObject
-pub mod Orders
 pub mod DroppedKinks
 pub mod DroppedBigons
 pub mod SlidMoves

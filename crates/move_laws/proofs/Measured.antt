@@ -51,7 +51,8 @@ module _ (p : ℕ) (code : Code) (plus minus : ℕ) (view : View) (closing : ℕ
             ap (λ (m : ℕ). pos (m + ones n s) -ℤ pos minus) (ones-inside t below);
         quantum = λ t s label below other s_below label_below.
             let within = inner-below t below in
-            let count = count-inside p code plus minus view closing kind relation seen circles above complex t t s (inside-is t below) within
+            let count = count-inside p code plus minus view closing kind relation seen circles above complex t t s (inside-is t below)
+            within
             s_below in
             ap₂ (λ (c d : ℕ). (degree_of_labels c d +ℤ degree_of_labels (seen_at code view t s) label)
             +ℤ (pos (ones view.inner (inside_of view t) + ones n s + plus) -ℤ pos (2 * minus)))
@@ -63,7 +64,8 @@ module _ (p : ℕ) (code : Code) (plus minus : ℕ) (view : View) (closing : ℕ
             let within = inner-below t below in
             let see = seen-inside p code plus minus view closing kind relation seen circles above complex t t in
             same-equal p (layers.outer t s next label other) (between_by p relation view.names n (ones 3 t) (kind t) s next label other)
-            (outer-alike p n (ones view.inner (inside_of view t)) (ones 3 t) (relation_of code view t) (relation (kind t)) view.names s next label
+            (outer-alike p n (ones view.inner (inside_of view t)) (ones 3 t) (relation_of code view t) (relation (kind t)) view.names s
+            next label
             other (ap (λ (m : ℕ). m % 2) (ones-inside t below)) (see s (inside-is t below) within s_below)
             (see next (inside-is t below) within next_below));
       }

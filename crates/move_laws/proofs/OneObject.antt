@@ -13,7 +13,8 @@ use Rattle.cube_squares.proofs.Signs.{ones-set_below}
 use Rattle.cell_complexes.specs.Cells.{AreComplex}
 use Rattle.cell_complexes.specs.Layers.{Layers, cells_of}
 use Rattle.cell_complexes.proofs.Members.{sum_by-same}
-use Rattle.layer_laws.specs.Cuts.{IsLikeOne, sign_of}
+use Rattle.layer_laws.specs.Cuts.{IsLikeOne}
+use Rattle.cell_complexes.specs.Signs.{sign_of_power}
 use Rattle.layer_laws.proofs.Signs.{sign-sum}
 use Rattle.view_laws.specs.Partitions.{saddle_number}
 use Rattle.view_laws.specs.Views.{HasCircles, IsView, SeeAlike, View, joint_state, plain_view}
@@ -26,32 +27,35 @@ use Rattle.view_laws.proofs.Steps.{outer-some}
 
 -- ones inside turn the sign of all numbers along outer steps
 outer-turned : (p count r : ℕ) (relation : ℕ → ℕ → ℕ → Bool) (names : List ℕ) (s t label other : ℕ) → 0 < p
-    → Same p (outer_number p count r relation names s t label other) (sign_of p r * outer_number p count 0 relation names s t label other)
+    → Same p (outer_number p count r relation names s t label other)
+    (sign_of_power p r * outer_number p count 0 relation names s t label other)
 outer-turned p count r relation names s t label other positive =
-    sum_by-same p (outer_along p r relation names s t label other) (λ place. sign_of p r * outer_along p 0 relation names s t label other place)
+    sum_by-same p (outer_along p r relation names s t label other)
+    (λ place. sign_of_power p r * outer_along p 0 relation names s t label other place)
     (range_with_len 0 count)
     (λ place has. by place (nat_eq (bit s place) 0 && nat_eq t (s + 2 ^ place)))
-    ∙ same-equal p (sum_by (λ place. sign_of p r * outer_along p 0 relation names s t label other place) (range_with_len 0 count))
-    (sign_of p r * outer_number p count 0 relation names s t label other)
-    (sum_by-times (outer_along p 0 relation names s t label other) (sign_of p r) (range_with_len 0 count))
+    ∙ same-equal p (sum_by (λ place. sign_of_power p r * outer_along p 0 relation names s t label other place) (range_with_len 0 count))
+    (sign_of_power p r * outer_number p count 0 relation names s t label other)
+    (sum_by-times (outer_along p 0 relation names s t label other) (sign_of_power p r) (range_with_len 0 count))
   where
     zero-sum : (n : ℕ) → 0 + n ≡ n
     zero-sum n = omega arith
 
     by : (place : ℕ) (b : Bool)
-        → Same p (if b then sign_of p (r + ones place s) * saddle_number (relation s) (relation t) names label other else 0)
-        (sign_of p r * (if b then sign_of p (0 + ones place s) * saddle_number (relation s) (relation t) names label other else 0))
+        → Same p (if b then sign_of_power p (r + ones place s) * saddle_number (relation s) (relation t) names label other else 0)
+        (sign_of_power p r * (if b then sign_of_power p (0 + ones place s) * saddle_number (relation s) (relation t) names label other
+        else 0))
     by place true =
         let d = saddle_number (relation s) (relation t) names label other in
-        let a = sign_of p r in
-        let b = sign_of p (ones place s) in
-        same-mul p (sign_of p (r + ones place s)) (a * b) d d (sym (sign-sum p r (ones place s) positive)) refl
-        ∙ same-equal p (a * b * d) (a * (sign_of p (0 + ones place s) * d))
-        (regrouped a b d ∙ ap (λ (n : ℕ). a * (sign_of p n * d)) (sym (zero-sum (ones place s))))
+        let a = sign_of_power p r in
+        let b = sign_of_power p (ones place s) in
+        same-mul p (sign_of_power p (r + ones place s)) (a * b) d d (sym (sign-sum p r (ones place s) positive)) refl
+        ∙ same-equal p (a * b * d) (a * (sign_of_power p (0 + ones place s) * d))
+        (regrouped a b d ∙ ap (λ (n : ℕ). a * (sign_of_power p n * d)) (sym (zero-sum (ones place s))))
       where
         regrouped : (a b d : ℕ) → a * b * d ≡ a * (b * d)
         regrouped a b d = omega arith
-    by place false = same-equal p 0 (sign_of p r * 0) (never (sign_of p r))
+    by place false = same-equal p 0 (sign_of_power p r * 0) (never (sign_of_power p r))
       where
         never : (a : ℕ) → 0 ≡ a * 0
         never a = omega arith
@@ -114,7 +118,8 @@ module _ (p : ℕ) (code new : Code) (plus minus new_plus new_minus : ℕ) (view
         states = ap (λ (m : ℕ). 2 ^ m) same-count;
         labels = λ s below. ap (λ (m : ℕ). 2 ^ m) (sym (counts s below));
         homological = λ s label below label_below.
-            heights (ones (outer_count new plain) s) (ones (outer_count code view) s) (ones view.inner (inside_of view object)) (ones view.inner t)
+            heights (ones (outer_count new plain) s) (ones (outer_count code view) s) (ones view.inner (inside_of view object))
+            (ones view.inner t)
             (ap (λ (m : ℕ). ones m s) same-count) (ap (ones view.inner) inside) minus_is;
         quantum = λ s label below label_below.
             weights (degree_of_labels (seen_at new plain 0 s) label) (degree_of_labels (seen_at code view object s) label)
@@ -132,7 +137,8 @@ module _ (p : ℕ) (code new : Code) (plus minus new_plus new_minus : ℕ) (view
         outer = λ s next label other below next_below differ label_below other_below.
             same-equal p (layers.outer object s next label other)
             (outer_number p (outer_count new plain) (ones view.inner t) (relation_of new plain 0) view.names s next label other)
-            (outer-alike p (outer_count code view) (ones view.inner (inside_of view object)) (ones view.inner t) (relation_of code view object)
+            (outer-alike p (outer_count code view) (ones view.inner (inside_of view object)) (ones view.inner t)
+            (relation_of code view object)
             (relation_of new plain 0) view.names s next label other (ap (λ (a : ℕ). ones view.inner a % 2) inside) (see s below)
             (see next next_below)
             ∙ ap (λ (m : ℕ). outer_number p m (ones view.inner t) (relation_of new plain 0) view.names s next label other) (sym same-count))

@@ -49,7 +49,8 @@ by-kinds code view closing kind relation is three below closed near sees =
     }
 
 module _ (p : ℕ) (first second : Code) (first_view second_view : View) (closing plus minus : ℕ) (field : HasInverses p)
-    (seen : IsSeenSlide first second first_view second_view closing) (holds : IsTrue (accepted first)) (holds_second : IsTrue (accepted second))
+    (seen : IsSeenSlide first second first_view second_view closing) (holds : IsTrue (accepted first))
+    (holds_second : IsTrue (accepted second))
   where
     abbrev relation : ℕ → ℕ → ℕ → ℕ → Bool
     relation kind s = together first first_view (kind + 8 * s)
@@ -74,7 +75,8 @@ module _ (p : ℕ) (first second : Code) (first_view second_view : View) (closin
 
     complex_second : AreComplex p (cells_of layers_second)
     complex_second =
-        complex-cut p second second_view plus minus above circles_second seen.second_is (AreComplex-cube p second plus minus above holds_second)
+        complex-cut p second second_view plus minus above circles_second seen.second_is
+        (AreComplex-cube p second plus minus above holds_second)
 
     before : IsSeenBy first first_view closing (kind_before closing) relation
     before =
@@ -101,19 +103,23 @@ module _ (p : ℕ) (first second : Code) (first_view second_view : View) (closin
     -- both are cut
     cut : IsCut p 3 closing (kind_before closing) (count_by relation names) (saddle_by relation names) layers
     cut =
-        subst (λ (k : ℕ). IsCut p k closing (kind_before closing) (count_by relation names) (saddle_by relation names) layers) seen.first_inner
+        subst (λ (k : ℕ). IsCut p k closing (kind_before closing) (count_by relation names) (saddle_by relation names) layers)
+        seen.first_inner
         (cut-view p first plus minus first_view closing (kind_before closing) relation before circles above complex)
 
     cut-second : IsCut p 3 closing (kind_after closing) (count_by relation names) (saddle_by relation names) layers_second
     cut-second =
-        subst (λ (xs : List ℕ). IsCut p 3 closing (kind_after closing) (count_by relation xs) (saddle_by relation xs) layers_second) seen.names
-        (subst (λ (k : ℕ). IsCut p k closing (kind_after closing) (count_by relation second_view.names) (saddle_by relation second_view.names)
+        subst (λ (xs : List ℕ). IsCut p 3 closing (kind_after closing) (count_by relation xs) (saddle_by relation xs) layers_second)
+        seen.names
+        (subst (λ (k : ℕ). IsCut p k closing (kind_after closing) (count_by relation second_view.names)
+        (saddle_by relation second_view.names)
         layers_second) seen.second_inner
         (cut-view p second plus minus second_view closing (kind_after closing) relation after circles_second above complex_second))
 
     measured : IsMeasured p closing (kind_before closing) (height_by minus n) (weight_by plus minus relation names n)
         (between_by p relation names n) layers
-    measured = measured-view p first plus minus first_view closing (kind_before closing) relation before circles above complex seen.first_inner
+    measured = measured-view p first plus minus first_view closing (kind_before closing) relation before circles above complex
+        seen.first_inner
 
     measured-second : IsMeasured p closing (kind_after closing) (height_by minus n) (weight_by plus minus relation names n)
         (between_by p relation names n) layers_second
@@ -125,15 +131,18 @@ module _ (p : ℕ) (first second : Code) (first_view second_view : View) (closin
         (measured-view p second plus minus second_view closing (kind_after closing) relation after circles_second above complex_second
         seen.second_inner))
 
-    pub dimension-seen_slide : (i j : ℤ) → dimension_at p (cube_of p second plus minus) i j ≡ dimension_at p (cube_of p first plus minus) i j
+    pub dimension-seen_slide : (i j : ℤ) → dimension_at p (cube_of p second plus minus) i j
+        ≡ dimension_at p (cube_of p first plus minus) i j
     dimension-seen_slide i j =
         sym (dimension-cut p second second_view plus minus field circles_second seen.second_is i j)
-        ∙ dimension-slide p closing (count_by relation names) (saddle_by relation names) (height_by minus n) (weight_by plus minus relation names n)
+        ∙ dimension-slide p closing (count_by relation names) (saddle_by relation names) (height_by minus n)
+        (weight_by plus minus relation names n)
         (between_by p relation names n) layers layers_second field seen.some seen.not_all (ap (λ (m : ℕ). 2 ^ m) same-outer) cut measured
         cut-second measured-second i j
         ∙ dimension-cut p first first_view plus minus field circles seen.first_is i j
 
-pub dimension-slid : (p : ℕ) (code new : Code) → HasInverses p → HasSeenSlide code new → (i j : ℤ) → dimension p new i j ≡ dimension p code i j
+pub dimension-slid : (p : ℕ) (code new : Code) → HasInverses p → HasSeenSlide code new → (i j : ℤ) → dimension p new i j
+    ≡ dimension p code i j
 dimension-slid p code new field slide i j =
     let plus = plus_count code.crossings in
     let minus = minus_count code.crossings in

@@ -5,6 +5,7 @@ ghost use Rattle.kh_types.specs.Acceptance.{accepted};
 ghost use Rattle.kh_types.specs.Code.{Code};
 ghost use Rattle.kh_types.specs.Residues.{HasInverses};
 ghost use Rattle.kh_types.specs.Table.{dimension, table};
+ghost use Rattle.prime_field.specs.Residues.{IsSmallPrime};
 ghost use Rattle.cell_complexes.specs.Cells.{AreComplex};
 ghost use Rattle.cell_complexes.specs.Layers.{cells_of};
 ghost use Rattle.diagram_moves.specs.Moved.{moved};
@@ -27,11 +28,15 @@ pub fn views_are_cut()
 {}
 
 /// Every Reidemeister move keeps all dimensions of homology, and so the table, over each field of p
-/// elements (Khovanov 2000, theorem 1; Bar-Natan 2002, section 3.5).
+/// elements; so over the four fields of the program (Khovanov 2000, theorem 1; Bar-Natan 2002,
+/// section 3.5). That moves keep the unnormalised Jones polynomial is said by `apply_move` of
+/// `diagram_moves`.
 pub fn moves_keep_homology()
     ensures dimensions { (p : ℕ) (code new : Code) (change : Move) → HasInverses p
         → IsTrue (accepted code) → moved code change ≡ Ok new
         → (i j : ℤ) → dimension p new i j ≡ dimension p code i j }
     ensures table { (p : ℕ) (code new : Code) (change : Move) → HasInverses p
+        → IsTrue (accepted code) → moved code change ≡ Ok new → table p new ≡ table p code }
+    ensures fields { (p : ℕ) (code new : Code) (change : Move) → IsSmallPrime p
         → IsTrue (accepted code) → moved code change ≡ Ok new → table p new ≡ table p code }
 {}

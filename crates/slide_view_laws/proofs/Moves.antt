@@ -1,6 +1,6 @@
 -- A slide that is made is a slid code under other numbers.
 use Rattle.std.proofs.Common.{◌≡◌, ℕ, ◌+◌, ◌-◌, ◌∙◌, length, refl, sym, ap, ap₂, subst, arith, true, IsTrue}
-use Rattle.std.specs.Prelude.{Option, Some, None, Result, Ok, Err, unwrap_or}
+use Rattle.std.specs.Prelude.{Option, Ok, unwrap_or}
 use Rattle.std.specs.List.{count_by, range_with_len}
 use Rattle.kh_types.specs.Acceptance.{accepted}
 use Rattle.kh_types.specs.Code.{Code}
@@ -17,27 +17,18 @@ use Rattle.slides.proofs.Sides.{HasSides-triangle}
 use Rattle.slides.proofs.SlidArcs.{HasArcsTwice-slid}
 use Rattle.slides.proofs.SlidTriangle.{inside_arcs, IsSlid-slid}
 use Rattle.diagram_moves.specs.declared.change.Move.TheVariants.{Slide}
-use Rattle.diagram_moves.specs.declared.fault.MoveFault.{MoveFault}
 use Rattle.diagram_moves.specs.Kept.{IsKeptCode, slid_parts}
-use Rattle.diagram_moves.specs.Moved.{answered, moved, slid_at, slid_from}
+use Rattle.diagram_moves.specs.Moved.{moved, slid_at, slid_from}
 use Rattle.diagram_moves.specs.MoveFaults.{slide_fault}
 use Rattle.diagram_moves.proofs.SlideLemmas.{IsPlaced-none}
 use Rattle.diagram_moves.proofs.SlidCodes.{ArePaired-slid, IsKept-slid}
 use Rattle.slide_view_laws.specs.SlidMoves.{IsSlidFrom}
 use Rattle.slide_view_laws.proofs.Renumbering.{IsRenumberedOnto-alike}
+use Rattle.diagram_moves.proofs.BackAgain.{answered-ok}
 
--- an answer that is a code comes without a fault
-code_or : Code → Result Code MoveFault → Code
-code_or other (Ok code) = code
-code_or other (Err fault) = other
-
-answered-code : (fault : Option MoveFault) (code new : Code) → answered fault code ≡ Ok new → (fault ≡ None) × (code ≡ new)
-unfolding code_or
-answered-code None code new same = (refl, ap (code_or code) same)
-answered-code (Some fault) code new same = absurd (grind (arith, same))
-
--- what keeps all crossings with their signs keeps the numbers of signs
-plus-kept_all : (old new : Code) → IsKeptCode old new (λ place. place) (length old.crossings) → plus_count new.crossings ≡ plus_count old.crossings
+-- what keeps all crossings with their signs keeps the numbers of signs (as in diagram_moves)
+plus-kept_all : (old new : Code) → IsKeptCode old new (λ place. place) (length old.crossings) → plus_count new.crossings
+    ≡ plus_count old.crossings
 plus-kept_all old new is =
     let e : 0 + 1 ≡ 1 = omega arith in
     ap (λ n. count_by (is_positive new.crossings) (range_with_len 1 n)) is.size
@@ -81,7 +72,7 @@ pub IsSlidFrom-moved : (code new : Code) (first second third : ℕ) → IsTrue (
     → IsSlidFrom code new
 unfolding moved
 IsSlidFrom-moved code new first second third holds same =
-    let answer = answered-code (slide_fault code first second third) (slid_at code first second third) new same in
+    let answer = answered-ok (slide_fault code first second third) (slid_at code first second third) new same in
     let can = IsPlaced-none code first second third answer.0 in
     let x = dart_at_slot first can.slot in
     let y = step code.crossings x in

@@ -101,7 +101,8 @@ module _ (n : ℕ) (arcs : ℕ → ℕ) (outer inside : List (ℕ × ℕ)) (is :
       ]
 
   -- where the function has one value at the ends of each inside class, and respects the outer pairs, so do these values
-  whole_value-respects : Respects w outer → ((i j : ℕ) → i < 7 → j < 7 → inside_class inside i ≡ inside_class inside j → w (arcs i) ≡ w (arcs j))
+  whole_value-respects : Respects w outer → ((i j : ℕ) → i < 7 → j < 7 → inside_class inside i ≡ inside_class inside j → w (arcs i)
+      ≡ w (arcs j))
       → Respects whole_value (outer ++ renamed arcs inside)
   unfolding seen
   whole_value-respects outer_respects ends =
@@ -123,7 +124,8 @@ module _ (n : ℕ) (arcs : ℕ → ℕ) (outer inside : List (ℕ × ℕ)) (is :
       (Respects-through 10 c (λ i. whole_value (arcs i)) seen inside is.below through (classes-together 10 inside is.below)))
 
   -- so numbers that the whole joins have one value
-  whole_value-same : Respects w outer → ((i j : ℕ) → i < 7 → j < 7 → inside_class inside i ≡ inside_class inside j → w (arcs i) ≡ w (arcs j))
+  whole_value-same : Respects w outer → ((i j : ℕ) → i < 7 → j < 7 → inside_class inside i ≡ inside_class inside j → w (arcs i)
+      ≡ w (arcs j))
       → (x y : ℕ) → x < n → y < n → whole_class n arcs outer inside x ≡ whole_class n arcs outer inside y → whole_value x ≡ whole_value y
   whole_value-same outer_respects ends x y =
       classes-finest whole_value n (outer ++ renamed arcs inside) (whole_value-respects outer_respects ends)

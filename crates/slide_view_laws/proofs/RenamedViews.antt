@@ -7,11 +7,10 @@ use Rattle.kh_types.specs.CircleNumbers.{IsName}
 use Rattle.kh_types.proofs.Lists.{Contains-map}
 use Rattle.cell_complexes.proofs.Members.{Contains-made}
 use Rattle.gluing.specs.Codes.{name_count}
-use Rattle.view_laws.specs.Views.{View, IsView, SeeAlike, circle_at, closed_at}
+use Rattle.view_laws.specs.Views.{View, IsView, SeeAlike, circle_at, closed_at, AreTogether}
 use Rattle.slide_view_laws.specs.RenamedViews.{renamed_view, IsRenumberedOnto}
-use Rattle.slide_view_laws.specs.Together.{AreTogether}
-use Rattle.slide_view_laws.proofs.Renumbering.{JoinAlike-circles}
-use Rattle.slide_view_laws.proofs.Views.{same-tests}
+use Rattle.view_laws.proofs.Renumbered.{circles-back, circles-forth, onto}
+use Rattle.view_laws.proofs.Tests.{same-tests}
 
 module _ (f : ℕ → ℕ) (old new : Code) (view : View) (is : IsRenumberedOnto f old new) where
   abbrev after : View
@@ -27,12 +26,10 @@ module _ (f : ℕ → ℕ) (old new : Code) (view : View) (is : IsRenumberedOnto
   name-below x here = omega (arith, here.within)
 
   onward : (state x y : ℕ) → IsName old x → IsName old y → AreTogether old state x y → AreTogether new state (f x) (f y)
-  onward state x y x_is y_is =
-      (JoinAlike-circles f old new is.renumbered is.holds state x y (name-below x x_is) (name-below y y_is)).0
+  onward state x y x_is y_is = circles-forth f old new is.renumbered is.holds state x y (name-below x x_is) (name-below y y_is)
 
   back : (state x y : ℕ) → IsName old x → IsName old y → AreTogether new state (f x) (f y) → AreTogether old state x y
-  back state x y x_is y_is =
-      (JoinAlike-circles f old new is.renumbered is.holds state x y (name-below x x_is) (name-below y y_is)).1
+  back state x y x_is y_is = circles-back f old new is.renumbered is.holds state x y (name-below x x_is) (name-below y y_is)
 
   new-name : (x : ℕ) → IsName old x → IsName new (f x)
   new-name x here =
@@ -57,9 +54,11 @@ module _ (f : ℕ → ℕ) (old new : Code) (view : View) (is : IsRenumberedOnto
         subst (λ (k : ℕ). IsName new k) made.2 (new-name made.0 (is_view.closed_arcs inside made.0 below made.1));
     few = λ inside below. subst (λ (k : ℕ). k ≤ 1) (sym (length-map (view.closed inside) f)) (is_view.few inside below);
     shows = λ state arc below here.
-        let x = is.back arc in
-        let x_is = is.back_name arc here in
-        let whole = is.back_is arc here in
+        let found = onto (name_count old) f is.renumbered.below is.renumbered.apart arc (omega (arith, here.within, size, loops)) in
+        let x = found.0 in
+        let whole = found.2 in
+        let some : found.0 ≢ 0 = λ none. omega (arith, here.positive, sym found.2 ∙ ap f none ∙ is.zero_kept) in
+        let x_is : IsName old found.0 = record { positive = omega (arith, some); within = omega (arith, found.1) } in
         let old_below : state < 2 ^ length old.crossings = subst (λ (n : ℕ). state < 2 ^ n) size below in
         elim (is_view.shows state x old_below x_is) [
           | inl (name, has, same) ↦ inl

@@ -13,12 +13,13 @@ use Rattle.gluing.specs.SlidCodes.{HasTriangle}
 use Rattle.gluing.proofs.OutsidePairs.{outside_at, outside_of}
 use Rattle.gluing.proofs.CodeCircles.{smoothing_by-same}
 use Rattle.gluing.proofs.SlidCodes.{one_of_three, flat_map-same, all_outside, AtInside, circles_at}
-use Rattle.slide_view_laws.specs.Together.{AreTogether, AreSeenAlike}
+use Rattle.slide_view_laws.specs.Together.{AreJoinedAlike}
+use Rattle.view_laws.specs.Views.{AreTogether}
 use Rattle.slide_view_laws.specs.Triangles.{IsStateAt, SidesClose, SidesShow}
 use Rattle.slide_view_laws.proofs.Relations.{IsInside, whole_class, inside_class, whole-joined, whole-onward, whole-closed}
 use Rattle.slide_view_laws.proofs.TableFacts.{IsClosedBy, classes-joined}
 
--- what the other crossings join depends on them and their bits alone
+-- what the other crossings join depends on them and their bits alone (as in gluing)
 outside_of-same : (xs ys : List (List ℕ)) (c d e first second : ℕ) → length xs ≡ length ys
     → ((k slot : ℕ) → k < length xs → slot < 4 → k ≢ c → k ≢ d → k ≢ e → arc_in (get_or xs k []) slot ≡ arc_in (get_or ys k []) slot)
     → ((k : ℕ) → k ≢ c → k ≢ d → k ≢ e → bit first k ≡ bit second k)
@@ -63,7 +64,8 @@ module _ (code : Code) (t0 t1 t2 : List ℕ) (arcs : ℕ → ℕ) (n c d e close
       (AtInside-state n c d e base state inner at) (has.closes.below inner inner_below))
 
   -- inside numbers that are joined inside are on one circle
-  pub together-inside : (i j : ℕ) → i < 10 → j < 10 → inside_class (smoothings_of (t0 ∷ t1 ∷ t2 ∷ []) inner) i ≡ inside_class (smoothings_of (t0 ∷ t1 ∷ t2 ∷ []) inner) j
+  pub together-inside : (i j : ℕ) → i < 10 → j < 10 → inside_class (smoothings_of (t0 ∷ t1 ∷ t2 ∷ []) inner) i
+      ≡ inside_class (smoothings_of (t0 ∷ t1 ∷ t2 ∷ []) inner) j
       → AreTogether code state (arcs i) (arcs j)
   together-inside i j i_below j_below same =
       circle-inside (arcs i) ∙ whole-joined (name_count code) arcs outer inside IsInside-code i j i_below j_below same
@@ -106,7 +108,7 @@ module _ (first : Code) (t0 t1 t2 : List ℕ) (second : Code) (u0 u1 u2 : List �
 
   pub AreSeenAlike-codes : (base state inner other other_inner : ℕ) → inner < 8 → other_inner < 8
       → IsStateAt n c d e base state inner → IsStateAt n c d e base other other_inner
-      → ends_joined (t0 ∷ t1 ∷ t2 ∷ []) inner ≡ ends_joined (u0 ∷ u1 ∷ u2 ∷ []) other_inner → AreSeenAlike arcs first state second other
+      → ends_joined (t0 ∷ t1 ∷ t2 ∷ []) inner ≡ ends_joined (u0 ∷ u1 ∷ u2 ∷ []) other_inner → AreJoinedAlike arcs first state second other
   AreSeenAlike-codes base state inner other other_inner inner_below other_below at at_too joined =
       let inside = smoothings_of (t0 ∷ t1 ∷ t2 ∷ []) inner in
       let inside_too = smoothings_of (u0 ∷ u1 ∷ u2 ∷ []) other_inner in
@@ -116,7 +118,8 @@ module _ (first : Code) (t0 t1 t2 : List ℕ) (second : Code) (u0 u1 u2 : List �
       outside_of-same second.crossings first.crossings c d e other state size
       (λ k slot below slot_below not_c not_d not_e. others k slot (omega (arith, below, size)) slot_below not_c not_d not_e)
       (λ k not_c not_d not_e. at_too.others k not_c not_d not_e ∙ sym (at.others k not_c not_d not_e)) in
-      let is_too : IsInside (name_count first) arcs (outside_of first.crossings c d e state) (smoothings_of (u0 ∷ u1 ∷ u2 ∷ []) other_inner) =
+      let is_too : IsInside (name_count first) arcs (outside_of first.crossings c d e state)
+      (smoothings_of (u0 ∷ u1 ∷ u2 ∷ []) other_inner) =
       subst (λ (k : ℕ). IsInside k arcs (outside_of first.crossings c d e state) (smoothings_of (u0 ∷ u1 ∷ u2 ∷ []) other_inner)) names
       (subst (λ (ps : List (ℕ × ℕ)). IsInside (name_count second) arcs ps (smoothings_of (u0 ∷ u1 ∷ u2 ∷ []) other_inner)) same_outer
       (IsInside-code second u0 u1 u2 arcs n c d e other_closed has_too base other other_inner other_below at_too)) in

@@ -15,7 +15,7 @@ use Rattle.slide_view_laws.specs.SeenSlides.{HasSeenSlide, IsInOrder}
 use Rattle.slide_view_laws.specs.SlidMoves.{IsSlidFrom, new_number}
 use Rattle.slide_view_laws.specs.SlideViews.{slide_view, three_first}
 use Rattle.slide_view_laws.specs.Triangles.{closing}
-use Rattle.slide_view_laws.proofs.Fronts.{IsRenumberedOnto-three, IsSlid-three, accepted-three, dimension-three, length-three}
+use Rattle.slide_view_laws.proofs.FrontTriangles.{IsRenumberedOnto-three, IsSlid-three, accepted-three, dimension-three, length-three}
 use Rattle.slide_view_laws.proofs.Moves.{IsSlidFrom-moved}
 use Rattle.slide_view_laws.proofs.RenamedViews.{IsView-renamed, SeeAlike-renamed}
 use Rattle.slide_view_laws.proofs.SlideFacts.{IsView-old, IsView-new, see-kind_before, see-kind_after, view-same}
@@ -97,7 +97,8 @@ HasSeenSlide-from code new holds is =
       };
     }
 
-pub HasSeenSlide-moved : (code new : Code) (first second third : ℕ) → IsTrue (accepted code) → moved code (Slide first second third) ≡ Ok new
+pub HasSeenSlide-moved : (code new : Code) (first second third : ℕ) → IsTrue (accepted code) → moved code (Slide first second third)
+    ≡ Ok new
     → HasSeenSlide code new
 HasSeenSlide-moved code new first second third holds same =
     HasSeenSlide-from code new holds (IsSlidFrom-moved code new first second third holds same)

@@ -16,12 +16,13 @@ use Rattle.slides.proofs.SlidArcs.{arc_of-at}
 use Rattle.slides.proofs.SlidTriangle.{arc_at-there}
 use Rattle.view_laws.specs.Views.{View, IsView, SeeAlike}
 use Rattle.layer_laws.specs.Slid.{kind_before, kind_after}
-use Rattle.slide_view_laws.specs.Together.{AreSeenAlike}
+use Rattle.slide_view_laws.specs.Together.{AreJoinedAlike}
 use Rattle.slide_view_laws.specs.Triangles.{closing, across, changed_at, IsStateAt, SidesClose, SidesShow}
-use Rattle.slide_view_laws.specs.SlideViews.{is_side, sides_at, slide_view}
+use Rattle.slide_view_laws.specs.SlideViews.{is_side, slide_view}
 use Rattle.slide_view_laws.proofs.TableFacts.{SlideTurns, SlideTurns-table, HasKinds-table}
 use Rattle.slide_view_laws.proofs.SeenCircles.{HasClosing, SidesClose-code, SidesShow-code, AreSeenAlike-codes}
 use Rattle.slide_view_laws.proofs.Views.{IsStateAt-first, IsView-triangle, SeeAlike-seen}
+use Rattle.view_laws.specs.Fronts.{closed_one}
 
 -- states are below 8
 
@@ -132,12 +133,14 @@ module _ (old new : Code) (c d e p q r : ℕ) (arcs : ℕ → ℕ) (slid : IsSli
       (slice_index_or (triangle_after p q r) 2 []) arcs n c d e (closing p q r) HasClosing-new base state (closing p q r)
       (closing-below p q r) at refl
 
-  pub show-old : (n base state inner : ℕ) → inner < 8 → inner ≢ closing p q r → IsStateAt n c d e base state inner → SidesShow old arcs state
+  pub show-old : (n base state inner : ℕ) → inner < 8 → inner ≢ closing p q r → IsStateAt n c d e base state inner
+      → SidesShow old arcs state
   show-old n base state inner below differs at =
       SidesShow-code old (slice_index_or (triangle_before p q r) 0 []) (slice_index_or (triangle_before p q r) 1 [])
       (slice_index_or (triangle_before p q r) 2 []) arcs n c d e (closing p q r) HasClosing-old base state inner below at differs
 
-  pub show-new : (n base state inner : ℕ) → inner < 8 → inner ≢ closing p q r → IsStateAt n c d e base state inner → SidesShow new arcs state
+  pub show-new : (n base state inner : ℕ) → inner < 8 → inner ≢ closing p q r → IsStateAt n c d e base state inner
+      → SidesShow new arcs state
   show-new n base state inner below differs at =
       SidesShow-code new (slice_index_or (triangle_after p q r) 0 []) (slice_index_or (triangle_after p q r) 1 [])
       (slice_index_or (triangle_after p q r) 2 []) arcs n c d e (closing p q r) HasClosing-new base state inner below at differs
@@ -146,7 +149,8 @@ module _ (old new : Code) (c d e p q r : ℕ) (arcs : ℕ → ℕ) (slid : IsSli
 
   old-old : (n base state inner other other_inner : ℕ) → inner < 8 → other_inner < 8 → IsStateAt n c d e base state inner
       → IsStateAt n c d e base other other_inner
-      → ends_joined (triangle_before p q r) inner ≡ ends_joined (triangle_before p q r) other_inner → AreSeenAlike arcs old state old other
+      → ends_joined (triangle_before p q r) inner ≡ ends_joined (triangle_before p q r) other_inner
+      → AreJoinedAlike arcs old state old other
   old-old n base state inner other other_inner below other_below at at_too joined =
       AreSeenAlike-codes old (slice_index_or (triangle_before p q r) 0 []) (slice_index_or (triangle_before p q r) 1 [])
       (slice_index_or (triangle_before p q r) 2 []) old (slice_index_or (triangle_before p q r) 0 [])
@@ -156,7 +160,7 @@ module _ (old new : Code) (c d e p q r : ℕ) (arcs : ℕ → ℕ) (slid : IsSli
 
   new-new : (n base state inner other other_inner : ℕ) → inner < 8 → other_inner < 8 → IsStateAt n c d e base state inner
       → IsStateAt n c d e base other other_inner
-      → ends_joined (triangle_after p q r) inner ≡ ends_joined (triangle_after p q r) other_inner → AreSeenAlike arcs new state new other
+      → ends_joined (triangle_after p q r) inner ≡ ends_joined (triangle_after p q r) other_inner → AreJoinedAlike arcs new state new other
   new-new n base state inner other other_inner below other_below at at_too joined =
       AreSeenAlike-codes new (slice_index_or (triangle_after p q r) 0 []) (slice_index_or (triangle_after p q r) 1 [])
       (slice_index_or (triangle_after p q r) 2 []) new (slice_index_or (triangle_after p q r) 0 [])
@@ -166,7 +170,7 @@ module _ (old new : Code) (c d e p q r : ℕ) (arcs : ℕ → ℕ) (slid : IsSli
 
   old-new : (n base state inner other other_inner : ℕ) → inner < 8 → other_inner < 8 → IsStateAt n c d e base state inner
       → IsStateAt n c d e base other other_inner
-      → ends_joined (triangle_before p q r) inner ≡ ends_joined (triangle_after p q r) other_inner → AreSeenAlike arcs old state new other
+      → ends_joined (triangle_before p q r) inner ≡ ends_joined (triangle_after p q r) other_inner → AreJoinedAlike arcs old state new other
   old-new n base state inner other other_inner below other_below at at_too joined =
       AreSeenAlike-codes old (slice_index_or (triangle_before p q r) 0 []) (slice_index_or (triangle_before p q r) 1 [])
       (slice_index_or (triangle_before p q r) 2 []) new (slice_index_or (triangle_after p q r) 0 [])
@@ -176,42 +180,44 @@ module _ (old new : Code) (c d e p q r : ℕ) (arcs : ℕ → ℕ) (slid : IsSli
       base state inner other other_inner below other_below at at_too joined
 
   pub neighbours-old : (n base state other place : ℕ) → place < 3 → IsStateAt n c d e base state (changed_at place (closing p q r))
-      → IsStateAt n c d e base other (closing p q r) → AreSeenAlike arcs old state old other
+      → IsStateAt n c d e base other (closing p q r) → AreJoinedAlike arcs old state old other
   neighbours-old n base state other place below at at_too =
       old-old n base state (changed_at place (closing p q r)) other (closing p q r)
-      (changed-below place (closing p q r) below (closing-below p q r)) (closing-below p q r) at at_too (turns.before.neighbours place below)
+      (changed-below place (closing p q r) below (closing-below p q r)) (closing-below p q r) at at_too
+      (turns.before.neighbours place below)
 
   pub neighbours-new : (n base state other place : ℕ) → place < 3 → IsStateAt n c d e base state (changed_at place (closing p q r))
-      → IsStateAt n c d e base other (closing p q r) → AreSeenAlike arcs new state new other
+      → IsStateAt n c d e base other (closing p q r) → AreJoinedAlike arcs new state new other
   neighbours-new n base state other place below at at_too =
       new-new n base state (changed_at place (closing p q r)) other (closing p q r)
       (changed-below place (closing p q r) below (closing-below p q r)) (closing-below p q r) at at_too (turns.after.neighbours place below)
 
   pub across-old : (n base state other : ℕ) → IsStateAt n c d e base state (across p q r)
-      → IsStateAt n c d e base other (closing p q r) → AreSeenAlike arcs old state new other
+      → IsStateAt n c d e base other (closing p q r) → AreJoinedAlike arcs old state new other
   across-old n base state other at at_too =
       old-new n base state (across p q r) other (closing p q r) (across-below p q r) (closing-below p q r) at at_too turns.before_across
 
   pub across-new : (n base state other : ℕ) → IsStateAt n c d e base state (closing p q r)
-      → IsStateAt n c d e base other (across p q r) → AreSeenAlike arcs old state new other
+      → IsStateAt n c d e base other (across p q r) → AreJoinedAlike arcs old state new other
   across-new n base state other at at_too =
-      old-new n base state (closing p q r) other (across p q r) (closing-below p q r) (across-below p q r) at at_too (sym turns.after_across)
+      old-new n base state (closing p q r) other (across p q r) (closing-below p q r) (across-below p q r) at at_too
+      (sym turns.after_across)
 
   pub middle-both : (n base state other place : ℕ) → place < 3 → IsStateAt n c d e base state (changed_at place (across p q r))
-      → IsStateAt n c d e base other (changed_at place (across p q r)) → AreSeenAlike arcs old state new other
+      → IsStateAt n c d e base other (changed_at place (across p q r)) → AreJoinedAlike arcs old state new other
   middle-both n base state other place below at at_too =
       old-new n base state (changed_at place (across p q r)) other (changed_at place (across p q r))
       (changed-below place (across p q r) below (across-below p q r)) (changed-below place (across p q r) below (across-below p q r))
       at at_too (turns.middle place below)
 
   pub kinds-old : (n base state inner other : ℕ) → inner < 8 → IsStateAt n c d e base state inner
-      → IsStateAt n c d e base other (kind_before (closing p q r) inner) → AreSeenAlike arcs old state old other
+      → IsStateAt n c d e base other (kind_before (closing p q r) inner) → AreJoinedAlike arcs old state old other
   kinds-old n base state inner other below at at_too =
       let kinds = HasKinds-table p q r inner slid.p_below slid.q_below slid.r_below below in
       old-old n base state inner other (kind_before (closing p q r) inner) below kinds.before_below at at_too kinds.before
 
   pub kinds-new : (n base state inner other : ℕ) → inner < 8 → IsStateAt n c d e base state (kind_after (closing p q r) inner)
-      → IsStateAt n c d e base other inner → AreSeenAlike arcs old state new other
+      → IsStateAt n c d e base other inner → AreJoinedAlike arcs old state new other
   kinds-new n base state inner other below at at_too =
       let kinds = HasKinds-table p q r inner slid.p_below slid.q_below slid.r_below below in
       old-new n base state (kind_after (closing p q r) inner) other inner kinds.after_below below at at_too kinds.after
@@ -238,7 +244,7 @@ module _ (old new : Code) (p q r : ℕ) (arcs : ℕ → ℕ) (slid : IsSlid old 
         inner = 3;
         names = filter (λ x. not (is_side arcs x)) (range_with_len 1 (2 * count + loops));
         arc = λ x. x;
-        closed = sides_at arcs (closing p q r);
+        closed = closed_one (arcs 7) (closing p q r);
       } in
       ap₂ view slid.size slid.loops
 
@@ -251,7 +257,8 @@ module _ (old new : Code) (p q r : ℕ) (arcs : ℕ → ℕ) (slid : IsSlid old 
       → SeeAlike old (slide_view old arcs (closing p q r)) (changed_at place (closing p q r) + 8 * outside)
       old (slide_view old arcs (closing p q r)) (closing p q r + 8 * outside)
   see-before outside place below =
-      SeeAlike-seen old old arcs (closing p q r) (closing p q r) (changed_at place (closing p q r) + 8 * outside) (closing p q r + 8 * outside)
+      SeeAlike-seen old old arcs (closing p q r) (closing p q r) (changed_at place (closing p q r) + 8 * outside)
+      (closing p q r + 8 * outside)
       (neighbours-old old new 0 1 2 p q r arcs slid 3 (8 * outside) (changed_at place (closing p q r) + 8 * outside)
       (closing p q r + 8 * outside) place below
       (at (changed_at place (closing p q r)) outside (changed-below place (closing p q r) below (closing-below p q r)))
@@ -261,7 +268,8 @@ module _ (old new : Code) (p q r : ℕ) (arcs : ℕ → ℕ) (slid : IsSlid old 
       → SeeAlike new (slide_view new arcs (closing p q r)) (changed_at place (closing p q r) + 8 * outside)
       new (slide_view new arcs (closing p q r)) (closing p q r + 8 * outside)
   see-after outside place below =
-      SeeAlike-seen new new arcs (closing p q r) (closing p q r) (changed_at place (closing p q r) + 8 * outside) (closing p q r + 8 * outside)
+      SeeAlike-seen new new arcs (closing p q r) (closing p q r) (changed_at place (closing p q r) + 8 * outside)
+      (closing p q r + 8 * outside)
       (neighbours-new old new 0 1 2 p q r arcs slid 3 (8 * outside) (changed_at place (closing p q r) + 8 * outside)
       (closing p q r + 8 * outside) place below
       (at (changed_at place (closing p q r)) outside (changed-below place (closing p q r) below (closing-below p q r)))

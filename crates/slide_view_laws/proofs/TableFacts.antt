@@ -35,6 +35,7 @@ pub record SlideTurns (p q r : ℕ) : Type 0 where
       → ends_joined (triangle_before p q r) (changed_at place (across p q r))
       ≡ ends_joined (triangle_after p q r) (changed_at place (across p q r))
 
+-- pairs that pass the test of being below a number are (as in gluing)
 AreBelow-from : (n : ℕ) (pairs : List (ℕ × ℕ)) → are_below n pairs ≡ true → AreBelow n pairs
 AreBelow-from n [] all = tt
 AreBelow-from n (pair ∷ pairs) all =
@@ -54,7 +55,8 @@ IsClosedBy-table : (crossings : List (List ℕ)) (closed : ℕ) → is_closed_by
 IsClosedBy-table crossings closed table =
     let at_state = λ (state : ℕ). is_inside_at crossings state && (nat_eq state closed || shows_at crossings state) in
     let at_place = λ (place : ℕ). join_alike crossings (changed_at place closed) crossings closed in
-    let first = and_parts (closes_at crossings closed) (list_all at_state (range_with_len 0 8) && list_all at_place (range_with_len 0 3)) table in
+    let first = and_parts (closes_at crossings closed) (list_all at_state (range_with_len 0 8) && list_all at_place (range_with_len 0 3))
+    table in
     let second = and_parts (list_all at_state (range_with_len 0 8)) (list_all at_place (range_with_len 0 3)) first.1 in
     let here = λ (state : ℕ) (below : state < 8).
     and_parts (is_inside_at crossings state) (nat_eq state closed || shows_at crossings state)
@@ -119,7 +121,7 @@ closing-mixed p q r p_below q_below r_below slidable =
     other_true true b either is = either
     other_true false b either is = absurd (grind (arith, is))
 
--- ends that are joined alike are in equal classes, and so is the number 0
+-- ends that are joined alike are in equal classes, and so is the number 0 (as in gluing)
 pub classes-joined : (crossings others : List (List ℕ)) (state other : ℕ) → AreBelow 10 (smoothings_of crossings state)
     → AreBelow 10 (smoothings_of others other) → ends_joined crossings state ≡ ends_joined others other
     → (i : ℕ) → i < 7 → inside_class (smoothings_of crossings state) i ≡ inside_class (smoothings_of others other) i
@@ -161,7 +163,8 @@ HasKinds-table p q r state p_below q_below r_below below =
     let after = triangle_after p q r in
     let kind = kind_before (closing p q r) state in
     let kind_too = kind_after (closing p q r) state in
-    let here = list_all-at (has_kinds_at p q r) 0 8 state (has_kinds-all p q r p_below q_below r_below) (omega arith) (omega (arith, below)) in
+    let here = list_all-at (has_kinds_at p q r) 0 8 state (has_kinds-all p q r p_below q_below r_below) (omega arith)
+    (omega (arith, below)) in
     let ranges = nat_lt kind 8 && nat_lt kind_too 8 in
     let one = and_parts (join_alike before state before kind) (join_alike before kind_too after state && ranges) here in
     let two = and_parts (join_alike before kind_too after state) ranges one.1 in

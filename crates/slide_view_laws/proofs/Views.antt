@@ -1,55 +1,32 @@
 -- The views of both codes of a slide.
 use Rattle.std.proofs.lemmas.Bool.Decides.{nat_tests}
-use Rattle.std.proofs.Common.{◌≡◌, ◌≢◌, ℕ, zero, suc, ◌⊎◌, inl, inr, ◌+◌, ◌-◌, ◌*◌, ◌/◌, ◌%◌, ◌<◌, ◌≤◌, ◌∙◌, List, [], ◌∷◌, length, refl, sym, ap, subst, arith, Bool, true, false, not, ◌||◌, cond}
+use Rattle.std.proofs.Common.{◌≡◌, ◌≢◌, ℕ, zero, suc, ◌⊎◌, inl, inr, ◌+◌, ◌-◌, ◌*◌, ◌/◌, ◌%◌, ◌<◌, ◌≤◌, ◌∙◌, List, [], ◌∷◌, refl, sym, ap, subst, arith, true, not, ◌||◌}
 use Rattle.std.specs.Prelude.{nat_eq}
-use Rattle.std.specs.List.{Contains, filter, range_with_len}
-use Rattle.std.proofs.lemmas.Bool.{cases_eq, eq-eqb, eqb-true}
-use Rattle.std.proofs.lemmas.List.FromFn.{length-range_with_len, get_or-range_with_len}
+use Rattle.std.specs.List.{Contains}
+use Rattle.std.proofs.lemmas.Bool.{cases_eq}
 use Rattle.std.proofs.lemmas.Nat.Bits.{bit_at-suc, bit_at_lowest}
 use Rattle.kh_types.specs.Bits.{bit}
 use Rattle.kh_types.specs.Code.{Code, arcs_and_loops, arc_count}
 use Rattle.kh_types.specs.CircleNumbers.{IsName}
 use Rattle.kh_types.proofs.Lists.{Contains-filter}
-use Rattle.cell_complexes.specs.Alike.{HasNoDoubles}
 use Rattle.cell_complexes.proofs.Members.{Contains-kept}
-use Rattle.cell_complexes.proofs.NoDoubles.{first-new, once-first, once-later, once-range}
+use Rattle.cell_complexes.proofs.NoDoubles.{once-range, once-filter}
 use Rattle.gluing.specs.Codes.{name_count}
 use Rattle.gluing.specs.Slides.{IsPlacedTriangle, IsNoSide}
-use Rattle.view_laws.specs.Views.{IsView, SeeAlike, circle_at}
-use Rattle.slide_view_laws.specs.Together.{AreTogether, IsSeen, AreSeenAlike}
+use Rattle.view_laws.specs.Views.{IsView, SeeAlike, circle_at, AreTogether}
+use Rattle.slide_view_laws.specs.Together.{IsSeen, AreJoinedAlike}
 use Rattle.slide_view_laws.specs.Triangles.{IsStateAt, SidesClose, SidesShow}
-use Rattle.slide_view_laws.specs.SlideViews.{is_side, names_but_sides, sides_at, slide_view}
+use Rattle.slide_view_laws.specs.SlideViews.{is_side, names_but_sides, slide_view}
 use Rattle.slide_view_laws.proofs.Values.{side_is}
 use Rattle.slide_view_laws.proofs.SeenCircles.{HasClosing, SidesClose-code, SidesShow-code}
-
--- lists
-
-contains-range : (a n x : ℕ) → a ≤ x → x < a + n → Contains (range_with_len a n) x
-contains-range a n x from below = (
-  x - a,
-  omega (arith, length-range_with_len a n, from, below),
-  get_or-range_with_len a n (x - a) x (omega (arith, from, below)) ∙ omega (arith, from),
-)
-
-range-within : (a n x : ℕ) → Contains (range_with_len a n) x → (a ≤ x) × (x < a + n)
-range-within a n x (k, below, is) =
-    let within : k < n = omega (arith, below, length-range_with_len a n) in
-    let at = get_or-range_with_len a n k x within in
-    (omega (arith, at, is), omega (arith, at, is, within))
-
-once-filter : (p : ℕ → Bool) (xs : List ℕ) → HasNoDoubles xs → HasNoDoubles (filter p xs)
-once-filter p [] once = λ k l d less below. absurd (omega (arith, below))
-once-filter p (x ∷ xs) once =
-    by (p x) (λ has. first-new x xs once (Contains-kept p xs x has).0) (once-filter p xs (once-later x xs once))
-  where
-    by : (b : Bool) → (Contains (filter p xs) x → ⊥) → HasNoDoubles (filter p xs) → HasNoDoubles (cond b (x ∷ filter p xs) (filter p xs))
-    by true new rest = once-first x (filter p xs) new rest
-    by false new rest = rest
+use Rattle.view_laws.proofs.ClosedOne.{closed-is, closed-there, closed-few}
+use Rattle.view_laws.proofs.Tests.{same-tests, range-within, within-range}
 
 -- sides
 
 no_side-test : (arcs : ℕ → ℕ) (x : ℕ) → IsNoSide arcs x → not (is_side arcs x) ≡ true
-no_side-test arcs x out = three x (arcs 7) (arcs 8) (arcs 9) (out 7 (omega arith) (omega arith)) (out 8 (omega arith) (omega arith)) (out 9 (omega arith) (omega arith))
+no_side-test arcs x out = three x (arcs 7) (arcs 8) (arcs 9) (out 7 (omega arith) (omega arith)) (out 8 (omega arith) (omega arith))
+    (out 9 (omega arith) (omega arith))
   where
     three : (x a b c : ℕ) → x ≢ a → x ≢ b → x ≢ c → not (nat_eq x a || (nat_eq x b || nat_eq x c)) ≡ true
     three x a b c not_a not_b not_c = grind (arith, nat_tests)
@@ -92,35 +69,14 @@ name-seen : (code : Code) (arcs : ℕ → ℕ) (x : ℕ) → Contains (names_but
 name-seen code arcs x has =
     let kept = Contains-kept (λ z. not (is_side arcs z)) (arcs_and_loops code) x has in
     let within = range-within 1 (arc_count code.crossings + code.loops) x kept.0 in (
-      record { positive = within.0; within = omega (arith, within.1) },
-      record { below = omega (arith, within.1); no_side = test-no_side arcs x kept.1 },
+      record { positive = within.above; within = omega (arith, within.below) },
+      record { below = omega (arith, within.below); no_side = test-no_side arcs x kept.1 },
     )
 
 seen-name : (code : Code) (arcs : ℕ → ℕ) (x : ℕ) → IsName code x → IsNoSide arcs x → Contains (names_but_sides code arcs) x
 seen-name code arcs x is out =
     Contains-filter (λ z. not (is_side arcs z)) (arcs_and_loops code) x (no_side-test arcs x out)
-    (contains-range 1 (arc_count code.crossings + code.loops) x is.positive (omega (arith, is.within)))
-
--- what closes
-
-closed-is : (arcs : ℕ → ℕ) (closed inner z : ℕ) → Contains (sides_at arcs closed inner) z → (inner ≡ closed) × (z ≡ arcs 7)
-closed-is arcs closed inner z has = by (nat_eq inner closed) refl has
-  where
-    by : (b : Bool) → nat_eq inner closed ≡ b → Contains (cond b (arcs 7 ∷ []) []) z → (inner ≡ closed) × (z ≡ arcs 7)
-    by true test (zero, below, is) = (eqb-true inner closed test, sym is)
-    by true test (suc k, below, is) = absurd (omega (arith, below))
-    by false test (k, below, is) = absurd (omega (arith, below))
-
-closed-there : (arcs : ℕ → ℕ) (closed inner : ℕ) → inner ≡ closed → Contains (sides_at arcs closed inner) (arcs 7)
-closed-there arcs closed inner is =
-    subst (λ (b : Bool). Contains (cond b (arcs 7 ∷ []) []) (arcs 7)) (sym (eq-eqb inner closed is)) (0, omega arith, refl)
-
-closed-few : (arcs : ℕ → ℕ) (closed inner : ℕ) → length (sides_at arcs closed inner) ≤ 1
-closed-few arcs closed inner = by (nat_eq inner closed)
-  where
-    by : (b : Bool) → length (cond b (arcs 7 ∷ []) []) ≤ 1
-    by true = omega arith
-    by false = omega arith
+    (within-range 1 (arc_count code.crossings + code.loops) x is.positive (omega (arith, is.within)))
 
 -- the states of the first three crossings
 
@@ -221,14 +177,14 @@ module _ (code : Code) (t0 t1 t2 : List ℕ) (arcs : ℕ → ℕ) (closed : ℕ)
     once = once-filter (λ x. not (is_side arcs x)) (arcs_and_loops code) (once-range 1 (arc_count code.crossings + code.loops));
     arcs = λ x has_x. (name-seen code arcs x has_x).0;
     closed_arcs = λ inner z below has_z.
-        subst (λ (k : ℕ). IsName code k) (sym (closed-is arcs closed inner z has_z).1) side-name;
-    few = λ inner below. closed-few arcs closed inner;
+        subst (λ (k : ℕ). IsName code k) (sym (closed-is (arcs 7) closed inner z has_z).1) side-name;
+    few = λ inner below. closed-few (arcs 7) closed inner;
     shows = λ state arc below is_name. elim (no_side_or_side arcs arc) [
       | inl out ↦ inl (arc, seen-name code arcs arc is_name out, refl)
       | inr (side, from, side_below, is) ↦ elim (cases_eq (state % 8) closed) [
         | inl closes ↦ inr (
           arcs 7,
-          closed-there arcs closed (state % 8) closes,
+          closed-there (arcs 7) closed (state % 8) closes,
           side-together state (closes-at state closes) side from side_below ∙ ap (circle_at code state) (sym is),
         )
         | inr differs ↦
@@ -241,15 +197,13 @@ module _ (code : Code) (t0 t1 t2 : List ℕ) (arcs : ℕ → ℕ) (closed : ℕ)
       ]
     ];
     apart = λ state z x below has_z has_x same.
-        let at = closed-is arcs closed (state % 8) z has_z in
+        let at = closed-is (arcs 7) closed (state % 8) z has_z in
         (closes-at state at.0).alone x (name-seen code arcs x has_x).1 (sym same ∙ ap (circle_at code state) at.1);
   }
 
-pub same-tests : (x y z w : ℕ) → (x ≡ y → z ≡ w) → (z ≡ w → x ≡ y) → nat_eq x y ≡ nat_eq z w
-same-tests x y z w onward back = grind (arith, nat_tests)
-
 -- states that are seen alike
-pub SeeAlike-seen : (first second : Code) (arcs : ℕ → ℕ) (closed other_closed state other : ℕ) → AreSeenAlike arcs first state second other
+pub SeeAlike-seen : (first second : Code) (arcs : ℕ → ℕ) (closed other_closed state other : ℕ)
+    → AreJoinedAlike arcs first state second other
     → SeeAlike first (slide_view first arcs closed) state second (slide_view second arcs other_closed) other
 SeeAlike-seen first second arcs closed other_closed state other alike x y has_x has_y =
     let x_seen = (name-seen first arcs x has_x).1 in

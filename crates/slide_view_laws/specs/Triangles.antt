@@ -2,7 +2,8 @@
 use Rattle.std.specs.Prelude.{◌≡◌, ◌≢◌, ℕ, ◌+◌, ◌-◌, ◌*◌, ◌%◌, ◌^◌, ◌<◌, ◌≤◌, nat_eq, if◌then◌else◌}
 use Rattle.kh_types.specs.Bits.{bit, ones}
 use Rattle.kh_types.specs.Code.{Code}
-use Rattle.slide_view_laws.specs.Together.{AreTogether, IsSeen}
+use Rattle.slide_view_laws.specs.Together.{IsSeen}
+use Rattle.view_laws.specs.Views.{AreTogether}
 
 -- the state of the three crossings at which the sides close: at each the smoothing that joins its two sides
 abbrev pub closing : ℕ → ℕ → ℕ → ℕ

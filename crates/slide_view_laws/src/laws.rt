@@ -13,8 +13,8 @@ ghost use Rattle.gluing.specs.Slides.{is_slidable};
 ghost use Rattle.diagram_moves.specs.Moved.{moved};
 ghost use Rattle.diagram_moves.specs.declared.change.Move.TheVariants.{Slide};
 ghost use Rattle.layer_laws.specs.Slid.{kind_after, kind_before};
-ghost use Rattle.view_laws.specs.Views.{IsView, SeeAlike, View};
-ghost use Rattle.slide_view_laws.specs.Together.{AreSeenAlike, AreTogether};
+ghost use Rattle.view_laws.specs.Views.{IsView, SeeAlike, View, AreTogether};
+ghost use Rattle.slide_view_laws.specs.Together.{AreJoinedAlike};
 ghost use Rattle.slide_view_laws.specs.Triangles.{across, changed_at, closing, IsStateAt, SidesClose, SidesShow};
 ghost use Rattle.slide_view_laws.specs.SlideViews.{slide_view, three_first};
 ghost use Rattle.slide_view_laws.specs.RenamedViews.{IsRenumberedOnto, renamed_view};
@@ -49,28 +49,29 @@ pub fn slides_turn_the_triangle()
     ensures before { (old new : Code) (c d e p q r n base state other place : ℕ) (arcs : ℕ → ℕ)
         → IsSlid old new c d e p q r arcs → place < 3
         → IsStateAt n c d e base state (changed_at place (closing p q r))
-        → IsStateAt n c d e base other (closing p q r) → AreSeenAlike arcs old state old other }
+        → IsStateAt n c d e base other (closing p q r) → AreJoinedAlike arcs old state old other }
     ensures after { (old new : Code) (c d e p q r n base state other place : ℕ) (arcs : ℕ → ℕ)
         → IsSlid old new c d e p q r arcs → place < 3
         → IsStateAt n c d e base state (changed_at place (closing p q r))
-        → IsStateAt n c d e base other (closing p q r) → AreSeenAlike arcs new state new other }
+        → IsStateAt n c d e base other (closing p q r) → AreJoinedAlike arcs new state new other }
     ensures across_before { (old new : Code) (c d e p q r n base state other : ℕ) (arcs : ℕ → ℕ)
         → IsSlid old new c d e p q r arcs → IsStateAt n c d e base state (across p q r)
-        → IsStateAt n c d e base other (closing p q r) → AreSeenAlike arcs old state new other }
+        → IsStateAt n c d e base other (closing p q r) → AreJoinedAlike arcs old state new other }
     ensures across_after { (old new : Code) (c d e p q r n base state other : ℕ) (arcs : ℕ → ℕ)
         → IsSlid old new c d e p q r arcs → IsStateAt n c d e base state (closing p q r)
-        → IsStateAt n c d e base other (across p q r) → AreSeenAlike arcs old state new other }
+        → IsStateAt n c d e base other (across p q r) → AreJoinedAlike arcs old state new other }
     ensures middle { (old new : Code) (c d e p q r n base state other place : ℕ) (arcs : ℕ → ℕ)
         → IsSlid old new c d e p q r arcs → place < 3
         → IsStateAt n c d e base state (changed_at place (across p q r))
         → IsStateAt n c d e base other (changed_at place (across p q r))
-        → AreSeenAlike arcs old state new other }
+        → AreJoinedAlike arcs old state new other }
 {}
 
 /// A slide stays one when its three crossings are brought to the front in both codes; and so do
 /// the dimensions of the cube, and that the code is accepted.
 pub fn slides_come_to_the_front()
-    ensures slid { (old new : Code) (c d e p q r : ℕ) (arcs : ℕ → ℕ) → IsSlid old new c d e p q r arcs
+    ensures slid { (old new : Code) (c d e p q r : ℕ) (arcs : ℕ → ℕ)
+        → IsSlid old new c d e p q r arcs
         → IsSlid (listed_by old (three_first c d e old.crossings))
         (listed_by new (three_first c d e new.crossings)) 0 1 2 p q r arcs }
     ensures old_cube { (old new : Code) (c d e p q r field plus minus : ℕ) (arcs : ℕ → ℕ)
@@ -125,9 +126,9 @@ pub fn slides_see_alike()
         * outside) }
 {}
 
-/// By kinds: the closing state and its neighbours have one kind, and each other state its own; after
-/// the slide the closing state and its neighbours have the kind that the state across had, and this
-/// theirs. What a state sees of either code, the old code sees at the state of its kind.
+/// By kinds: the closing state and its neighbours have one kind, and each other state its own;
+/// after the slide the closing state and its neighbours have the kind that the state across had,
+/// and this theirs. What a state sees of either code, the old code sees at the state of its kind.
 pub fn slides_have_kinds()
     ensures before { (old new : Code) (p q r outside inner : ℕ) (arcs : ℕ → ℕ)
         → IsSlid old new 0 1 2 p q r arcs → inner < 8

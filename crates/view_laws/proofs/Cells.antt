@@ -18,12 +18,13 @@ use Rattle.cell_complexes.proofs.NoDoubles.{first-new, once-append, once-later, 
 use Rattle.view_laws.specs.Partitions.{seen, seen_count}
 use Rattle.view_laws.specs.Views.{HasCircles, IsView, View, circle_at, closed_at, joint_state, together}
 use Rattle.view_laws.specs.ViewLayers.{closed_of, degree_of_labels, generator_at, inside_of, label_of_all, object_of, objects_at, ones_of, outer_count, view_layers, view_objects}
-use Rattle.view_laws.proofs.CellLists.{cell-from, cell-of, cells-once}
-use Rattle.view_laws.proofs.Labels.{relabelled}
+use Rattle.cell_complexes.proofs.CellLists.{cell-from, cell-of, cells-once}
+use Rattle.cell_complexes.proofs.Labels.{relabelled}
 use Rattle.view_laws.proofs.JointStates.{inside-below, joint-below, joint-inside, joint-outside, joint-parts, ones-joint, outside-below, parts-known}
 use Rattle.view_laws.proofs.Shown.{count-parts, parts}
-use Rattle.view_laws.proofs.SplitLabels.{ones-parts, part, part-below, parts-whole, whole, whole-below, whole-parts}
-use Rattle.view_laws.proofs.Steps.{IsMember, generators-once, member-from, member-of}
+use Rattle.cell_complexes.proofs.SplitLabels.{ones-parts, part, part-below, parts-whole, whole, whole-below, whole-parts}
+use Rattle.view_laws.proofs.Steps.{generators-once}
+use Rattle.cell_complexes.proofs.ExchangedCubes.{IsMember, member-from, member-of}
 use Rattle.view_laws.proofs.Tests.{number-same}
 
 once-flat_on : {A B : Type 0} (f : A → List B) (xs : List A) → HasNoDoubles xs → ((x : A) → HasNoDoubles (f x))
@@ -66,7 +67,8 @@ object-from view object has =
 pub object-has : (view : View) (t c : ℕ) → t < 2 ^ view.inner → c < 2 ^ length (view.closed t)
     → Contains (view_objects view) (object_of view t c)
 object-has view t c t_below c_below =
-    Contains-flat_map (objects_at view) (range_with_len 0 (2 ^ view.inner)) t (object_of view t c) (Contains-range (2 ^ view.inner) t t_below)
+    Contains-flat_map (objects_at view) (range_with_len 0 (2 ^ view.inner)) t (object_of view t c)
+    (Contains-range (2 ^ view.inner) t t_below)
     (Contains-map (object_of view t) (range_with_len 0 (2 ^ length (view.closed t))) c
     (Contains-range (2 ^ length (view.closed t)) c c_below))
 
@@ -199,7 +201,8 @@ module _ (code : Code) (view : View) (is : IsView code view) (circles : HasCircl
     abbrev layers : Layers
     layers = view_layers p code plus minus view
 
-    cell-parts : (y : Layer) → Contains (cells_of layers).list y → IsPart (inside_of view y.object) (closed_of view y.object) y.state y.label
+    cell-parts : (y : Layer) → Contains (cells_of layers).list y → IsPart (inside_of view y.object) (closed_of view y.object) y.state
+        y.label
     cell-parts y has =
         let cell = cell-from layers y has in
         record {

@@ -18,7 +18,8 @@ use Rattle.cube_squares.proofs.LabelNumbers.{number_from}
 use Rattle.cube_squares.proofs.TouchedCircles.{fits}
 use Rattle.view_laws.specs.Partitions.{counts_labels, keeps_classes, saddle_number, seen_count}
 use Rattle.view_laws.specs.Views.{HasCircles, IsInnerStep, IsView, SeeAlike, View, closed_at, joint_state, together}
-use Rattle.view_laws.specs.ViewLayers.{closed_of, inside_of, object_of, outer_count, outer_number, relation_of, seen_at, sign_of_power, view_layers}
+use Rattle.view_laws.specs.ViewLayers.{closed_of, inside_of, object_of, outer_count, outer_number, relation_of, seen_at, view_layers}
+use Rattle.cell_complexes.specs.Signs.{sign_of_power}
 use Rattle.view_laws.proofs.Cells.{IsPart, cell_of, made-parts, made_at, object-closed, object-inside, seen_label, state-below}
 use Rattle.view_laws.proofs.Cut.{alike-cut, edge-changes}
 use Rattle.view_laws.proofs.JointStates.{bit-inside, inside-below, joint-inside, ones-inside, parts-known, set-inside, set-outside}
@@ -26,7 +27,8 @@ use Rattle.view_laws.proofs.SameClosed.{Changes, fits-seen}
 use Rattle.view_laws.proofs.Seen.{seen-alike}
 use Rattle.view_laws.proofs.Shown.{lab}
 use Rattle.view_laws.proofs.SmallCircles.{fits-merge, fits-split}
-use Rattle.view_laws.proofs.Steps.{coefficient-along, outer-one, outer-some, step-of}
+use Rattle.view_laws.proofs.Steps.{outer-one, outer-some}
+use Rattle.cell_complexes.proofs.ExchangedCubes.{coefficient-along, step-of}
 
 -- sizes of coefficients
 sign-below : (p n : ℕ) → 1 < p → sign_of_power p n < p

@@ -20,14 +20,15 @@ use Rattle.cell_complexes.proofs.NoDoubles.{map-map}
 use Rattle.cube_squares.proofs.LabelNumbers.{number_from}
 use Rattle.view_laws.specs.Partitions.{AgreeOn, counts_labels, keeps_classes, saddle_number, seen}
 use Rattle.view_laws.specs.Views.{HasCircles, IsInnerStep, IsPlain, IsView, SeeAlike, View, plain_view, together}
-use Rattle.view_laws.specs.ViewLayers.{degree_of_labels, inside_of, label_of_seen, ones_of, outer_along, outer_count, outer_number, relation_of, seen_at, sign_of_power, state_of, view_layers}
-use Rattle.view_laws.proofs.CellLists.{cell-from, cell-of, cells-once}
+use Rattle.view_laws.specs.ViewLayers.{degree_of_labels, inside_of, label_of_seen, ones_of, outer_along, outer_count, outer_number, relation_of, seen_at, state_of, view_layers}
+use Rattle.cell_complexes.specs.Signs.{sign_of_power}
+use Rattle.cell_complexes.proofs.CellLists.{cell-from, cell-of, cells-once}
 use Rattle.view_laws.proofs.Cells.{objects-once, seen_label, state-below}
 use Rattle.view_laws.proofs.Cut.{edge-changes}
 use Rattle.view_laws.proofs.InnerEdges.{dimension-cut, inner-none, layers-below}
 use Rattle.view_laws.proofs.JointStates.{inside-below}
 use Rattle.view_laws.proofs.SameClosed.{Changes, fits-seen}
-use Rattle.view_laws.proofs.Steps.{coefficient-along}
+use Rattle.cell_complexes.proofs.ExchangedCubes.{coefficient-along}
 use Rattle.view_laws.proofs.Tests.{number-same}
 use Rattle.view_laws.proofs.Seen.{saddle-alike, seen-alike}
 
@@ -57,7 +58,8 @@ plain-edge p code names arc x y place circles is below within zero_there behind 
     let r = together code view x.state in
     let q = together code view y.state in
     let behind_below : y.state < 2 ^ length code.crossings =
-    subst (λ (n : ℕ). n < 2 ^ length code.crossings) (sym behind) (set-within x.state place (length code.crossings) within below zero_there) in
+    subst (λ (n : ℕ). n < 2 ^ length code.crossings) (sym behind)
+    (set-within x.state place (length code.crossings) within below zero_there) in
     let label = λ (g : Generator).
     number-same (map (λ n. label_of code g (arc n)) (seen (together code view g.state) names))
     ∙ sym (ap number_from (map-map (label_of code g) arc (seen (together code view g.state) names))) in
@@ -110,7 +112,8 @@ module _ (p : ℕ) (old new : Code) (plus minus : ℕ) (names : List ℕ) (arc n
 
   sees : (object s : ℕ) → s < 2 ^ outer_count old view → AgreeOn names (relation_of old view object s) (relation_of new new_view object s)
   sees object s below =
-      alike (state_of view object s) (state-below old view (plain-view old names arc is) (inside_of view object) s (inside-below 0 object) below)
+      alike (state_of view object s) (state-below old view (plain-view old names arc is) (inside_of view object) s (inside-below 0 object)
+      below)
 
   sees-count : (object s : ℕ) → s < 2 ^ outer_count old view → seen_at new new_view object s ≡ seen_at old view object s
   sees-count object s below =
@@ -156,7 +159,8 @@ module _ (p : ℕ) (old new : Code) (plus minus : ℕ) (names : List ℕ) (arc n
       let inner_same : inner_old ≡ inner_new =
       inner-none p old plus minus view (plain-view old names arc is) circles x.object y.object x.state x.label y.label
       (λ i step. none view (inside_of view x.object) (inside_of view y.object) i refl step)
-      ∙ sym (inner-none p new plus minus new_view (plain-view new names new_arc new_is) new_circles x.object y.object x.state x.label y.label
+      ∙ sym (inner-none p new plus minus new_view (plain-view new names new_arc new_is) new_circles x.object y.object x.state x.label
+      y.label
       (λ i step. none new_view (inside_of new_view x.object) (inside_of new_view y.object) i refl step)) in
       let outer_same : outer_old ≡ outer_new =
       outer-alike p (outer_count old view) (ones 0 (inside_of view x.object)) (ones 0 (inside_of view x.object))

@@ -139,7 +139,7 @@ respects-back g f inverse n (pair ∷ pairs) below home respects = (
   respects-back g f inverse n pairs below.1 home respects.1,
 )
 
-module _ (f : ℕ → ℕ) (old new : Code) (same : IsRenumbered f old new) (holds : HoldsArcs old) (new_holds : HoldsArcs new) where
+module _ (f : ℕ → ℕ) (old new : Code) (same : IsRenumbered f old new) (holds : HoldsArcs old) where
   names-same : name_count new ≡ name_count old
   names-same = omega (arith, same.size, same.loops)
 
@@ -184,7 +184,8 @@ module _ (f : ℕ → ℕ) (old new : Code) (same : IsRenumbered f old new) (hol
       let class = λ (z : ℕ). slice_index (classes_of (name_count old) pairs) z in
       let together = classes-finest (λ z. class (inverse z)) (name_count old) (renamed f pairs)
       (respects-back class f inverse (name_count old) pairs (old-below state) home
-      (classes-together (name_count old) pairs (old-below state))) (new-below state) (f x) (f y) (same.below x x_below) (same.below y y_below)
+      (classes-together (name_count old) pairs (old-below state))) (new-below state) (f x) (f y) (same.below x x_below)
+      (same.below y y_below)
       (sym (ap (λ cs. slice_index cs (f x)) (circles-new state)) ∙ one_circle ∙ ap (λ cs. slice_index cs (f y)) (circles-new state)) in
       ap class (sym (home x x_below)) ∙ together ∙ ap class (home y y_below)
 
@@ -340,7 +341,7 @@ module _ (f : ℕ → ℕ) (old new : Code) (same : IsRenumbered f old new) (twi
   pub dimension-any : (p plus minus : ℕ) → HasInverses p → HasCircles old → HasCircles new → (i j : ℤ)
       → dimension_at p (cube_of p new plus minus) i j ≡ dimension_at p (cube_of p old plus minus) i j
   dimension-any p plus minus field circles new_circles i j =
-      dimension-renumbered fixed old new renumbered-fixed (holds-arcs old twice) (holds-arcs new new_twice) refl p plus minus field circles
+      dimension-renumbered fixed old new renumbered-fixed (holds-arcs old twice) refl p plus minus field circles
       new_circles i j
 
 -- so codes under other numbers have one table, where crossings keep their signs

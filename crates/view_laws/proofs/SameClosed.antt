@@ -3,7 +3,6 @@ use Rattle.std.proofs.Common.{◌≡◌, ◌≢◌, ℕ, zero, suc, ◌⊎◌, i
 use Rattle.std.specs.Prelude.{nat_eq, nat_lt}
 use Rattle.std.specs.List.{Contains, list_all, sum_by}
 use Rattle.std.proofs.lemmas.Bool.{eq-eqb, eqb-true, lt-ltb, ltb-true, ne_eqb}
-use Rattle.std.proofs.lemmas.Bool.Decides.{nat_tests}
 use Rattle.std.proofs.lemmas.List.Elements.{Contains-append_cases}
 use Rattle.std.proofs.lemmas.List.Folds.{list_all-append, list_all-map}
 use Rattle.kh_types.specs.Bits.{one_if, ones}
@@ -21,21 +20,12 @@ use Rattle.view_laws.proofs.CircleNames.{label-small}
 use Rattle.view_laws.proofs.EdgePoints.{counts_all, fits-points, keeps_point, kept-back, same_at}
 use Rattle.view_laws.proofs.Shown.{all-ones, are-points, closed-name, closed_part, count-parts, few-closed, lab, label-in, ones-closed, ones-seen, seen_part}
 use Rattle.view_laws.proofs.Tests.{agree, all-agree, all-from}
+use Rattle.cell_complexes.proofs.Labels.{bits-same}
 
 -- along an edge two circles become one, or one becomes two
 abbrev pub Changes : Code → ℕ → ℕ → ℕ → Type 0
 Changes code before behind crossing =
     (kept : ℕ) × (gone : ℕ) × (TwoBecomeOne code before behind crossing kept gone ⊎ TwoBecomeOne code behind before crossing kept gone)
-
-pub bits-same : (f g : ℕ → ℕ) (xs : List ℕ) → ((x : ℕ) → f x ≤ 1) → ((x : ℕ) → g x ≤ 1)
-    → nat_eq (number_from (map f xs)) (number_from (map g xs)) ≡ list_all (λ x. nat_eq (f x) (g x)) xs
-bits-same f g [] f_small g_small = refl
-bits-same f g (x ∷ xs) f_small g_small =
-    one (f x) (g x) (number_from (map f xs)) (number_from (map g xs)) (f_small x) (g_small x)
-    ∙ ap (λ b. nat_eq (f x) (g x) && b) (bits-same f g xs f_small g_small)
-  where
-    one : (a b m n : ℕ) → a ≤ 1 → b ≤ 1 → nat_eq (a + 2 * m) (b + 2 * n) ≡ (nat_eq a b && nat_eq m n)
-    one a b m n a_small b_small = grind (arith, nat_tests, a_small, b_small)
 
 pub few-same : (xs : List ℕ) (x y : ℕ) → length xs ≤ 1 → Contains xs x → Contains xs y → x ≡ y
 few-same [] x y few has has_too = absurd (omega (arith, has.1))

@@ -10,9 +10,10 @@ use Rattle.cell_complexes.specs.Alike.{HasNoDoubles}
 use Rattle.cell_complexes.proofs.Members.{Contains-cases, Contains-first, Contains-kept, Contains-later}
 use Rattle.cube_squares.proofs.LabelNumbers.{number_from}
 use Rattle.view_laws.specs.Partitions.{AgreeOn, first_with, is_kept, label_in, saddle_number, seen}
-use Rattle.view_laws.proofs.Labels.{bit-number, place}
-use Rattle.view_laws.proofs.Places.{numbers-test, place-found}
-use Rattle.view_laws.proofs.Tests.{all-agree, filter-agree, once-filter}
+use Rattle.cell_complexes.proofs.Labels.{bit-number, place}
+use Rattle.cell_complexes.proofs.Places.{numbers-test, place-found}
+use Rattle.view_laws.proofs.Tests.{all-agree, filter-agree}
+use Rattle.cell_complexes.proofs.NoDoubles.{once-filter}
 
 -- the first element that passes a test
 pub record IsFound (p : ℕ → Bool) (xs : List ℕ) : Type 0 where
@@ -58,8 +59,12 @@ module _ (key : ℕ → ℕ) (names : List ℕ) where
 
   pub first-has : (x : ℕ) → Contains names x → Contains names (first x)
   first-has x has =
-      let found = found-first (by_key key x) names x has (eq-eqb (key x) (key x) refl) in
-      (position_or_len (by_key key x) names, found.within, get_or_default names (position_or_len (by_key key x) names) (first x) 0 found.within)
+      let found = found-first (by_key key x) names x has (eq-eqb (key x) (key x) refl) in (
+        position_or_len (by_key key x) names,
+        found.within,
+        get_or_default names (position_or_len (by_key key x) names) (first x) 0
+            found.within,
+      )
 
   pub first-key : (x : ℕ) → Contains names x → key (first x) ≡ key x
   first-key x has =

@@ -22,9 +22,9 @@ use Rattle.view_laws.specs.Views.{HasCircles, IsView, View, circle_at, closed_at
 use Rattle.view_laws.proofs.CircleNames.{circle-name, label-circle, label-small, name-from, name-of, names-once, ones-labels}
 use Rattle.view_laws.proofs.EdgePoints.{ArePoints}
 use Rattle.view_laws.proofs.JointStates.{inside-below}
-use Rattle.view_laws.proofs.Labels.{ones-map}
+use Rattle.cell_complexes.proofs.Labels.{ones-map}
 use Rattle.view_laws.proofs.Seen.{first, first-key, label-seen, seen-apart, seen-from, seen-of, seen-once}
-use Rattle.view_laws.proofs.SplitLabels.{AreParts, counts, part}
+use Rattle.cell_complexes.proofs.SplitLabels.{AreParts, counts, part}
 
 pub once-few : (xs : List ℕ) → length xs ≤ 1 → HasNoDoubles xs
 once-few xs few k l d less within same = omega (arith, few, less, within)

@@ -129,7 +129,8 @@ module _ (code : Code) (view : View) (is : IsView code view) (circles : HasCircl
     labels-all : ((n : ℕ) → Contains view.names n → circle_at code joined (view.arc n) ≢ circle_at code joined z → u n ≡ v n)
         → sum_by u seen_alone ≡ sum_by v seen_alone → (n : ℕ) → Contains seen_alone n → u n ≡ v n
     labels-all others sums n has =
-        let named = λ (k : ℕ) (has_k : Contains seen_alone k). (seen-from (key code view is circles alone alone_below) view.names k has_k).0 in
+        let named = λ (k : ℕ) (has_k : Contains seen_alone k).
+        (seen-from (key code view is circles alone alone_below) view.names k has_k).0 in
         elim (cases_eq (circle_at code joined (view.arc n)) (circle_at code joined z)) [
           | inr other ↦ others n (named n has) other
           | inl one ↦

@@ -1,45 +1,20 @@
--- Generators, and coefficients along steps by places; and numbers along outer steps.
-use Rattle.std.proofs.Common.{◌≡◌, ◌≢◌, ℕ, ◌⊎◌, inl, inr, ◌+◌, ◌-◌, ◌*◌, ◌^◌, ◌<◌, ◌∙◌, List, length, sym, subst, ap, arith, Bool, cond, ◌&&◌}
+-- Generators stand once, and numbers along outer steps.
+use Rattle.std.proofs.Common.{◌≡◌, ◌≢◌, ℕ, ◌⊎◌, inl, inr, ◌+◌, ◌-◌, ◌*◌, ◌^◌, ◌<◌, ◌∙◌, List, length, sym, ap, arith, Bool, cond, ◌&&◌}
 use Rattle.std.specs.Prelude.{nat_eq}
 use Rattle.std.specs.List.{Contains, range_with_len}
 use Rattle.std.proofs.lemmas.Bool.{and_from, and_parts, cases_Bool, cases_eq, cases_lt, eq-eqb, eqb-true}
 use Rattle.std.proofs.Math.Pow.{pow-lt}
 use Rattle.kh_types.specs.Bits.{bit, ones}
 use Rattle.kh_types.specs.Circles.{circle_count}
-use Rattle.kh_types.specs.Code.{Code, place_of}
-use Rattle.kh_types.specs.Differential.{coefficient, coefficient_at}
+use Rattle.kh_types.specs.Code.{Code}
 use Rattle.kh_types.specs.Generators.{Generator, generator_of, generators, generators_of, states}
-use Rattle.kh_types.proofs.Lists.{Contains-flat_map, Contains-map, Contains-range, range-contains}
 use Rattle.kh_types.proofs.ListSums.{sum_by-single, sum_by-some}
 use Rattle.cell_complexes.specs.Alike.{HasNoDoubles}
-use Rattle.cell_complexes.proofs.Members.{Contains-flattened, Contains-made}
+use Rattle.cell_complexes.proofs.Members.{Contains-made}
 use Rattle.cell_complexes.proofs.NoDoubles.{once-flat, once-map, once-range}
-use Rattle.cube_squares.proofs.Pairs.{coefficient-one, edge_or_zero}
-use Rattle.cube_squares.proofs.Signs.{power_sign}
-use Rattle.cube_squares.proofs.TouchedCircles.{fits}
 use Rattle.view_laws.specs.Partitions.{saddle_number}
-use Rattle.view_laws.specs.ViewLayers.{outer_along, outer_number, sign_of_power}
-
--- generators
-pub record IsMember (code : Code) (x : Generator) : Type 0 where
-  pub state : x.state < 2 ^ length code.crossings
-  pub label : x.label < 2 ^ circle_count code x.state
-
-pub member-from : (code : Code) (x : Generator) → Contains (generators code) x → IsMember code x
-member-from code x has =
-    let by_state = Contains-flattened (generators_of code) (states code) x has in
-    let by_label = Contains-made (generator_of by_state.0) (range_with_len 0 (2 ^ circle_count code by_state.0)) x by_state.2 in
-    subst (λ (y : Generator). IsMember code y) by_label.2
-    (record {
-      state = range-contains (2 ^ length code.crossings) by_state.0 by_state.1;
-      label = range-contains (2 ^ circle_count code by_state.0) by_label.0 by_label.1;
-    })
-
-pub member-of : (code : Code) (x : Generator) → IsMember code x → Contains (generators code) x
-member-of code x is =
-    Contains-flat_map (generators_of code) (states code) x.state x (Contains-range (2 ^ length code.crossings) x.state is.state)
-    (Contains-map (generator_of x.state) (range_with_len 0 (2 ^ circle_count code x.state)) x.label
-    (Contains-range (2 ^ circle_count code x.state) x.label is.label))
+use Rattle.view_laws.specs.ViewLayers.{outer_along, outer_number}
+use Rattle.cell_complexes.specs.Signs.{sign_of_power}
 
 state-of : (code : Code) (state : ℕ) (x : Generator) → Contains (generators_of code state) x → x.state ≡ state
 state-of code state x has =
@@ -53,35 +28,6 @@ generators-once code =
     once-map (generator_of state) (range_with_len 0 (2 ^ circle_count code state)) (λ k l same. ap (λ (y : Generator). y.label) same)
     (once-range 0 (2 ^ circle_count code state)))
     (λ state other x has has_too. sym (state-of code state x has) ∙ state-of code other x has_too)
-
--- steps, by their places
-pub record IsStepAt (code : Code) (s t place : ℕ) : Type 0 where
-  pub within : place < length code.crossings
-  pub zero_there : bit s place ≡ 0
-  pub behind : t ≡ s + 2 ^ place
-
-pub step-of : (p : ℕ) (code : Code) (tail head : Generator) → coefficient p code tail head ≢ 0
-    → (place : ℕ) × IsStepAt code tail.state head.state place
-step-of p code tail head some =
-    let term = sum_by-some (coefficient_at p code tail head) 1 (length code.crossings) some in
-    elim (edge_or_zero p code tail head term.0) [
-      | inl step ↦ (
-        place_of term.0,
-        record { within = omega (arith, term.1, term.2); zero_there = step.zero_there; behind = step.behind },
-      )
-      | inr none ↦ absurd (term.3 none)
-    ]
-
-pub coefficient-along : (p : ℕ) (code : Code) (tail head : Generator) (place : ℕ) → IsStepAt code tail.state head.state place
-    → coefficient p code tail head ≡ cond (fits code tail head (place + 1)) (power_sign p (ones place tail.state)) 0
-coefficient-along p code tail head place step =
-    let e : place ≡ place + 1 - 1 = omega arith in
-    coefficient-one p code tail head (place + 1) (record { positive = omega arith; within = omega (arith, step.within) })
-    (record {
-      zero_there = ap (bit tail.state) (sym e) ∙ step.zero_there;
-      behind = step.behind ∙ ap (λ m. tail.state + 2 ^ m) e;
-    })
-    ∙ ap (λ m. cond (fits code tail head (place + 1)) (power_sign p (ones m tail.state)) 0) (sym e)
 
 -- outer steps
 pub record IsOuterStep (s t place : ℕ) : Type 0 where

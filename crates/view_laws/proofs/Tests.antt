@@ -7,10 +7,11 @@ use Rattle.std.proofs.lemmas.List.Sums.{sum_by-cons}
 use Rattle.std.proofs.lemmas.List.FromFn.{length-range_with_len, get_or-range_with_len}
 use Rattle.kh_types.specs.Edges.{is_other}
 use Rattle.cell_complexes.specs.Alike.{HasNoDoubles}
-use Rattle.cell_complexes.proofs.Members.{Contains-cases, Contains-first, Contains-kept, Contains-later, sum_by-kept}
-use Rattle.cell_complexes.proofs.NoDoubles.{first-new, once-first, once-later}
+use Rattle.cell_complexes.proofs.Members.{Contains-cases, Contains-first, Contains-later, sum_by-kept}
+use Rattle.cell_complexes.proofs.NoDoubles.{first-new, once-later}
 use Rattle.cube_squares.proofs.LabelNumbers.{number_from}
 use Rattle.view_laws.specs.ViewLayers.{number_with}
+use Rattle.std.proofs.lemmas.Bool.Decides.{nat_tests}
 
 pub all-from : {A : Type 0} (p : A → Bool) (xs : List A) → ((x : A) → Contains xs x → p x ≡ true) → list_all p xs ≡ true
 all-from p [] each = refl
@@ -53,8 +54,8 @@ pub and-same : (a b c : Bool) → (a ≡ true → b ≡ c) → (a && b) ≡ (a &
 and-same true b c same = same refl
 and-same false b c same = refl
 
-pub numbers-differ : (a b : ℕ) → nat_eq a b ≡ false → a ≢ b
-numbers-differ a b fails same = both_ways (nat_eq a b) fails (eq-eqb a b same)
+pub same-tests : (x y z w : ℕ) → (x ≡ y → z ≡ w) → (z ≡ w → x ≡ y) → nat_eq x y ≡ nat_eq z w
+same-tests x y z w onward back = grind (arith, nat_tests)
 
 -- a sum, with one element taken out
 pub sum-taken : (f : ℕ → ℕ) (xs : List ℕ) (z : ℕ) → HasNoDoubles xs → Contains xs z
@@ -92,16 +93,6 @@ other-passes z y other = ap not (ne_eqb y z other)
 pub other-differs : (z y : ℕ) → is_other z y ≡ true → y ≢ z
 other-differs z y passes same = both_ways true (sym passes ∙ ap not (eq-eqb y z same)) refl
 
--- filters keep lists without doubles
-pub once-filter : (p : ℕ → Bool) (xs : List ℕ) → HasNoDoubles xs → HasNoDoubles (filter p xs)
-once-filter p [] once = once
-once-filter p (x ∷ xs) once =
-    by (p x) (λ has. first-new x xs once (Contains-kept p xs x has).0) (once-filter p xs (once-later x xs once))
-  where
-    by : (b : Bool) → (Contains (filter p xs) x → ⊥) → HasNoDoubles (filter p xs) → HasNoDoubles (cond b (x ∷ filter p xs) (filter p xs))
-    by true new rest = once-first x (filter p xs) new rest
-    by false new rest = rest
-
 -- the members of a range
 pub record IsWithin (a n x : ℕ) : Type 0 where
   pub above : a ≤ x
@@ -123,3 +114,7 @@ within-range a n x above below =
 pub number-same : (bs : List ℕ) → number_with bs ≡ number_from bs
 number-same [] = refl
 number-same (b ∷ bs) = ap (λ n. b + 2 * n) (number-same bs)
+
+-- the empty list has no element
+pub none-in : {A : Type 0} (x : A) → Contains [] x → ⊥
+none-in x (k, below, is) = absurd (omega (arith, below))

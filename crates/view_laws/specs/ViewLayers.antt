@@ -10,6 +10,7 @@ use Rattle.kh_types.specs.Generators.{Generator, generator_of}
 use Rattle.cell_complexes.specs.Layers.{Layers}
 use Rattle.view_laws.specs.Partitions.{saddle_number, seen, seen_count}
 use Rattle.view_laws.specs.Views.{View, circle_at, joint_state, together}
+use Rattle.cell_complexes.specs.Signs.{sign_of_power}
 
 -- the number of an object, by the state of the inner crossings and the label of what closes there; and both of them, by the number
 abbrev pub object_of : View → ℕ → ℕ → ℕ
@@ -51,10 +52,6 @@ seen_at code view object outside = seen_count (relation_of code view object outs
 -- the label degree of a number of circles with a label
 abbrev pub degree_of_labels : ℕ → ℕ → ℤ
 degree_of_labels count label = pos count -ℤ pos (2 * ones count label)
-
--- modulo p, -1 to a power
-abbrev pub sign_of_power : ℕ → ℕ → ℕ
-sign_of_power p n = if nat_eq (n % 2) 0 then 1 else p - 1
 
 -- along the outer crossing at a place, of an object: -1 to the ones before it, times the saddle's number; the relations of the outer states
 -- and the ones of the object are given

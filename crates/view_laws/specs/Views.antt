@@ -25,6 +25,10 @@ joint_state view inside outside = inside + 2 ^ view.inner * outside
 abbrev pub circle_at : Code → ℕ → ℕ → ℕ
 circle_at code state arc = circle_of (circles_of code state) arc
 
+-- two arcs or loops are on one circle of a state
+abbrev pub AreTogether : Code → ℕ → ℕ → ℕ → Type 0
+AreTogether code state x y = circle_at code state x ≡ circle_at code state y
+
 -- two names are together at a state where their arcs are on one circle
 abbrev pub together : Code → View → ℕ → ℕ → ℕ → Bool
 together code view state x y = nat_eq (circle_at code state (view.arc x)) (circle_at code state (view.arc y))

@@ -16,7 +16,8 @@ ghost use Rattle.cell_complexes.specs.Cubes.{cube_of};
 ghost use Rattle.cell_complexes.specs.Layers.{IsTimesIdentity, cells_of};
 ghost use Rattle.view_laws.specs.Partitions.{AgreeOn, label_in, saddle_number, seen, seen_count};
 ghost use Rattle.view_laws.specs.Views.{HasCircles, IsInnerStep, IsPlain, IsView, SeeAlike, View, joint_state, plain_view, together};
-ghost use Rattle.view_laws.specs.ViewLayers.{inside_of, label_of_seen, object_of, outer_count, outer_number, sign_of_power, view_layers};
+ghost use Rattle.view_laws.specs.ViewLayers.{inside_of, label_of_seen, object_of, outer_count, outer_number, view_layers};
+ghost use Rattle.cell_complexes.specs.Signs.{sign_of_power};
 
 /// In an accepted code circles have names, and edges merge or split.
 pub fn accepted_codes_have_circles()
@@ -32,7 +33,8 @@ pub fn edges_are_known_by_partitions()
         → coefficient p code x y ≡ sign_of_power p (ones place x.state)
         * saddle_number (together code (plain_view names arc) x.state)
         (together code (plain_view names arc) y.state) names
-        (label_of_seen code (plain_view names arc) x) (label_of_seen code (plain_view names arc) y) }
+        (label_of_seen code (plain_view names arc) x)
+        (label_of_seen code (plain_view names arc) y) }
 {}
 
 /// What is seen, labels and saddles' numbers depend only on which names are together.
@@ -78,7 +80,8 @@ pub fn inner_coefficients()
         → (label other : ℕ)
         → label < 2 ^ seen_count (together code view (joint_state view t s)) view.names
         → other < 2 ^ seen_count (together code view (joint_state view u s)) view.names
-        → (view_layers p code plus minus view).inner (object_of view t 0) (object_of view u 0) s label other
+        → (view_layers p code plus minus view).inner (object_of view t 0)
+        (object_of view u 0) s label other
         ≡ sign_of_power p (ones i t) * saddle_number (together code view (joint_state view t s))
         (together code view (joint_state view u s)) view.names label other }
 {}
@@ -93,14 +96,16 @@ pub fn small_circles_come_and_go()
         → view.closed t ≡ z ∷ [] → view.closed u ≡ []
         → ((s : ℕ) → s < 2 ^ outer_count code view
         → SeeAlike code view (joint_state view t s) code view (joint_state view u s))
-        → IsTimesIdentity (view_layers p code plus minus view) (object_of view t 0) (object_of view u 0)
+        → IsTimesIdentity (view_layers p code plus minus view) (object_of view t 0)
+        (object_of view u 0)
         (sign_of_power p (ones i t)) }
     ensures split { (p : ℕ) (code : Code) (plus minus : ℕ) (view : View) → IsView code view
         → HasCircles code → (t u i z : ℕ) → 1 < p → IsInnerStep view t u i
         → view.closed t ≡ [] → view.closed u ≡ z ∷ []
         → ((s : ℕ) → s < 2 ^ outer_count code view
         → SeeAlike code view (joint_state view u s) code view (joint_state view t s))
-        → IsTimesIdentity (view_layers p code plus minus view) (object_of view t 0) (object_of view u 1)
+        → IsTimesIdentity (view_layers p code plus minus view) (object_of view t 0)
+        (object_of view u 1)
         (sign_of_power p (ones i t)) }
 {}
 

@@ -33,9 +33,10 @@ pub fn bigons_are_eliminated()
         → (i j : ℤ) → dimension_at p (cells_of single) i j ≡ dimension_at p (cells_of layers) i j }
 {}
 
-/// Of three inner crossings, where one state closes a circle, neither that of all 0-smoothings nor
-/// that of all 1-smoothings, and its neighbours see what it sees, five objects are left: coefficients
-/// along edges are as they were, and there is one more along a way back, with the opposite sign.
+/// Of three inner crossings, where one state closes a circle, neither that of all 0-smoothings
+/// nor that of all 1-smoothings, and its neighbours see what it sees, five objects are left:
+/// coefficients along edges are as they were, and there is one more along a way back, with the
+/// opposite sign.
 pub fn five_objects_are_left()
     ensures { (p closing : ℕ) (kind : ℕ → ℕ) (count : ℕ → ℕ → ℕ) (saddle : ℕ → ℕ → ℕ → ℕ → ℕ → ℕ)
         (layers : Layers) → HasInverses p → 0 < closing → closing < 7
@@ -44,8 +45,8 @@ pub fn five_objects_are_left()
         → (left : Layers) × AreFiveLeft p closing kind saddle layers left }
 {}
 
-/// A slide: of three inner crossings one state closes a circle, neither that of all 0-smoothings nor
-/// that of all 1-smoothings. Before and after, the states see what their kinds say.
+/// A slide: of three inner crossings one state closes a circle, neither that of all 0-smoothings
+/// nor that of all 1-smoothings. Before and after, the states see what their kinds say.
 pub fn slides_keep_the_dimensions()
     ensures { (p closing : ℕ) (count : ℕ → ℕ → ℕ) (saddle : ℕ → ℕ → ℕ → ℕ → ℕ → ℕ)
         (height : ℕ → ℕ → ℤ) (weight : ℕ → ℕ → ℕ → ℕ → ℤ) (between : ℕ → ℕ → ℕ → ℕ → ℕ → ℕ → ℕ)

@@ -1,12 +1,12 @@
-use Rattle.slide_view_laws.proofs.Renumbering.{JoinAlike-circles}
+use Rattle.view_laws.proofs.Renumbered.{circles-back, circles-forth}
 use Rattle.slide_view_laws.proofs.RenamedViews.{IsView-renamed, SeeAlike-renamed}
 use Rattle.slide_view_laws.proofs.laws.other_numbers_are_seen_alike.Goals as goal
 
 pub returns-clause-onward : goal.returns-clause-onward
-returns-clause-onward cx f old new same holds state x y x_below y_below = (JoinAlike-circles f old new same holds state x y x_below y_below).0
+returns-clause-onward cx = circles-forth
 
 pub returns-clause-back : goal.returns-clause-back
-returns-clause-back cx f old new same holds state x y x_below y_below = (JoinAlike-circles f old new same holds state x y x_below y_below).1
+returns-clause-back cx = circles-back
 
 pub returns-clause-view : goal.returns-clause-view
 returns-clause-view cx = IsView-renamed

@@ -1,11 +1,10 @@
 -- Crossings brought to the front: a slide stays one.
-use Rattle.std.proofs.lemmas.Bool.Decides.{nat_tests}
-use Rattle.std.proofs.Common.{◌≡◌, ◌≢◌, ℕ, zero, suc, ◌⊎◌, inl, inr, ◌+◌, ◌*◌, ◌<◌, ◌≤◌, ◌∙◌, List, [], ◌∷◌, ◌++◌, length, get_or, take, drop, refl, sym, ap, subst, arith, ℤ, IsTrue}
+use Rattle.std.proofs.Common.{◌≡◌, ◌≢◌, ℕ, ◌⊎◌, inl, inr, ◌+◌, ◌*◌, ◌<◌, ◌≤◌, ◌∙◌, List, [], ◌∷◌, ◌++◌, length, get_or, sym, ap, subst, arith, ℤ, IsTrue}
 use Rattle.kh_types.specs.Acceptance.{accepted}
 use Rattle.kh_types.specs.Code.{Code, arc_in}
 use Rattle.kh_types.specs.Residues.{HasInverses}
 use Rattle.cell_complexes.specs.Cells.{dimension_at}
-use Rattle.cell_complexes.specs.Cubes.{IsReordered, cube_of, listed_by}
+use Rattle.cell_complexes.specs.Cubes.{cube_of, listed_by}
 use Rattle.cell_complexes.proofs.Orders.{dimension-reordered}
 use Rattle.cell_complexes.proofs.AnyOrder.{accepted-reordered}
 use Rattle.gluing.specs.Arcs.{arc_by_place}
@@ -13,121 +12,9 @@ use Rattle.gluing.specs.Codes.{name_count}
 use Rattle.gluing.specs.Slides.{IsPlacedTriangle, IsNoSide, triangle_before, triangle_after}
 use Rattle.gluing.specs.SlidCodes.{Shows, HasTriangle, IsSlid}
 use Rattle.slide_view_laws.specs.RenamedViews.{IsRenumberedOnto}
-use Rattle.slide_view_laws.specs.SlideViews.{first_to, place_behind, three_first}
-
--- the place of the list that comes at a place of the others, when the one at a place is taken out
-past : ℕ → ℕ → ℕ
-past zero l = suc l
-past (suc k) zero = zero
-past (suc k) (suc l) = suc (past k l)
-
-past-is : (k l : ℕ) → ((l < k) × (past k l ≡ l)) ⊎ ((k ≤ l) × (past k l ≡ l + 1))
-unfolding past
-past-is zero l = inr (omega arith, omega arith)
-past-is (suc k) zero = inl (omega arith, refl)
-past-is (suc k) (suc l) = elim (past-is k l) [
-  | inl low ↦ inl (omega (arith, low.0), ap suc low.1)
-  | inr high ↦ inr (omega (arith, high.0), omega (arith, high.1))
-]
-
-others-at : (k : ℕ) (xs : List (List ℕ)) (l : ℕ) → k < length xs → get_or (take k xs ++ drop (suc k) xs) l [] ≡ get_or xs (past k l) []
-unfolding past
-others-at k [] l below = absurd (omega (arith, below))
-others-at zero (x ∷ xs) l below = refl
-others-at (suc k) (x ∷ xs) zero below = refl
-others-at (suc k) (x ∷ xs) (suc l) below = others-at k xs l (omega (arith, below))
-
-length-others : (k : ℕ) (xs : List (List ℕ)) → k < length xs → length (take k xs ++ drop (suc k) xs) + 1 ≡ length xs
-length-others k [] below = absurd (omega (arith, below))
-length-others zero (x ∷ xs) below = omega arith
-length-others (suc k) (x ∷ xs) below = let rest = length-others k xs (omega (arith, below)) in omega (arith, rest)
-
-split-at : (k : ℕ) (xs : List (List ℕ)) → k < length xs → xs ≡ take k xs ++ (get_or xs k [] ∷ drop (suc k) xs)
-split-at k [] below = absurd (omega (arith, below))
-split-at zero (x ∷ xs) below = refl
-split-at (suc k) (x ∷ xs) below = ap (λ zs. x ∷ zs) (split-at k xs (omega (arith, below)))
-
-own-order : (xs : List (List ℕ)) → IsReordered xs xs
-own-order [] = refl
-own-order (x ∷ xs) = ([], xs, refl, own-order xs)
-
-pub first-reordered : (k : ℕ) (xs : List (List ℕ)) → k < length xs → IsReordered xs (first_to k xs)
-first-reordered k xs below = (take k xs, drop (suc k) xs, split-at k xs below, own-order (take k xs ++ drop (suc k) xs))
-
--- the place of the list that comes at a place, when the one at a place is first
-home : ℕ → ℕ → ℕ
-home k zero = k
-home k (suc m) = past k m
-
-first-at : (k : ℕ) (xs : List (List ℕ)) (m : ℕ) → k < length xs → get_or (first_to k xs) m [] ≡ get_or xs (home k m) []
-unfolding home
-first-at k xs zero below = refl
-first-at k xs (suc m) below = others-at k xs m below
-
-pub length-first : (k : ℕ) (xs : List (List ℕ)) → k < length xs → length (first_to k xs) ≡ length xs
-length-first k xs below = let rest = length-others k xs below in omega (arith, rest)
-
-behind-low : (k l : ℕ) → l < k → place_behind k l ≡ l + 1
-behind-low k l low = grind (arith, nat_tests)
-
-behind-own : (k : ℕ) → place_behind k k ≡ 0
-behind-own k = grind (arith, nat_tests)
-
-behind-high : (k l : ℕ) → k < l → place_behind k l ≡ l
-behind-high k l high = grind (arith, nat_tests)
-
-order_of : (k l : ℕ) → (l < k) ⊎ ((l ≡ k) ⊎ (k < l))
-order_of k l = grind (arith, nat_tests)
-
-behind-home : (k m : ℕ) → place_behind k (home k m) ≡ m
-unfolding home
-behind-home k zero = behind-own k
-behind-home k (suc m) = elim (past-is k m) [
-  | inl low ↦ ap (place_behind k) low.1 ∙ behind-low k m low.0 ∙ omega arith
-  | inr high ↦ ap (place_behind k) high.1 ∙ behind-high k (m + 1) (omega (arith, high.0)) ∙ omega arith
-]
-
-home-behind : (k l : ℕ) → home k (place_behind k l) ≡ l
-unfolding home
-home-behind k l = elim (order_of k l) [
-  | inl low ↦ ap (home k) (behind-low k l low) ∙ at_low low
-  | inr other ↦ elim other [
-    | inl own ↦ ap (λ z. home k (place_behind k z)) own ∙ ap (home k) (behind-own k) ∙ at_zero ∙ sym own
-    | inr high ↦ ap (home k) (behind-high k l high) ∙ at_high l high
-  ]
-]
-  where
-    at_zero : home k 0 ≡ k
-    at_zero = refl
-
-    at_low : l < k → home k (l + 1) ≡ l
-    at_low low =
-        let e : l + 1 ≡ suc l = omega arith in
-        ap (home k) e ∙ elim (past-is k l) [ inl is ↦ is.1 | inr is ↦ absurd (omega (arith, low, is.0)) ]
-
-    at_high : (m : ℕ) → k < m → home k m ≡ m
-    at_high zero high = absurd (omega (arith, high))
-    at_high (suc m) high = elim (past-is k m) [ inl is ↦ absurd (omega (arith, high, is.0)) | inr is ↦ is.1 ∙ omega arith ]
-
-home-below : (k m n : ℕ) → k < n → m < n → home k m < n
-unfolding home
-home-below k zero n k_below below = k_below
-home-below k (suc m) n k_below below = elim (past-is k m) [
-  | inl low ↦ omega (arith, low.1, below)
-  | inr high ↦ omega (arith, high.1, below)
-]
-
-behind-apart : (k a b : ℕ) → a ≢ b → place_behind k a ≢ place_behind k b
-behind-apart k a b apart same = apart (sym (home-behind k a) ∙ ap (home k) same ∙ home-behind k b)
-
-behind-below : (k l n : ℕ) → k < n → l < n → place_behind k l < n
-behind-below k l n k_below below = elim (order_of k l) [
-  | inl low ↦ omega (arith, behind-low k l low, low, k_below)
-  | inr other ↦ elim other [
-    | inl own ↦ let e = ap (place_behind k) own ∙ behind-own k in omega (arith, e, k_below)
-    | inr high ↦ omega (arith, behind-high k l high, below)
-  ]
-]
+use Rattle.slide_view_laws.specs.SlideViews.{three_first}
+use Rattle.view_laws.specs.Fronts.{first_to, place_behind}
+use Rattle.view_laws.proofs.Fronts.{first-reordered, home, first-at, length-first, behind-low, behind-own, behind-high, order_of_two, behind-home, home-behind, home-below, behind-below, behind-apart}
 
 -- a triangle, with one crossing brought to the front
 module _ (code : Code) (k : ℕ) (below : k < length code.crossings) where
@@ -209,7 +96,7 @@ module _ (c d e : ℕ) (c_d : c ≢ d) (c_e : c ≢ e) (d_e : d ≢ e) where
   c_then = place_behind (place_behind e d) (place_behind e c)
 
   positive : (k l : ℕ) → l ≢ k → 1 ≤ place_behind k l
-  positive k l differs = elim (order_of k l) [
+  positive k l differs = elim (order_of_two k l) [
     | inl low ↦ omega (arith, behind-low k l low)
     | inr other ↦ elim other [
       | inl own ↦ absurd (differs own)
@@ -230,7 +117,8 @@ module _ (c d e : ℕ) (c_d : c ≢ d) (c_e : c ≢ e) (d_e : d ≢ e) where
   c_above =
       let first = positive e c c_e in
       let not_one : place_behind (place_behind e d) (place_behind e c) ≢ 1 =
-      λ is. behind-apart d_then (place_behind e c) 0 (λ none. absurd (omega (arith, first, none))) (is ∙ sym (zero-behind d_then d_positive)) in
+      λ is. behind-apart d_then (place_behind e c) 0 (λ none. absurd (omega (arith, first, none)))
+      (is ∙ sym (zero-behind d_then d_positive)) in
       above (place_behind (place_behind e d) (place_behind e c)) c_positive not_one
     where
       above : (n : ℕ) → 1 ≤ n → n ≢ 1 → 2 ≤ n
@@ -255,7 +143,8 @@ IsSlid-three old new c d e p q r arcs slid =
     let once = IsSlid-first old new e c d e p q r arcs slid.e_below slid in
     let old_once = listed_by old (first_to e old.crossings) in
     let new_once = listed_by new (first_to e new.crossings) in
-    let twice = IsSlid-first old_once new_once d_then (place_behind e c) (place_behind e d) (place_behind e e) p q r arcs once.d_below once in
+    let twice = IsSlid-first old_once new_once d_then (place_behind e c) (place_behind e d) (place_behind e e) p q r arcs once.d_below
+    once in
     let old_twice = listed_by old (first_to d_then old_once.crossings) in
     let new_twice = listed_by new (first_to d_then new_once.crossings) in
     let thrice = IsSlid-first old_twice new_twice c_then (place_behind d_then (place_behind e c)) (place_behind d_then (place_behind e d))
@@ -339,11 +228,6 @@ IsRenumberedOnto-first f old new k below is =
           let at = at_home old k below m slot in
           omega (arith, at, old_names, is.holds (home k m) slot (inner m m_below) slot_below);
       zero_kept = is.zero_kept;
-      back = is.back;
-      back_name = λ x here.
-          let old_is = is.back_name x (record { positive = here.positive; within = omega (arith, here.within, new_size) }) in
-          record { positive = old_is.positive; within = omega (arith, old_is.within, old_size) };
-      back_is = λ x here. is.back_is x (record { positive = here.positive; within = omega (arith, here.within, new_size) });
     }
 
 pub IsRenumberedOnto-three : (f : ℕ → ℕ) (old new : Code) (c d e : ℕ) → c < length old.crossings → d < length old.crossings
