@@ -107,13 +107,3 @@ flat_map-range f g a zero same = refl
 flat_map-range f g a (suc n) same =
     ap (λ zs. zs ++ flat_map f (range_with_len (a + 1) n)) (same a (omega arith))
     ∙ ap (λ zs. g a ++ zs) (flat_map-range f g (a + 1) n (λ t below. same t (omega (arith, below))))
-
--- filters keep lists without doubles
-pub once-filter : (p : ℕ → Bool) (xs : List ℕ) → HasNoDoubles xs → HasNoDoubles (filter p xs)
-once-filter p [] once = once
-once-filter p (x ∷ xs) once =
-    by (p x) (λ has. first-new x xs once (Contains-kept p xs x has).0) (once-filter p xs (once-later x xs once))
-  where
-    by : (b : Bool) → (Contains (filter p xs) x → ⊥) → HasNoDoubles (filter p xs) → HasNoDoubles (cond b (x ∷ filter p xs) (filter p xs))
-    by true new rest = once-first x (filter p xs) new rest
-    by false new rest = rest
