@@ -52,8 +52,8 @@ def is_round(labels, count):
 
 
 def followers(labels):
-    """The arc that follows each one: of two arcs that differ by one the greater follows, else the smaller, and where two arcs are a component
-    each follows the other. Less where two follow one."""
+    """The arc that follows each one: of two arcs that differ by one the greater follows, else the smaller, and where two arcs are a
+    component each follows the other. Less where two follow one."""
     after = dict(zip(labels[::4], labels[2::4]))
     for one, other in zip(labels[1::4], labels[3::4]):
         if one > other:

@@ -1,5 +1,5 @@
-"""Tries whether what `tools/kh-codes` reads without its tree (`tools/plain_lists.py`) is what the tree makes of it: random planar diagrams as
-they are and spoilt, in each form, with names and in tables, byte for byte.
+"""Tries whether what `tools/kh-codes` reads without its tree (`tools/plain_lists.py`) is what the tree makes of it: random planar
+diagrams as they are and spoilt, in each form, with names and in tables, byte for byte.
 """
 import os
 import random
@@ -21,8 +21,9 @@ import plain_lists
 plain_lists.written = lambda text: ""
 runpy.run_path({CODES!r}, run_name="__main__")
 """
-NAMES = ("", "", "", "k{0}\t", "k{0}: ", "L2a1{{{0}}}\t", "K = ", "a name\t", "braid\t", "DT\t", "x{{\t", "(x)\t", "3_1:")
-BEHIND = ("", "", "", "", " ", ",", ";", ".", "  # a comment", "\n# a comment", "\nSigns[1]", "\n", "]")
+NAMES = ("", "", "", *["k{0}\t", "k{0}: "] * 8, "L2a1{{{0}}}\t", "K = ", "a name\t", "braid\t", "DT\t", "x{{\t", "(x)\t", "3_1:")
+BEHIND = (*[""] * 80, " ", ",", ";", ".", "  # a comment", "\n# a comment", "\nSigns[1]", "\n", "]")
+WHOLE = (("PD[{}]", "X[{}]"), ("[{}]", "[{}]"), ("[{}]", "({})"))
 HEADINGS = ("name,pd_notation", "name;pd_notation;x", "x|name|dt_notation|PD Notation", "name\tpd")
 
 
@@ -38,10 +39,10 @@ def crossings_of(draw):
 
 
 def spoilt(draw, crossings):
-    """The same crossings with one thing changed, or none."""
-    if not crossings:
+    """The same crossings, or with one thing changed."""
+    if not crossings or draw.random() < 0.6:
         return crossings
-    place, slot, kind = draw.randrange(len(crossings)), draw.randrange(4), draw.randrange(9)
+    place, slot, kind = draw.randrange(len(crossings)), draw.randrange(4), draw.randrange(6)
     them = [list(it) for it in crossings]
     labels = sorted({it for crossing in them for it in crossing})
     if kind == 0:
@@ -56,22 +57,21 @@ def spoilt(draw, crossings):
     elif kind == 4:
         shift = draw.choice((-1, 1, 7, -3))
         them = [[it + shift for it in crossing] for crossing in them]
-    elif kind == 5:
+    else:
         draw.shuffle(them)
     return them
 
 
 def written(draw, crossings):
     """A text of crossings, in one of the forms that are read."""
-    whole, crossing = draw.choice((("PD[{}]", "X[{}]"), ("[{}]", "[{}]"), ("[{}]", "({})"), ("PD[{}]", "Xp[{}]"), ("{{{}}}", "{{{}}}")))
-    between, comma = draw.choice(((",", ","), (", ", ", "), (", ", ","), (",", ", "), (";", ",")))
+    whole, crossing = draw.choice((*WHOLE * 4, ("PD[{}]", "Xp[{}]"), ("{{{}}}", "{{{}}}")))
+    between, comma = draw.choice(((",", ","), (", ", ", "), (",", ","), (", ", ", "), (", ", ","), (",", ", "), (";", ",")))
     return whole.format(between.join(crossing.format(comma.join(map(str, it))) for it in crossings))
 
 
 def edited(draw, text):
-    """The same text, or with one character changed."""
-    place = draw.randrange(len(text) + 1)
-    kind = draw.randrange(12)
+    """The same text, or with one sign changed."""
+    place, kind = draw.randrange(len(text) + 1), draw.randrange(24)
     if kind == 0:
         return text[:place] + text[place + 1 :]
     if kind == 1:
@@ -93,7 +93,8 @@ def table(draw, number):
     for row in range(draw.randrange(4)):
         text = edited(draw, written(draw, spoilt(draw, crossings_of(draw))))
         text = f'"{text}"' if separator in ",;" or draw.random() < 0.3 else text
-        fields = {"name": draw.choice((f"k{number}_{row}", "", "L2a1{0}")), "x": draw.choice(("", "(", '"a | b"', "[1, 2]")), "dt_notation": ""}
+        fields = {"name": draw.choice((f"k{number}_{row}", "", "L2a1{0}")), "dt_notation": ""}
+        fields["x"] = draw.choice(("", "(", '"a | b"', "[1, 2]"))
         rows.append(separator.join(fields.get(it, text) for it in heading.split(separator)))
     return "\n".join([*rows, ""])
 

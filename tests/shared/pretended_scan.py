@@ -2,8 +2,8 @@
 """What stands in for `kh-scan` where `kh-tabulate` is tried (`tabulating.py`): it takes one code, or with `each` one on each line.
 
 It writes down each answer that it begins in the file TOLD, takes a fiftieth of a second for it, and knows no diagrams: what it answers
-hangs on the word that the code begins with. After HELD answers it waits until that file is gone, as it does with `slow`. Where CHATTER is
-set it writes what `each` does not.
+hangs on the word that the code begins with. After HELD answers it waits until that file is gone, as it does with `slow`, but where there is
+a file TOLD.free. Where CHATTER is set it writes what `each` does not.
 """
 import os
 import subprocess
@@ -34,7 +34,7 @@ def note(field):
     with open(TOLD, "a", encoding="utf-8") as file:
         file.write(f"{field}\n")
     with open(TOLD, encoding="utf-8") as file:
-        if len(file.readlines()) > int(os.environ.get("HELD", 1_000_000)):
+        if len(file.readlines()) > int(os.environ.get("HELD", 1_000_000)) and not os.path.exists(TOLD + ".free"):
             hold()
     time.sleep(0.02)
 
