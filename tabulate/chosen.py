@@ -67,8 +67,9 @@ class Chosen:
     def known(self, fields, final):
         """How many results there are over these fields that are final, an SQL condition, by their statuses."""
         marks = ", ".join("?" * len(fields))
-        every = "from chosen_codes cross join answers on answers.code = chosen_codes.code"
-        return dict(self.database.execute(f"select status, sum(links) {every} where field in ({marks}) and {final} group by status", fields))
+        answers = "chosen_codes cross join answers on answers.code = chosen_codes.code"
+        every = f"select status, sum(links) from {answers} where field in ({marks}) and {final} group by status"
+        return dict(self.database.execute(every, fields))
 
     def open_codes(self, fields, final):
         """Lists of codes in the order of the list: the number of each, how many links have it, the code, and the fields that it lacks."""

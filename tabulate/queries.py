@@ -123,7 +123,8 @@ def classes(database, key, condition):
     firsts = database.execute(f"select {key}, min(place) from keys group by {key} having {condition} order by min(place)").fetchall()
     where = " and ".join(f"{it} = ?" for it in key.split(", "))
     for number, (*values, _) in enumerate(firsts, 1):
-        yield number, database.execute(f"select name, fields, code, tables, mirrored from keys where {where} order by place", values).fetchall()
+        links = f"select name, fields, code, tables, mirrored from keys where {where} order by place"
+        yield number, database.execute(links, values).fetchall()
 
 
 def side(tables, mirrored, first):
@@ -204,8 +205,9 @@ def links_with(asked, tables):
     chosen = "links.id in (select link from chosen_links) and" if asked.is_of_list else ""
     of_tables = "tables cross join answers on answers.table_id = tables.id cross join codes on codes.id = answers.code"
     every = f"select name, codes.code from {of_tables} cross join links on links.code = codes.id where {chosen} ({marks})"
+    grouped = "group by links.id having count(distinct field) = ? order by name, codes.code"
     values = [it for pair in tables.items() for it in pair]
-    return asked.database.execute(f"{every} group by links.id having count(distinct field) = ? order by name, codes.code", (*values, len(tables)))
+    return asked.database.execute(f"{every} {grouped}", (*values, len(tables)))
 
 
 def table(asked, counts):

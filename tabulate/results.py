@@ -4,8 +4,8 @@
 |---|---|
 | `codes` | a code: `id`, `code` |
 | `links` | a name of a code: `id`, `name`, `code` (its `id`) |
-| `answers` | what became of a code over a field: `code`, `field`, `status`, `table_id` (of `tables`, where it was answered), `refusal`, `seconds`, `program` |
-| `tables` | a table with its Jones line, as `table_rows` and `jones` have them; links share it: `id`, `table_rows`, `jones` |
+| `answers` | of a code over a field: `code`, `field`, `status`, `table_id` (where there is a table), `refusal`, `seconds`, `program` |
+| `tables` | a table with its Jones line, which links share: `id`, `table_rows`, `jones` |
 | `degrees` | a dimension of a table: `table_id`, `j`, `i`, `dim` |
 
 The views `results` and `dimensions` put these together, a row for each link and field, and for each of its dimensions. What follows from

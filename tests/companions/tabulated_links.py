@@ -101,7 +101,8 @@ def last_version(folder):
 
 def other_databases(folder):
     """What is no database of `kh-tabulate`, or of a newer version, is left as it is."""
-    for statement, said in (("create table links (name text)", "no database of kh-tabulate"), ("pragma user_version = 99", "newer version")):
+    others = ("create table links (name text)", "no database of kh-tabulate"), ("pragma user_version = 99", "newer version")
+    for statement, said in others:
         folder.remove("results.db")
         folder.select(statement)
         for words in (("run", folder.at("list"), folder.at("results.db")), ("rebuild", folder.at("results.db"))):
@@ -153,8 +154,8 @@ SAME, SIDES = "class\tname\tfields\tcode\n", "class\tname\tfields\ttable\tcode\n
 JONES = "class\ttable\tname\tfields\tcode\n"
 REFUSED = "name\tfields\tstatus\tline\tcode\n"
 LARGE = "huge\t{}\t6\tlimit crossings 21 of 20\twide\n"
-EVEN = "".join(f"{name}\t{{0}}7\t{{0}}{i}\t1\t0\t\t\t{code}\n" for name, code in (("b", "trefoil"), ("d", "trefoil turned")) for i in (2, 3))
-EVEN = EVEN.format("") + "e\t-7\t-3\t1\t0\t\t\tmirrored\ne\t-7\t-2\t1\t0\t\t\tmirrored\n"
+EVEN = "".join(f"{it[0]}\t7\t{i}\t1\t0\t\t\t{it[1]}\n" for it in (("b", "trefoil"), ("d", "trefoil turned")) for i in (2, 3))
+EVEN += "e\t-7\t-3\t1\t0\t\t\tmirrored\ne\t-7\t-2\t1\t0\t\t\tmirrored\n"
 THREE = "g\t5\t2\t0\t1\t\t\tthreefold\ng\t5\t3\t0\t1\t\t\tthreefold\n"
 UNKNOTS = "1\ta\t{0}\t{1}PD[Loop[1]]\n1\tc\t{0}\t{1}PD[Loop[2]]\n1\tmended\t{0}\t{1}PD[]\n"
 TREFOILS = "2\tb\t2,3\t{0}trefoil\n2\td\t2,3\t{0}trefoil turned\n"
@@ -214,7 +215,7 @@ cut|4|cut||[[1,4,2,5]|3
 
 
 def tables_of_other_programs(folder):
-    """A file with a heading is read as `tools/kh-codes` reads it, also as a list of what is asked; a wrong code is a row that is refused."""
+    """A file with a heading is read as `tools/kh-codes` reads it, also as a list of what is asked; a wrong code is refused."""
     status, _, errors = folder.run("run", folder.write("knots.csv", KNOTS), folder.at("results.db"), "--fields", "all")
     names = sorted({(it[0], it[1][:9]) for it in folder.results()})
     wanted_names = [("3_1", "PD[X[1, 5"), ("4_1", "PD[X[4, 2"), ("L2a1{0}", "PD[X[4, 1"), ("cut", "[[1,4,2,5")]

@@ -33,7 +33,8 @@ def braids(folder):
     came = folder.start(os.path.join(os.path.dirname(TABULATE), "braids"), "5", "4")
     wrote, errors = came.communicate(timeout=PATIENCE)
     lines = [line.split("\t") for line in wrote.splitlines()]
-    if came.returncode or errors or len({name for name, _ in lines}) != len(lines) or lines[0] != ["3: -2 1", "PD[X[2, 3, 3, 4], X[4, 2, 1, 1]]"]:
+    are_fine = len({name for name, _ in lines}) == len(lines) and lines[0] == ["3: -2 1", "PD[X[2, 3, 3, 4], X[4, 2, 1, 1]]"]
+    if came.returncode or errors or not are_fine:
         return f"status {came.returncode}, {len(lines)} lines, {lines[:2]}, {errors}"
     for name, text in lines:
         strands, word = name.split(": ")
@@ -112,7 +113,7 @@ def none_by_parallel(folder):
 
 
 def array_commands():
-    """The commands at the head of `tabulate/array.slurm`: what cuts the list, what begins the tasks, and what puts their results together."""
+    """The commands at the head of `tabulate/array.slurm`: what cuts the list, what begins the tasks, what stores their results."""
     with open(os.path.join(TOP, "tabulate", "array.slurm"), encoding="utf-8") as file:
         return [line.split("        ")[0] for line in re.findall(r"^#   (.*)$", file.read(), re.M)]
 

@@ -1,4 +1,4 @@
-"""A queue of Slurm on one node, this machine, for tests: Debian's `slurm-wlm` with its daemons in a folder, on loopback alone, as this user.
+"""A queue of Slurm on one node, this machine, for tests: Debian's `slurm-wlm` with its daemons in a folder, on loopback, as this user.
 
 Where it is not installed, `is_there` is false; with KH_SLURM=install in the environment `apt-get` installs it first.
 """
