@@ -112,6 +112,24 @@ def none_by_parallel(folder):
     return None if started.returncode == 3 and "nothing was answered" in said else f"status {started.returncode}, {said}"
 
 
+def page_by_parallel(folder):
+    """The command of `docs/TABULATION.md` for GNU parallel, as it stands there."""
+    if not has_parallel("the command of docs/TABULATION.md"):
+        return None
+    with open(os.path.join(TOP, "docs", "TABULATION.md"), encoding="utf-8") as file:
+        command = re.search(r"^(?:\w+=\w+ )*tabulate/on-many .*$", file.read(), re.M)[0]
+    with tempfile.TemporaryDirectory() as top:
+        folder_of(top, SCAN)
+        os.mkdir(os.path.join(top, "out"))
+        shutil.copy(folder.at("list"), os.path.join(top, "out", "mine.tsv"))
+        settings = dict(os.environ, TOLD=folder.told, SCAN=SCAN)
+        came = subprocess.run(["sh", "-c", command], cwd=top, env=settings, capture_output=True, text=True, timeout=PATIENCE)
+        shutil.copy(os.path.join(top, "out", "mine", "results.db"), folder.at("results.db"))
+        found = folder.select("select field, count(*) from results group by field")
+    right = came.returncode == 0 and found == [(field, COUNT + 2) for field in (2, 3, 5, 7)]
+    return None if right else f"status {came.returncode}, {found}, {came.stderr}"
+
+
 def array_commands():
     """The commands at the head of `tabulate/array.slurm`: what cuts the list, what begins the tasks, what stores their results."""
     with open(os.path.join(TOP, "tabulate", "array.slurm"), encoding="utf-8") as file:
@@ -169,4 +187,4 @@ def by_slurm(folder):
         return fault or result_fault(folder) or (f"at the top: {others}" if others else None)
 
 
-TESTS = (helps, braids, measure, by_parallel, lost_by_parallel, none_by_parallel, by_slurm)
+TESTS = (helps, braids, measure, by_parallel, lost_by_parallel, none_by_parallel, page_by_parallel, by_slurm)
