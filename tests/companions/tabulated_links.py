@@ -1,6 +1,8 @@
 """Tries lists, databases and questions of `kh-tabulate` (see `tabulation.py`)."""
 import json
+import random
 
+from bench.braids import planar_diagram
 from shared.running import PATIENCE
 from shared.tabulating import COUNT, HEAD, TABULATE, kept_fault, wanted
 
@@ -224,6 +226,52 @@ def tables_of_other_programs(folder):
         return f"status {status}, {names}, {len(rows)} rows, {errors}"
     status, _, errors = folder.run("run", "-", folder.at("results.db"), given=KNOTS)
     return None if status == 1 and "goes through tools/kh-codes" in errors else f"status {status}, {errors}"
+
+
+# How many pairs of mirror images a file of links has, and the torus knot and its mirror image with dimensions that are known.
+PAIRS, SEED = 149, 7
+TORUS = [1, 2, 1, 2, 1, 2, 1, 2]
+
+
+def drawn_words():
+    """Words of braids on three and four strands that all cross, with up to ten letters, and their mirror images, by name."""
+    draw, found = random.Random(SEED), {"torus": (3, TORUS), "torus mirrored": (3, [-it for it in TORUS])}
+    while len(found) < 2 * PAIRS + 2:
+        strands = draw.randrange(3, 5)
+        word = [draw.choice((1, -1)) * draw.randrange(1, strands) for _ in range(draw.randrange(strands - 1, 11))]
+        if {*map(abs, word)} == {*range(1, strands)}:
+            number = len(found) // 2
+            found[f"K{number}"], found[f"K{number} mirrored"] = (strands, word), (strands, [-it for it in word])
+    return found
+
+
+def written_as_knotinfo(words):
+    """A file with a bar between fields: a heading of names, one of titles, and a row for each link."""
+    rows = ["name|braid_notation|pd_notation", "Name|Braid Notation|PD Notation"]
+    for name, (strands, word) in words.items():
+        text = planar_diagram(strands, word)[3:-1].replace("X[", "[")
+        rows.append(f"{name}|{{{','.join(map(str, word))}}}|[{text}]")
+    return "\n".join([*rows, ""])
+
+
+def file_of_links(folder, scan):
+    """A file of 300 links over four fields by the program itself: all are answered, each is beside its mirror image, and the torus
+    knot has the torsion of order 2 that `docs/TABULATION.md` shows."""
+    words, results = drawn_words(), folder.at("results.db")
+    path = folder.write("knots.csv", written_as_knotinfo(words))
+    status, _, errors = folder.run("run", path, results, "--fields", "all", "--scan", scan)
+    if status or f"{4 * len(words)} answered, of {4 * len(words)}" not in errors:
+        return f"status {status}, {errors}"
+    classes = {}
+    for line in folder.run("query", "same", "--mirror", "--fields", "all", results)[1].splitlines()[1:]:
+        number, name, _, side, _ = line.split("\t")
+        classes[name] = number, side
+    pairs = [(classes.get(name), classes.get(f"{name} mirrored")) for name in words if not name.endswith("mirrored")]
+    apart = [pair for pair in pairs if None in pair or pair[0][0] != pair[1][0] or (pair[0][1] == pair[1][1]) != (pair[0][1] == "both")]
+    torsion = [line.split("\t")[:5] for line in folder.run("query", "torsion", "--fields", "all", results)[1].splitlines()]
+    found = [row[1:] for row in torsion if row[0] == "torus"]
+    right = found == [["11", "2", "1", "0"], ["11", "3", "1", "0"]]
+    return None if right and not apart else f"{apart[:3]} of {len(apart)}, {found}"
 
 
 TESTS = (

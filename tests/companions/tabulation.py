@@ -9,6 +9,7 @@ import signal
 import tempfile
 
 from companions import tabulated_links, tabulated_parts
+from shared.scanning import is_there, scan_of
 from shared.tabulating import COUNT, HEAD, Folder, kept_fault, result_fault
 
 
@@ -179,12 +180,20 @@ TESTS = (
 )  # fmt: skip
 
 
+def tried(test, *more):
+    """The name of a test, and what is wrong, if anything is."""
+    path = tempfile.mkdtemp()
+    try:
+        return f"tabulate: {test.__name__.replace('_', ' ')}", test(Folder(path), *more)
+    finally:
+        # (a program that was killed late may still write there)
+        shutil.rmtree(path, ignore_errors=True)
+
+
 def faults(program=None):
-    """The name of each test, and what is wrong, if anything is."""
+    """The name of each test, and what is wrong, if anything is; the last is of the program of scans itself, where there is one."""
     for test in (*TESTS, *tabulated_links.TESTS, *tabulated_parts.TESTS):
-        path = tempfile.mkdtemp()
-        try:
-            yield f"tabulate: {test.__name__.replace('_', ' ')}", test(Folder(path))
-        finally:
-            # (a program that was killed late may still write there)
-            shutil.rmtree(path, ignore_errors=True)
+        yield tried(test)
+    scan = program and scan_of(program)
+    if scan and is_there(scan):
+        yield tried(tabulated_links.file_of_links, scan)
