@@ -1,7 +1,8 @@
 """Asks `kh-scan each`, one process for each of so many, which share the codes: whoever has answered gets the next ones.
 
-A process has the codes of its next few hundredths of a second in its pipe, and so never waits for this script. Where it dies, or has no
-answer in time, the code that it was at is lost over that field, and the others that it had are given to another.
+A process has the codes of its next tenth of a second in its pipe, and so hardly waits for this script; where a code takes as long as that
+it has one alone, so that none waits behind another. Where it dies, or has no answer in time, the code that it was at is lost over that
+field, and the others that it had are given to another.
 """
 import contextlib
 import itertools
@@ -18,8 +19,8 @@ from results import Fault
 FIELDS = (2, 3, 5, 7)
 HEAD = re.compile(rb"code (\d+) field (\d) status (\d+) bytes (\d+)\n")
 FIRST = b"answers 1\n"
-# The seconds of work that a process is given ahead, and how many codes at least and at most; the bytes that are read at once.
-AHEAD, LEAST, MOST = 0.05, 2, 64
+# The seconds of work that a process is given ahead, and how many codes at most; the bytes that are read at once.
+AHEAD, MOST = 0.1, 64
 PART = 65_536
 # How long a process that has closed its output, or that has nothing more to read, has to end.
 GRACE = 5
@@ -94,7 +95,7 @@ class Stream:
         """Whether a task can be sent, now or behind a process of other fields that has answered all."""
         if self.tasks and task.fields != self.fields:
             return False
-        return len(self.tasks) < min(MOST, max(LEAST, AHEAD / self.mean))
+        return len(self.tasks) < min(MOST, max(1, AHEAD / self.mean))
 
     def send(self, task):
         """Sends a task behind those that are with it."""

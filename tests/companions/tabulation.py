@@ -116,17 +116,36 @@ KINDS = "one\tPD[Loop[1]]\ntwo\tbad\nthree\twide\nfour\tlost\nfive\tstarved\nsix
 COUNTED = "1 answered, 1 refused, 1 too large, 1 out of memory, 1 out of time, 1 without an answer, of 6\n"
 
 
+# The seconds that a program is given which never answers; where a slow machine takes as long for others, the test is tried with more.
+SECONDS = ("3", "20")
+
+
+def in_time(check):
+    """What is wrong where programs are given so many seconds, if something is with few and with more."""
+    return check(SECONDS[0]) and check(SECONDS[1])
+
+
 def counts(folder):
     """The last line counts all that is wanted by what became of it, also what was there before and what has not begun."""
     first = folder.write("first", KINDS.partition("four")[0])
     path = folder.write("some", KINDS)
-    runs = [(asked, words) for asked in ("scan", "kh") for words in (("run", path, f"{asked}.db"), ("work", path, f"{asked}.out"))]
-    for asked, (command, _, results) in runs:
-        folder.asked = ("--program", asked)
-        folder.run(command, first, folder.at(results), "--fields", "2")
-        status, _, errors = folder.run(command, path, folder.at(results), "--fields", "2", "--seconds", "3")
-        if status != 1 or f"kh-tabulate: {path}: {COUNTED}" not in errors or "six over 2: no answer" not in errors or folder.living():
-            return f"{asked}, {command}: status {status}, {folder.living()} living, {errors}"
+
+    def fault_in(seconds):
+        runs = [(asked, words) for asked in ("scan", "kh") for words in (("run", f"{asked}.db"), ("work", f"{asked}.out"))]
+        for asked, (command, results) in runs:
+            folder.asked = ("--program", asked)
+            folder.run(command, first, folder.at(seconds + results), "--fields", "2")
+            status, _, errors = folder.run(command, path, folder.at(seconds + results), "--fields", "2", "--seconds", seconds)
+            is_said = f"kh-tabulate: {path}: {COUNTED}" in errors and "six over 2: no answer" in errors
+            if status != 1 or not is_said or folder.living():
+                return f"{asked}, {command}: status {status}, {folder.living()} living, {errors}"
+        return None
+
+    return in_time(fault_in)
+
+
+def counts_of_a_stopped_run(folder):
+    """The last line counts what a stopped run has not come to."""
     folder.stop(signal.SIGTERM, "run", "--jobs", "2", folder.at("list"), folder.at("results.db"), is_alone=True)
     counted = sum(int(it.split()[0]) for it in folder.said.split(f"{folder.at('list')}: ")[-1].split(", of ")[0].split(", "))
     return None if counted == 2 * (COUNT + 2) and f"not worked out, of {counted}\n" in folder.said else folder.said
@@ -135,9 +154,14 @@ def counts(folder):
 def late_over_one_field(folder):
     """Of a code that has no answer in time over one of four fields the others are asked one by one."""
     path = folder.write("some", "one\tPD[Loop[1]]\nsix\tslow\ntwo\tPD[Loop[2]]\n")
-    status, _, errors = folder.run("run", path, folder.at("results.db"), "--fields", "all", "--seconds", "1", "--jobs", "1")
-    is_counted = "8 answered, 4 out of time, of 12" in errors and all(f"six over {it}: no answer" in errors for it in (2, 3, 5, 7))
-    return None if status == 1 and is_counted and not folder.living() else f"status {status}, {folder.living()} living, {errors}"
+
+    def fault_in(seconds):
+        words = ("run", path, folder.at(f"{seconds}.db"), "--fields", "all", "--seconds", seconds, "--jobs", "1")
+        status, _, errors = folder.run(*words)
+        is_counted = "8 answered, 4 out of time, of 12" in errors and all(f"six over {it}: no answer" in errors for it in (2, 3, 5, 7))
+        return None if status == 1 and is_counted and not folder.living() else f"status {status}, {folder.living()} living, {errors}"
+
+    return in_time(fault_in)
 
 
 def none_answered(folder):
@@ -176,7 +200,7 @@ def cubes_alone(folder):
 
 TESTS = (
     killed_run, killed_run_of_cubes, interrupted_run, ended_run, ended_run_of_cubes, killed_work, ended_work, work_of_all_fields,
-    what_is_missing, what_is_no_answer, lost_answers, counts, late_over_one_field, none_answered, cubes_alone,
+    what_is_missing, what_is_no_answer, lost_answers, counts, counts_of_a_stopped_run, late_over_one_field, none_answered, cubes_alone,
 )  # fmt: skip
 
 
