@@ -34,11 +34,11 @@ class Asked(NamedTuple):
 class Result(NamedTuple):
     """A result of a link."""
 
+    link: int
     name: str
     code: str
     field: int
     status: int
-    table: int
     text: str
     jones: str
     refusal: str
@@ -57,14 +57,15 @@ class Question(NamedTuple):
 
 
 def links_of(asked):
-    """The name and the code of each link, with its results over the fields."""
-    chosen = "where links.id in (select link from chosen_links)" if asked.is_of_list else ""
-    columns = "name, codes.code, field, status, table_id, table_rows, jones, refusal"
-    rows = asked.database.execute(f"select {columns} from {ANSWERED} {chosen} order by name, codes.code, field")
-    for link, results in groupby(map(Result._make, rows), lambda it: it[:2]):
+    """The name and the code of each link, with its results over the fields, in the order of names: that of an index, so that nothing is
+    sorted, which of a million links would take gigabytes."""
+    chosen = "where exists (select 1 from chosen_links where link = links.id)" if asked.is_of_list else ""
+    columns = "links.id, name, codes.code, field, status, table_rows, jones, refusal"
+    rows = asked.database.execute(f"select {columns} from {ANSWERED} {chosen} order by name, links.id, field")
+    for _, results in groupby(map(Result._make, rows), lambda it: it.link):
         results = [it for it in results if not asked.fields or it.field in asked.fields]
         if results:
-            yield link, results
+            yield (results[0].name, results[0].code), results
 
 
 def answered(results):
