@@ -35,7 +35,7 @@ def of_table(path, is_told):
     with subprocess.Popen(words, stdout=subprocess.PIPE, stderr=said, text=True, encoding="utf-8") as codes:
         try:
             yield from of_lines(codes.stdout)
-            if codes.wait() > 1:
+            if codes.wait() not in (0, 1):
                 raise Fault(f"{path} can not be read")
         finally:
             codes.kill()
