@@ -265,5 +265,6 @@ def whole(title, meta, lines):
 
 
 FOOTER = (
-    "Counts, polynomials and tables are as <code>kh</code> writes them; drawing, states and this page are beside it, tested and not proved."
+    "Counts and polynomials are as <code>kh</code> writes them, tables as <code>kh-scan</code> or <code>kh</code>; drawing, states and this "
+    "page are beside them, tested and not proved."
 )
