@@ -16,6 +16,8 @@ from page_texts import (
 )
 from sheet import alike, divided
 
+# The columns from which on a grid is set in small letters.
+BROAD = 12
 HERE = os.path.dirname(os.path.abspath(__file__))
 
 
@@ -89,7 +91,7 @@ class Grid:
         """The grid of a table, which is that of all these fields."""
         sums = euler(table)
         head = "".join(f'<th scope="col">{signed(it)}</th>' for it in self.columns)
-        lines = [f'<table class="grid"><caption>{fields_told(fields)}</caption>']
+        lines = [f'<table class="grid{many(self.columns)}"><caption>{fields_told(fields)}</caption>']
         lines.append(f'<thead><tr><th scope="col">j \\ i</th>{head}<th scope="col">χ</th></tr></thead><tbody>')
         for j in self.rows:
             cells = "".join(self.cell(table, (j, i)) for i in self.columns)
@@ -105,6 +107,23 @@ class Grid:
         torsion = " They differ, so there is torsion in the homology over the integers." if self.has_torsion(pair) else ""
         states = generators_told(self.generators.get(pair, [])) if self.sheet.states else "The states are too many to be counted here."
         return f"Dimension {dimensions}.{torsion} {states}"
+
+
+def plain_grid(table, name):
+    """The grid of a table alone."""
+    rows, columns = ({at[side] for at in table.dimensions} for side in (0, 1))
+    columns = range(min(columns), max(columns) + 1) if columns else []
+    head = "".join(f'<th scope="col">{signed(it)}</th>' for it in columns)
+    lines = [f'<table class="grid{many(columns)}"><caption>{name}</caption><thead><tr><th scope="col">j \\ i</th>{head}</tr></thead><tbody>']
+    for j in range(max(rows), min(rows) - 1, -2) if rows else []:
+        cells = "".join(f"<td>{table.dimensions.get((j, i), '')}</td>" for i in columns)
+        lines.append(f'<tr><th scope="row">{signed(j)}</th>{cells}</tr>')
+    return "\n".join([*lines, "</tbody></table>"])
+
+
+def many(columns):
+    """The class of a grid that is broad."""
+    return " many" if len(columns) > BROAD else ""
 
 
 def table_section(grid):
@@ -217,22 +236,22 @@ def section(name, title, inside):
 
 
 CHOSEN = (
-    '<figure id="preview" class="screen" hidden><img alt=""><figcaption class="note"></figcaption></figure>'
     '<section id="chosen" aria-live="polite" aria-label="what is chosen"><div id="told"><p>Choose a crossing of the drawing, a cell of the '
     "table or a state.</p></div></section>"
 )
 
 
-def drawing_section(figure, listed_states):
+def drawing_section(figure, listed_states, moves):
     """The drawing, the code and the counts, and what is chosen."""
     sheet = figure.sheet
     told = f'<p>{counts_told(sheet.counts)}.</p><p class="code"><code>{escape(sheet.code)}</code></p>'
-    return f"{drawing_of(figure, listed_states)}\n<div id=\"choices\"></div>\n{CHOSEN}\n{told}"
+    return f"{drawing_of(figure, listed_states, moves)}\n<div id=\"choices\"></div>\n{CHOSEN}\n{told}"
 
 
-def page_of(sheet, before="", between="", head="", first=""):
-    """The page of a diagram. A server has more to say before it, and between the drawing and the table."""
-    figure, grid, count = Figure(sheet), Grid(sheet), len(sheet.crossings)
+def page_of(sheet, before="", between="", head="", first="", figure=None, moves=()):
+    """The page of a diagram. A server has more to say before it, and between the drawing and the table; a figure behind a move; and moves,
+    each with the address of its picture."""
+    figure, grid, count = figure or Figure(sheet), Grid(sheet), len(sheet.crossings)
     listed_states = sheet.states if count <= MOST_LISTED else []
     name = sheet.name or "A diagram"
     parts = [section("table", "Table", table_section(grid)), section("polynomials", "Polynomials", polynomial_section(sheet))]
@@ -245,7 +264,7 @@ def page_of(sheet, before="", between="", head="", first=""):
         lists.append(section("cells", "Cells of the table", cell_section(grid)))
     if listed_states:
         lists.append(section("states", "States", state_section(sheet)))
-    left = section("diagram", "Drawing", drawing_section(figure, listed_states))
+    left = section("diagram", "Drawing", drawing_section(figure, listed_states, moves))
     meta = head or f'<meta http-equiv="Content-Security-Policy" content="{policy()}">'
     return whole(name, meta, [
         f"<header>{first}<h1>{escape(name)}</h1>{before}</header>",

@@ -199,14 +199,36 @@ def upright(points, marks):
     return rotated(points, best if top + bottom < 1e-6 else best + 0.5)
 
 
-def piece_shape(plane, crossings, slices):
+class Like(NamedTuple):
+    """A drawing that another one is to be like: where crossings stand, and a dart at the outer face."""
+
+    places: dict
+    outer: tuple
+
+
+def turned_like(points, places):
+    """The points turned so that some of them come as near as they can to these places."""
+    pairs = [(points[it], place) for it, place in places.items()]
+    middles = [[math.fsum(pair[side][at] for pair in pairs) / len(pairs) for at in (0, 1)] for side in (0, 1)]
+    across = up = 0.0
+    for (x, y), (far, deep) in pairs:
+        x, y, far, deep = x - middles[0][0], y - middles[0][1], far - middles[1][0], deep - middles[1][1]
+        across, up = across + x * far + y * deep, up + x * deep - y * far
+    turns = math.atan2(up, across) / (2 * math.pi)
+    these = rotated([(x - middles[0][0], y - middles[0][1]) for x, y in points], turns)
+    return [(x + middles[1][0], y + middles[1][1]) for x, y in these]
+
+
+def piece_shape(plane, crossings, slices, like=None):
     """The curves of a piece: smooth ones, or where these come too near to each other those of its drawing."""
     between = between_for(len(crossings))
-    piece = piece_of(plane, crossings, between)
+    piece = piece_of(plane, crossings, between, like and like.outer)
     begun = spread(piece, between)
     if begun:
+        points = [(x, -y) for x, y in zip(*bent(piece, *begun))]
         marks = [*range(len(crossings)), *sorted({chain[1 + between // 2] for chain in piece.chains.values()})]
-        arcs = curves_of(plane, piece, upright([(x, -y) for x, y in zip(*bent(piece, *begun))], marks))
+        points = turned_like(points, like.places) if like else upright(points, marks)
+        arcs = curves_of(plane, piece, points)
         near = clearance(plane, arcs)
         if near * LARGEST > NEAREST:
             return {dart: moved(curve, 0, 0, NEAREST / near) for dart, curve in arcs.items()}
@@ -224,9 +246,10 @@ def moved(curve, x, y, scale=1.0):
     return [(scale * (across + x), scale * (down + y)) for across, down in curve]
 
 
-def shape_of(plane, slices):
-    """The shape of a drawing: its pieces and its loops stand in rows."""
-    parts = [piece_shape(plane, crossings, slices) for crossings in pieces_of(plane)]
+def shape_of(plane, slices, like=None):
+    """The shape of a drawing: its pieces and its loops stand in rows. One piece may be drawn like another drawing."""
+    pieces = pieces_of(plane)
+    parts = [piece_shape(plane, crossings, slices, like if len(pieces) == 1 else None) for crossings in pieces]
     parts += [{("loop", number): circle(RADIUS)} for number in range(plane.loops)]
     sizes = [bounds([point for curve in part.values() for point in sampled(curve)]) for part in parts]
     rows, broad = [], 0.0
