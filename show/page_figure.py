@@ -120,15 +120,16 @@ class Figure:
                 lines.append(path_of(self.turn(crossing, one, other), f' id="turn-{crossing + 1}-{one}{other}"'))
         return lines
 
-    def circles(self, state):
-        """The circles of a state, each in its colour, put together of pieces."""
+    def circles(self, state, are_named=False):
+        """The circles of a state, each in its colour, put together of pieces, and under its own name where that is wanted."""
         groups = []
         for number, circle in enumerate(state.circles):
             names = [f"arm-{arc}" for arc in circle]
             for crossing, (arcs, bit) in enumerate(zip(self.sheet.crossings, state.bits), 1):
                 names += [f"turn-{crossing}-{one}{other}" for one, other in joins_of(arcs, bit) if arcs[one] in circle]
             uses = "".join(f'<use href="#{name}"/>' for name in names)
-            groups.append(f'<g class="circle {colour_class(number)}">{uses}</g>')
+            name = f' id="circle-{state.text()}-{number}"' if are_named else ""
+            groups.append(f'<g class="circle {colour_class(number)}"{name}>{uses}</g>')
         return "".join(groups)
 
     def edges(self):
@@ -226,7 +227,7 @@ def drawing_of(figure, listed, moves=()):
     edges, diagram = figure.edges(), figure.diagram
     # (a small drawing is made larger, but not by much)
     size = f'viewBox="{box_text(edges)}" style="max-width:min(26rem,{number_text(LARGEST * edges[2])}px)"'
-    overlays = [f'<g class="overlay" id="state-{state.text()}">{figure.circles(state)}</g>' for state in listed]
+    overlays = [f'<g class="overlay" id="state-{state.text()}">{figure.circles(state, True)}</g>' for state in listed]
     return "\n".join([
         f'<svg id="drawing" class="figure" {size} role="group" aria-labelledby="drawing-title" aria-describedby="drawing-told">',
         f'<title id="drawing-title">{escape(diagram.title())}</title>',

@@ -8,6 +8,7 @@ from html import escape
 from answers import euler
 from generators import MOST_DRAWN, MOST_LISTED, edges_of
 from page import CLASSES, COLOURS
+from page_cells import cells_of, ranks_told
 from page_cube import cube_of
 from page_figure import SIGNS, Figure, crossing_view, drawing_of, smoothing_view
 from page_texts import (
@@ -219,15 +220,17 @@ def state_section(sheet):
     return "\n".join([*lines, "</tbody></table></div>"])
 
 
-def cell_section(grid):
+def cell_section(grid, figure):
     """Each cell of the grids with what there is to say of it."""
-    lines = ['<dl class="cells">']
+    lines, cells, ranks = ['<dl class="cells">'], cells_of(grid.sheet, figure), ranks_told(grid.sheet, grid.generators)
     for pair in ((j, i) for j in grid.rows for i in grid.columns):
         if grid.is_told(pair):
             states = " ".join(state.text() for state, _, _ in grid.generators.get(pair, []))
             head = f"j = {signed(pair[0])}, i = {signed(pair[1])}"
             data = f' data-states="{states}"' if len(grid.sheet.crossings) <= MOST_LISTED else ""
-            lines.append(f'<div id="{grid.name(pair)}"{data}><dt>{head}</dt><dd>{grid.told(pair)}</dd></div>')
+            work = cells.work(pair) if cells else f'<p class="brief">{ranks[pair]}</p>' if pair in ranks else ""
+            told = f'<p class="brief">{grid.told(pair)}</p>{work}'
+            lines.append(f'<div id="{grid.name(pair)}"{data}><dt>{head}</dt><dd>{told}</dd></div>')
     return "\n".join([*lines, "</dl>"])
 
 
@@ -235,6 +238,8 @@ def section(name, title, inside):
     return f'<section id="{name}" aria-labelledby="{name}-title">\n<h2 id="{name}-title">{title}</h2>\n{inside}\n</section>'
 
 
+# Where what a chosen cell has stands beside the table.
+CELL = '<section id="cell" class="screen" aria-live="polite" aria-label="the cell that is chosen" hidden></section>'
 CHOSEN = (
     '<section id="chosen" aria-live="polite" aria-label="what is chosen"><div id="told"><p>Choose a crossing of the drawing, a cell of the '
     "table or a state.</p></div></section>"
@@ -254,14 +259,14 @@ def page_of(sheet, before="", between="", head="", first="", figure=None, moves=
     figure, grid, count = figure or Figure(sheet), Grid(sheet), len(sheet.crossings)
     listed_states = sheet.states if count <= MOST_LISTED else []
     name = sheet.name or "A diagram"
-    parts = [section("table", "Table", table_section(grid)), section("polynomials", "Polynomials", polynomial_section(sheet))]
+    parts = [section("table", "Table", table_section(grid)), CELL, section("polynomials", "Polynomials", polynomial_section(sheet))]
     if count <= MOST_DRAWN:
         parts.append(section("cube", "Cube of states", cube_section(figure, sheet.states)))
     else:
         parts.append(section("cube", "Cube of states", undrawn_section(count)))
     lists = [section("crossings", "Crossings", crossing_section(figure))] if count else []
     if grid.rows:
-        lists.append(section("cells", "Cells of the table", cell_section(grid)))
+        lists.append(section("cells", "Cells of the table", cell_section(grid, figure)))
     if listed_states:
         lists.append(section("states", "States", state_section(sheet)))
     left = section("diagram", "Drawing", drawing_section(figure, listed_states, moves))

@@ -12,6 +12,7 @@
   const data = JSON.parse(find("#data").textContent);
   const count = data.crossings.length;
   const told = find("#told"), shown = find("#shown"), marks = find("#marks"), choices = find("#choices");
+  const panel = find("#cell");
   const NOTHING = told.innerHTML;
 
   const signed = (value) => String(value).replace("-", "\u2212");
@@ -92,7 +93,10 @@
 
   function showCell(name) {
     const cell = document.getElementById(name);
-    told.innerHTML = `<h3>${find("dt", cell).innerHTML}</h3><p>${find("dd", cell).innerHTML}</p>`;
+    const head = `<h3>${find("dt", cell).innerHTML}</h3>`, work = find(".work", cell);
+    told.innerHTML = head + all(".brief", cell).map((it) => it.outerHTML).join("");
+    panel.hidden = !work;
+    panel.innerHTML = work ? head + work.innerHTML : "";
     all(`.grid a[href="#${name}"]`).forEach((link) => link.classList.add("on"));
     const states = (cell.dataset.states || "none").split(" ");
     all(".cube .state").forEach((state) => state.classList.toggle("has", states.includes(state.dataset.state)));
@@ -108,6 +112,8 @@
   // Shows what this name stands for, and nothing else.
   function show(name) {
     shown.replaceChildren();
+    panel.hidden = true;
+    panel.replaceChildren();
     drawing.classList.remove("dim");
     all(".on, .out, .one, .has").forEach((it) => it.classList.remove("on", "out", "one", "has"));
     all(".choice", choices).forEach((button, at) => choose(button, at, null));
