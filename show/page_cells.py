@@ -72,7 +72,9 @@ class Cells:
         if not matrix:
             return f"<p>{told}: none, for no generator stands at i = {signed(i if pair not in self.lists else i + 1)}.</p>"
         rows, columns, numbers = self.lists[j, i + 1], self.lists[pair], self.divisors[pair]
-        came = f"Its elementary divisors are {', '.join(map(str, numbers))}." if numbers else "It is 0."
+        came = "It is 0."
+        if numbers:
+            came = f"Steps with rows and columns over the integers leave {', '.join(map(str, numbers))} on its diagonal, its elementary divisors."
         size = f"{counted(len(rows), 'row')} and {counted(len(columns), 'column')}"
         if max(len(rows), len(columns)) > MOST_SHOWN:
             entries = sum(it != 0 for row in matrix for it in row)

@@ -11,6 +11,7 @@ from page import CLASSES, COLOURS
 from page_cells import cells_of, ranks_told
 from page_cube import cube_of
 from page_figure import SIGNS, Figure, crossing_view, drawing_of, smoothing_view
+from page_scan import scan_section
 from page_texts import (
     circles_told, counts_told, fields_told, generators_told, jones_html, knot_atlas_html, listed, poincare_html, power, signed,
     state_link,
@@ -19,6 +20,8 @@ from sheet import alike, divided
 
 # The columns from which on a grid is set in small letters.
 BROAD = 12
+# The parts of the script.
+SCRIPTS = ("page_script.js", "page_steps.js", "page_quiz.js")
 HERE = os.path.dirname(os.path.abspath(__file__))
 
 
@@ -46,7 +49,7 @@ def policy():
 
 
 def script():
-    return file_text("page_script.js")
+    return "\n".join(map(file_text, SCRIPTS))
 
 
 def data_of(sheet):
@@ -262,6 +265,8 @@ def page_of(sheet, before="", between="", head="", first="", figure=None, moves=
     parts = [section("table", "Table", table_section(grid)), CELL, section("polynomials", "Polynomials", polynomial_section(sheet))]
     if count <= MOST_DRAWN:
         parts.append(section("cube", "Cube of states", cube_section(figure, sheet.states)))
+        scan = scan_section(figure)
+        parts += [section("scan", "The scan, step by step", scan)] if scan else []
     else:
         parts.append(section("cube", "Cube of states", undrawn_section(count)))
     lists = [section("crossings", "Crossings", crossing_section(figure))] if count else []
