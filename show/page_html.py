@@ -20,8 +20,8 @@ from sheet import alike, divided
 
 # The columns from which on a grid is set in small letters.
 BROAD = 12
-# The parts of the script.
-SCRIPTS = ("page_script.js", "page_steps.js", "page_quiz.js")
+# The parts of the script, and those that a served page has too.
+SCRIPTS, SERVED = ("page_script.js", "page_steps.js", "page_quiz.js"), ("page_draw.js",)
 HERE = os.path.dirname(os.path.abspath(__file__))
 
 
@@ -43,13 +43,13 @@ def digest(text):
     return "sha256-" + base64.b64encode(hashlib.sha256(text.encode()).digest()).decode()
 
 
-def policy():
+def policy(is_served=False):
     """What a page may do: run its own script, look as its own style says, and nothing with any other place."""
-    return f"default-src 'none'; style-src 'unsafe-inline'; script-src '{digest(script())}'; img-src 'self' data:"
+    return f"default-src 'none'; style-src 'unsafe-inline'; script-src '{digest(script(is_served))}'; img-src 'self' data:"
 
 
-def script():
-    return "\n".join(map(file_text, SCRIPTS))
+def script(is_served=False):
+    return "\n".join(map(file_text, (*SCRIPTS, *(SERVED if is_served else ()))))
 
 
 def data_of(sheet):
@@ -280,16 +280,16 @@ def page_of(sheet, before="", between="", head="", first="", figure=None, moves=
         f"<header>{first}<h1>{escape(name)}</h1>{before}</header>",
         f'<main>\n<div class="left">\n{left}\n</div>\n<div class="right">', between, *parts, *lists, "</div>\n</main>",
         f'<script type="application/json" id="data">{data_of(sheet)}</script>',
-    ])
+    ], bool(head))
 
 
-def whole(title, meta, lines):
+def whole(title, meta, lines, is_served=False):
     """A file of HTML with this in its body."""
     return "\n".join([
         "<!DOCTYPE html>", '<html lang="en">', "<head>", '<meta charset="utf-8">', meta, '<link rel="icon" href="data:,">',
         '<meta name="viewport" content="width=device-width, initial-scale=1">', '<meta name="color-scheme" content="light dark">',
         f"<title>{escape(title)}</title>", f"<style>{style()}</style>", "</head>", "<body>", *lines,
-        f"<footer>{FOOTER}</footer>", f"<script>{script()}</script>", "</body>", "</html>",
+        f"<footer>{FOOTER}</footer>", f"<script>{script(is_served)}</script>", "</body>", "</html>",
     ]) + "\n"
 
 

@@ -139,7 +139,7 @@ def start_page(base, head, text="", fault=""):
         "read: planar diagrams (Knot Atlas, KnotInfo, SnapPy), Gauss and DT codes, braid words such as <code>braid: 1 1 1</code>, names "
         "such as <code>8_19</code> and <code>T(3,4)</code>.</p>"
     )
-    return whole("kh", head, [f"<header>{told}{form(base, text, fault)}</header>", HOW % base])
+    return whole("kh", head, [f"<header>{told}{form(base, text, fault)}</header>", HOW % base], True)
 
 
 def saved_page(session, number):

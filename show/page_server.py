@@ -187,7 +187,7 @@ class Handler(http.server.BaseHTTPRequestHandler):
         heads = {
             "Content-Type": reply.kind, "Content-Length": str(len(body)), "Cache-Control": "no-store", "X-Content-Type-Options": "nosniff",
             "Referrer-Policy": "same-origin", "Cross-Origin-Resource-Policy": "same-origin", "Cross-Origin-Opener-Policy": "same-origin",
-            "Content-Security-Policy": f"{policy()}; {OF_PAGES}" if is_page else OF_OTHERS,
+            "Content-Security-Policy": f"{policy(True)}; {OF_PAGES}" if is_page else OF_OTHERS,
         }
         self.send_response(reply.status)
         for name, value in [*heads.items(), *reply.heads]:
