@@ -69,7 +69,8 @@ def divisors(matrix):
     """The elementary divisors of a matrix over the integers: the numbers on the diagonal that row and column operations leave."""
     rows, found = [row[:] for row in matrix if any(row)], []
     while rows:
-        at, column = min(((row, k) for row, them in enumerate(rows) for k, it in enumerate(them) if it), key=lambda it: abs(rows[it[0]][it[1]]))
+        places = ((row, k) for row, them in enumerate(rows) for k, it in enumerate(them) if it)
+        at, column = min(places, key=lambda it: abs(rows[it[0]][it[1]]))
         pivot = rows[at]
         for other in (it for it in rows if it is not pivot and it[column]):
             part = other[column] // pivot[column]

@@ -74,7 +74,8 @@ class Cells:
         rows, columns, numbers = self.lists[j, i + 1], self.lists[pair], self.divisors[pair]
         came = "It is 0."
         if numbers:
-            came = f"Steps with rows and columns over the integers leave {', '.join(map(str, numbers))} on its diagonal, its elementary divisors."
+            divisors_told = ", ".join(map(str, numbers))
+            came = f"Steps with rows and columns over the integers leave {divisors_told} on its diagonal, its elementary divisors."
         size = f"{counted(len(rows), 'row')} and {counted(len(columns), 'column')}"
         if max(len(rows), len(columns)) > MOST_SHOWN:
             entries = sum(it != 0 for row in matrix for it in row)
@@ -124,7 +125,8 @@ def ranks_told(sheet, generators):
     for j, i in sorted(generators) if table else []:
         count, into = sum(many for _, many, _ in generators[j, i]), rank_of.get((j, i - 1), 0)
         rank_of[j, i] = out = count - into - table.dimensions.get((j, i), 0)
-        told[j, i] = f"Over {table.field} elements: {count} − {out} − {into} = {count - out - into}, the ranks out of it and into it taken away."
+        sum_of = f"{count} − {out} − {into} = {count - out - into}"
+        told[j, i] = f"Over {table.field} elements: {sum_of}, the ranks out of it and into it taken away."
     return told
 
 

@@ -1,4 +1,4 @@
-// A knot is drawn with the mouse, a pen or a finger: closed curves, whose crossings a click turns over. Its code goes into the field for codes.
+// A knot is drawn with the mouse, a pen or a finger: closed curves, whose crossings a click turns over. Its code goes into the field.
 (() => {
   const form = document.querySelector("form.codes"), field = document.querySelector("#text");
   if (!form) return;
@@ -11,9 +11,9 @@
   const box = document.createElement("details");
   box.id = "sketch";
   box.className = "screen";
-  box.innerHTML = `<summary>Draw a knot with the mouse</summary><p class="note">Draw a closed curve in one go; it closes where you let go. A
-    second curve makes a link. Click a crossing, or press Enter on it, to exchange over and under. The code above is that of the drawing, and
-    can be typed as well.</p>`;
+  box.innerHTML = `<summary>Draw a knot with the mouse</summary><p class="note">Draw a closed curve in one go; it closes where you let go.
+    A second curve makes a link. Click a crossing, or press Enter on it, to exchange over and under. The code above is that of the drawing,
+    and can be typed as well.</p>`;
   const canvas = document.createElementNS(SVG, "svg");
   canvas.setAttribute("viewBox", `0 0 ${WIDTH} ${HEIGHT}`);
   canvas.setAttribute("class", "sketch");
@@ -53,7 +53,8 @@
       const way = ({ side: [[x, y], [far, deep]] }) => [far - x, deep - y];
       const [[x, y], [far, deep]] = one.side, place = [x + met[0] * (far - x), y + met[0] * (deep - y)];
       const pass = (it, part) => ({ curve: it.curve, at: it.at + part, way: way(it) });
-      found.push({ place, passes: [pass(one, met[0]), pass(other, met[1])], name: `${Math.round(place[0] / 8)} ${Math.round(place[1] / 8)}` });
+      const name = place.map((it) => Math.round(it / 8)).join(" ");
+      found.push({ place, passes: [pass(one, met[0]), pass(other, met[1])], name });
     }));
     return found;
   }
@@ -73,7 +74,7 @@
     return passes;
   }
 
-  // The planar diagram: arcs are numbered along the curves, and each crossing has its four counterclockwise from the one that comes in below.
+  // The planar diagram: arcs are numbered along the curves; each crossing has its four, counterclockwise from the one that comes in below.
   function codeOf(crossings, passes) {
     const ends = crossings.map(() => [null, null]);
     let arc = 0, loops = 0;

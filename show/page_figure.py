@@ -209,7 +209,8 @@ def preview_of(figure, behind):
     ground = f'<rect class="ground" x="{box[0]}" y="{box[1]}" width="{box[2]}" height="{box[3]}" fill="currentColor"/>'
     size = f'width="{number_text(box[2])}" height="{number_text(box[3])}" viewBox="{box_text(box)}"'
     head = f'<svg xmlns="http://www.w3.org/2000/svg" {size}>'
-    return "\n".join([head, f"<title>{escape(behind.diagram.title())}</title>", style(RULES, [ground, *lines]), ground, *lines, "</svg>"]) + "\n"
+    title = f"<title>{escape(behind.diagram.title())}</title>"
+    return "\n".join([head, title, style(RULES, [ground, *lines]), ground, *lines, "</svg>"]) + "\n"
 
 
 def from_texts(figure):

@@ -118,7 +118,8 @@ def plain_grid(table, name):
     rows, columns = ({at[side] for at in table.dimensions} for side in (0, 1))
     columns = range(min(columns), max(columns) + 1) if columns else []
     head = "".join(f'<th scope="col">{signed(it)}</th>' for it in columns)
-    lines = [f'<table class="grid{many(columns)}"><caption>{name}</caption><thead><tr><th scope="col">j \\ i</th>{head}</tr></thead><tbody>']
+    lines = [f'<table class="grid{many(columns)}"><caption>{name}</caption>']
+    lines.append(f'<thead><tr><th scope="col">j \\ i</th>{head}</tr></thead><tbody>')
     for j in range(max(rows), min(rows) - 1, -2) if rows else []:
         cells = "".join(f"<td>{table.dimensions.get((j, i), '')}</td>" for i in columns)
         lines.append(f'<tr><th scope="row">{signed(j)}</th>{cells}</tr>')
@@ -294,6 +295,6 @@ def whole(title, meta, lines, is_served=False):
 
 
 FOOTER = (
-    "Counts and polynomials are as <code>kh</code> writes them, tables as <code>kh-scan</code> or <code>kh</code>; drawing, states and this "
-    "page are beside them, tested and not proved."
+    "Counts and polynomials are as <code>kh</code> writes them, tables as <code>kh-scan</code> or <code>kh</code>; drawing, states and "
+    "this page are beside them, tested and not proved."
 )

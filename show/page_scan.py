@@ -1,4 +1,4 @@
-"""The scan of a diagram on a page, step by step: the crossing that comes, the objects and maps, what is cancelled, and the count at the end."""
+"""The scan of a diagram on a page, step by step: the crossing that comes, objects and maps, what is cancelled, and the count at the end."""
 from collections import Counter
 
 from answers import Unreadable
@@ -73,11 +73,12 @@ def items(figure, table):
             return None
         order, arcs = around(sheet.crossings[:count]), ", ".join(map(str, sheet.crossings[count - 1]))
         told = f"{counted(len(whole.objects), 'object')} and {counted(len(whole.maps), 'map')}"
-        gone = f" {counted(len(pivots), 'map')} in red is a number times the identity: its two ends are cancelled." if len(pivots) == 1 else ""
-        gone = f" {len(pivots)} maps in red are numbers times the identity: the two ends of each are cancelled." if len(pivots) > 1 else gone
+        gone = " 1 map in red is a number times the identity: its two ends are cancelled." if pivots else ""
+        if len(pivots) > 1:
+            gone = f" {len(pivots)} maps in red are numbers times the identity: the two ends of each are cancelled."
         open_told = f" Open arcs: {', '.join(map(str, whole.opened))}." if whole.opened else " No arc is open any more."
-        head = f"<h3>Crossing {count} comes: X[{arcs}]</h3><p>It makes of each object one for its 0-smoothing and one for its 1-smoothing, and "
-        head += f"a circle that closes makes two of one: {told}.{open_told}{gone}</p>"
+        head = f"<h3>Crossing {count} comes: X[{arcs}]</h3><p>It makes of each object one for its 0-smoothing and one for its 1-smoothing, "
+        head += f"and a circle that closes makes two of one: {told}.{open_told}{gone}</p>"
         found.append(f"{head}{so_far(figure, count)}{picture(whole, order, pivots, f'crossing {count}: {told}')}")
         if pivots:
             told = f"{counted(len(left.objects), 'object')} and {counted(len(left.maps), 'map')}"
@@ -100,8 +101,8 @@ def scan_section(figure):
         return f'<p class="note">A step of the scan has more than {MOST} objects, and is not drawn.</p>'
     note = (
         '<p class="note">The scan takes one crossing after the other. An object joins the open arcs in pairs, at a homological degree r, '
-        "which is its column, and with a shift q; an arrow is a map: 1 the identity, S the saddle, a dot with an arc the disc through that arc "
-        "with a dot.</p>"
+        "which is its column, and with a shift q; an arrow is a map: 1 the identity, S the saddle, a dot with an arc the disc through that "
+        "arc with a dot.</p>"
     )
     parts = []
     for field, found in lists:

@@ -1,7 +1,7 @@
 """What becomes of the arcs of a diagram at a move: where on its old strands each new arc comes from.
 
-A dart is a crossing of the code, from 0, with one of its slots: an end of an arc. Crossings that a move drops are those that its line names;
-those that it adds come last.
+A dart is a crossing of the code, from 0, with one of its slots: an end of an arc. Crossings that a move drops are those that its line
+names; those that it adds come last.
 """
 import itertools
 from typing import NamedTuple

@@ -15,7 +15,7 @@ from shape import NEAREST, Like, Shape, along, bounds, clearance, curves_of, dis
 
 # How stiff the threads are in turn, how many steps there are, and how many places are tried for them; and how short a step may be.
 STAGES, NEAREST_STEP = ((0.1, 40, 200), (8.0, 100, 300)), 1e-3
-# How far from its middle strands come to the side of a triangle that is slid, as a part of that side; the radius of a kink that is new.
+# How far from its middle strands come to a side of a triangle that is slid, as a part of it; the radius of a new kink.
 BESIDE, KINK = (0.3, 0.6), (0.6, 0.4, 0.25)
 # The least clearance of strands, as a part of the one that they should have.
 LEAST = 0.45

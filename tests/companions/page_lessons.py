@@ -9,7 +9,6 @@ import subprocess
 import sys
 import tempfile
 
-import plain.codes
 import plain.cube
 import plain.diagrams
 from rows.texts import TREFOIL
@@ -74,8 +73,10 @@ def slide_faults(tab, serving):
     tab.value(script)
     tab.value(WAIT % 600)
     box = "(() => {const box = (it) => document.querySelector(it).getBoundingClientRect();"
-    inside = tab.value(box + "const [a, b] = [box('#preview image'), box('#drawing')];"
-                       "return a.left >= b.left - 1 && a.right <= b.right + 1 && a.top >= b.top - 1 && a.bottom <= b.bottom + 1 && b.bottom < 900})()")
+    inside = tab.value(
+        box + "const [a, b] = [box('#preview image'), box('#drawing')];"
+        "return a.left >= b.left - 1 && a.right <= b.right + 1 && a.top >= b.top - 1 && a.bottom <= b.bottom + 1 && b.bottom < 900})()"
+    )
     yield "the picture of a move stands in the drawing's frame", None if inside else "elsewhere"
     begun, rests = pressed(tab, lambda: tab.click(mark + " circle"))
     moved = strands != tab.value(STRANDS) and not are_kept(first, tab.value(PLACES))
@@ -91,7 +92,8 @@ def cell_faults(tab):
     """A cell has its generators, its matrix, what is left of that, and the ranks over all fields; and is left again."""
     tab.load(page_of("trefoil"))
     tab.click('.grid a[href="#cell_-7_-2"]')
-    rows = tab.value("Array.from(document.querySelectorAll('#cell .matrix tbody tr')).map((it) => Array.from(it.cells).map((c) => c.textContent))")
+    cells = "(it) => Array.from(it.cells).map((one) => one.textContent)"
+    rows = tab.value(f"Array.from(document.querySelectorAll('#cell .matrix tbody tr')).map({cells})")
     numbers = [list(map(int, (it.replace("\u2212", "-") for it in row[1:]))) for row in rows]
     told = tab.text("#cell")
     right = sorted(map(sorted, numbers)) == 3 * [[0, 1, 1]] and "1, 1, 2" in told and "3 − 0 − 2 = 1" in told and "3 − 0 − 3 = 0" in told
@@ -173,8 +175,8 @@ def drawing_faults(tab, serving):
     drawn_curve(tab)
     typed = "document.querySelector('#text').value"
     trefoil = plain.diagrams.read(tab.value(typed))
-    tables = [plain.cube.table(plain.diagrams.accepted(trefoil), 2), plain.cube.table(plain.diagrams.accepted(plain.diagrams.read(TREFOIL)), 2)]
-    yield "a curve that is drawn", None if tables[0] == tables[1] else tab.value(typed)
+    one, other = (plain.cube.table(plain.diagrams.accepted(it), 2) for it in (trefoil, plain.diagrams.read(TREFOIL)))
+    yield "a curve that is drawn", None if one == other else tab.value(typed)
     tab.click(".sketch .turn")
     turned = plain.cube.table(plain.diagrams.accepted(plain.diagrams.read(tab.value(typed))), 2)
     yield "a crossing that is turned over", None if turned == "table 2\nfield 2\nj -1 i 0 dim 1\nj 1 i 0 dim 1\n" else turned
@@ -209,8 +211,8 @@ def wide_fault(tab, program):
         tab.screen(1300, 900)
         tab.load("file://" + page)
         right, out = tab.value(
-            "(() => {const grid = document.querySelector('.grid');"
-            "return [grid.getBoundingClientRect().right, Array.from(grid.querySelectorAll('td')).filter((it) => it.scrollWidth > it.clientWidth).length]})()"
+            "(() => {const grid = document.querySelector('.grid'), cells = Array.from(grid.querySelectorAll('td'));"
+            "return [grid.getBoundingClientRect().right, cells.filter((it) => it.scrollWidth > it.clientWidth).length]})()"
         )
     return None if right <= 1300 and out == 0 else f"to {right}, {out} cells"
 
