@@ -208,9 +208,10 @@ def preview_of(figure, behind):
     lines, box = [*behind.lines.strands(), *behind.lines.arrows()], edges if fits else more
     ground = f'<rect class="ground" x="{box[0]}" y="{box[1]}" width="{box[2]}" height="{box[3]}" fill="currentColor"/>'
     size = f'width="{number_text(box[2])}" height="{number_text(box[3])}" viewBox="{box_text(box)}"'
-    head = f'<svg xmlns="http://www.w3.org/2000/svg" {size}>'
+    name, rules = style(RULES, [ground, *lines])
+    head = f'<svg xmlns="http://www.w3.org/2000/svg" class="{name}" {size}>'
     title = f"<title>{escape(behind.diagram.title())}</title>"
-    return "\n".join([head, title, style(RULES, [ground, *lines]), ground, *lines, "</svg>"]) + "\n"
+    return "\n".join([head, title, rules, ground, *lines, "</svg>"]) + "\n"
 
 
 def from_texts(figure):
