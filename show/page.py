@@ -34,7 +34,7 @@ def style(rules, lines):
 
 
 def own_style(rules):
-    """A name for these rules, and the style in which they are for pictures of this class alone: other pictures of a notebook keep theirs."""
+    """A class for these rules, and the style in which they are for it alone: other pictures of a notebook keep theirs."""
     name = f"kh-{hashlib.sha256(rules.encode()).hexdigest()[:8]}"
     scoped = re.sub(r"(?<![^{}])([^{}@]+)(?=\{)", lambda it: ",".join(f".{name} {one}" for one in it[1].split(",")), rules)
     return name, f"<style>{scoped}</style>"

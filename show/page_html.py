@@ -138,8 +138,8 @@ def table_section(grid):
         return f'<p class="limit">There is no table: {escape(sheet.limit)}. So many generators are more than the program takes.</p>'
     groups = alike(sheet.tables)
     notes = [
-        "A row is a quantum degree j, a column a homological degree i; χ is the sum of a row with signs, the coefficient of q<sup>j</sup> in "
-        "the Jones polynomial. A dimension depends on the numbers that one counts with: a field of 2, 3, 5 or 7 elements; in that of 2 "
+        "A row is a quantum degree j, a column a homological degree i; χ is the sum of a row with signs, the coefficient of q<sup>j</sup> "
+        "in the Jones polynomial. A dimension depends on the numbers that one counts with: a field of 2, 3, 5 or 7 elements; in that of 2 "
         "elements 1 + 1 = 0."
     ]
     if len(groups) > 1:

@@ -15,14 +15,14 @@ from shape import NEAREST, Like, Shape, along, bounds, clearance, curves_of, dis
 
 # How stiff the threads are in turn, how many steps there are, and how many places are tried for them; and how short a step may be.
 STAGES, NEAREST_STEP = ((0.1, 40, 200), (8.0, 100, 300)), 1e-3
-# How far from its middle strands come to a side of a triangle that is slid, as a part of it; the radius of a new kink.
+# How far from the middle of a side strands come to it where a triangle is slid, as a part of the side; the radius of a kink.
 BESIDE, KINK = (0.3, 0.6), (0.6, 0.4, 0.25)
 # The least clearance of strands, as a part of the one that they should have.
 LEAST = 0.45
 
 
 class Old(NamedTuple):
-    """The picture before a move: the curve of each dart's arc, and by new darts which old ones come there (`passage.py`, as plane darts)."""
+    """The picture before a move: the curve of each dart's arc, and what comes from where (`passage.py`, with plane darts)."""
 
     arcs: dict
     passage: object
