@@ -81,7 +81,7 @@ WRONG_OF_SCAN = [
     (["-x"], "`-x` is no option"),
     (["each", "-"], "`-` is no option"),
 ]
-RIGHT_OF_SCAN = [[], ["--"], ["--field", "3"], ["--field=7"], ["each"], ["--", "each"], ["--field", "all", "each"], ["each", "--field=5", "--"]]
+RIGHT_OF_SCAN = [[], ["--"], ["--field", "3"], ["each"], ["--", "each"], ["--field", "all", "each"], ["each", "--field=5", "--"]]
 RIGHT = [["homology"], ["--", "homology"], ["homology", "--"], ["--field", "3", "check"], ["bench", "--number=7"]]
 RIGHT += [["reduced", "--mark", "7"], ["certify", "--field", "7"], ["verify"]]
 LONG = [["--help"], ["-h"], ["help"], ["homology", "--help"], ["--version"], ["version"], ["-V"]]
@@ -131,7 +131,7 @@ CALLS = {"a code": "kh-scan < FILE", "codes": "kh-scan each < LIST", "": ""}
 
 
 class Script(NamedTuple):
-    """One of the scripts: its name, the crate of its program, and what it has to say of words, of statuses with some words, at a terminal."""
+    """One of the scripts: its name, the crate of its program, and what it says of words, of statuses with some words, and at a terminal."""
 
     name: str
     crate: str
