@@ -147,7 +147,9 @@ def talk_fault(talk, pieces, last):
 def turns(scan):
     """A list that is written piece by piece is answered line by line."""
     for its_words, pieces, last in TALKS:
-        yield f"kh-scan, {' '.join(its_words)} by turns", talk_fault(Talk(scan, its_words), pieces, last)
+        talk = Talk(scan, its_words)
+        yield f"kh-scan, {' '.join(its_words)} by turns", talk_fault(talk, pieces, last)
+        talk.process.kill()
 
 
 def memory(scan):

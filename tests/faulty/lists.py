@@ -5,7 +5,6 @@ answered; each write is the first line or one frame, and what was written before
 whole, some of them with that status and no bytes, or the run ends with it.
 """
 import errno
-import os
 import resource
 import tempfile
 
