@@ -1,5 +1,4 @@
-"""Asks `kh`, and `kh-scan` beyond the limit on generators: runs them with words of a table and an input, for a bounded time, and gives
-what was answered.
+"""Asks `kh`, and `kh-scan` for tables: runs them with words of a table and an input, for a bounded time, and gives what was answered.
 
 No shell is used, and no words are passed on but those of the table.
 """
@@ -82,7 +81,7 @@ def ran(words, given, seconds):
 
 
 class Kh:
-    """The program, that of scans, which need not be there, and how long a run may take."""
+    """The program, that of scans, which is asked for tables first and need not be there, and how long a run may take."""
 
     def __init__(self, program=KH, seconds=600, scan=BUILT_SCAN):
         self.program, self.seconds, self.scan = os.path.abspath(program), seconds, os.path.abspath(scan)
@@ -111,11 +110,9 @@ class Kh:
         return answer if answer.status == ANSWERED else None
 
     def table(self, field, given):
-        """The table over a field as text; beyond the limit that of `kh-scan`, if there is one, else the line of the limit, and whether it
-        is a table."""
-        answer = self.ask(HOMOLOGY[field], given)
-        if answer.status == TOO_LARGE:
-            answer = self.scanned(field, given) or answer
+        """The table over a field as text: that of `kh-scan`, or where this has none that of `kh`, or else the line of the limit; and
+        whether it is a table."""
+        answer = self.scanned(field, given) or self.ask(HOMOLOGY[field], given)
         if answer.status not in (ANSWERED, TOO_LARGE):
             raise Refusal(answer)
         return answer.wrote, answer.status == ANSWERED

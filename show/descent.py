@@ -34,11 +34,11 @@ def downhill(slope, memory):
     return [-it for it in way]
 
 
-def stepped(energy, is_allowed, place, value, slope, way):
+def stepped(energy, is_allowed, place, value, slope, way, nearest):
     """The place behind a step that way, with its energy and slope: as far as one may go and it pays; or nothing."""
     fall, farthest = dot(way, slope), max(map(abs, way))
     length = min(1.0, FARTHEST / farthest) if farthest else 0.0
-    while length * farthest > NEAREST:
+    while length * farthest > nearest:
         there = along(place, length, way)
         found = energy(there)
         if found[0] <= value + 1e-4 * length * fall and is_allowed(there):
@@ -47,11 +47,12 @@ def stepped(energy, is_allowed, place, value, slope, way):
     return None
 
 
-def descended(energy, is_allowed, place, steps):
-    """A place of little energy that is found in so many steps from here. The energy of a place comes with its slope."""
+def descended(energy, is_allowed, place, steps, nearest=NEAREST):
+    """A place of little energy that is found in so many steps from here, none of them shorter than this. The energy of a place comes with
+    its slope."""
     (value, slope), memory, idle = energy(place), [], 0
     for _ in range(steps):
-        found = stepped(energy, is_allowed, place, value, slope, downhill(slope, memory))
+        found = stepped(energy, is_allowed, place, value, slope, downhill(slope, memory), nearest)
         if found is None and not memory or idle == PATIENCE:
             break
         if found is None:

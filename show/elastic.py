@@ -79,6 +79,15 @@ class Threads:
             for one, other in zip(ring, ring[1:] + ring[:1]):
                 self.corners += [(one, middle, other), (other, middle, one)]
 
+    def only(self, free):
+        """Leaves out what does not change while these points alone move."""
+        def some(them, count):
+            return [it for it in them if not free.isdisjoint(it[:count])]
+
+        self.bends, self.crosses, self.pairs = some(self.bends, 3), some(self.crosses, 5), some(self.pairs, 2)
+        self.sides, self.corners = some(self.sides, 4), some(self.corners, 3)
+        self.chains = [it for it in self.chains if not free.isdisjoint(it)]
+
     def energy(self, stiff, place):
         """The energy of a place and its slope."""
         xs, ys, across, down = place[: self.count], place[self.count :], [0.0] * self.count, [0.0] * self.count

@@ -62,8 +62,8 @@ class Diagram:
 class Labels:
     """The dot, the arrows and the numbers of a picture, each with its class; `texts` is nothing where a number finds no room."""
 
-    def __init__(self, diagram, shape, mark, with_numbers):
-        self.diagram, self.shape, self.page = diagram, shape, page_of(diagram.plane, shape)
+    def __init__(self, diagram, shape, mark, with_numbers, scale=1):
+        self.diagram, self.shape, self.page, self.scale = diagram, shape, page_of(diagram.plane, shape), scale
         self.marked = None if mark is None else diagram.strand_of(mark)
         self.dot = None if mark is None else self.middle(self.marked)
         if self.dot:
@@ -97,7 +97,7 @@ class Labels:
 def labels_of(diagram, shape, mark, with_numbers):
     """The labels of a picture, in the least lengths in which all find room."""
     for scale in SCALES:
-        labels = Labels(diagram, scaled(shape, scale), mark, with_numbers)
+        labels = Labels(diagram, scaled(shape, scale), mark, with_numbers, scale)
         if labels.texts is not None:
             return labels
     raise Unreadable("there is no room for the numbers of this diagram")
@@ -113,8 +113,12 @@ class Lines:
     def colour(self, component, other="ink"):
         return colour_class(component) if self.colours else other
 
-    def strands(self):
-        return [path_of(curve, f' class="strand {self.colour(number)}"', is_closed) for curve, number, is_closed in self.parts]
+    def strands(self, more=None):
+        """The strands, each with an attribute more where there are some."""
+        return [
+            path_of(curve, f' class="strand {self.colour(number)}"{it}', is_closed)
+            for (curve, number, is_closed, _), it in zip(self.parts, more or [""] * len(self.parts))
+        ]
 
     def arrows(self):
         lines = []

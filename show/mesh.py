@@ -32,8 +32,8 @@ class Piece(NamedTuple):
     count: int
 
 
-def piece_of(plane, crossings, between):
-    """A piece with so many points between the ends of each arc."""
+def piece_of(plane, crossings, between, outer_dart=None):
+    """A piece with so many points between the ends of each arc; the face of a dart is its outer one, where one is said."""
     place, count, chains = {crossing: at for at, crossing in enumerate(crossings)}, len(crossings), {}
     for dart in ((crossing, corner) for crossing in crossings for corner in range(4)):
         if dart not in chains:
@@ -41,8 +41,9 @@ def piece_of(plane, crossings, between):
             chains[dart] = [place[dart[0]], *range(count, count + between), place[other[0]]]
             chains[other] = chains[dart][::-1]
             count += between
-    faces = [[point for dart in face for point in chains[dart][:-1]] for face in faces_of(plane, crossings)]
-    outer = max(faces, key=len)
+    every = faces_of(plane, crossings)
+    faces = [[point for dart in face for point in chains[dart][:-1]] for face in every]
+    outer = next((them for face, them in zip(every, faces) if outer_dart in face), None) or max(faces, key=len)
     return Piece(crossings, chains, [it for it in faces if it is not outer] + [outer], count)
 
 

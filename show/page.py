@@ -1,4 +1,5 @@
 """What all pictures have in common: their ground, their colours on a light and on a dark screen, and what a screen reader says of them."""
+import hashlib
 import math
 import re
 from html import escape
@@ -24,11 +25,19 @@ def colour_class(number):
 
 
 def style(rules, lines):
-    """The style of a picture: its own rules, then the colours of the classes that its lines have, which are others on a dark screen."""
+    """The style of a picture, with the class of the picture for it: its own rules, then the colours of the classes that its lines have,
+    which are others on a dark screen."""
     used = {name for line in lines for names in re.findall(r'class="([^"]*)"', line) for name in names.split()}
     classes = {name: pair for name, pair in CLASSES.items() if name in used}
     light, dark = ("".join(f".{name}{{color:{pair[at]}}}" for name, pair in classes.items()) for at in (0, 1))
-    return f"<style>text{{font-family:{FONT};fill:currentColor}}{rules}{light}@media(prefers-color-scheme:dark){{{dark}}}</style>"
+    return own_style(f"text{{font-family:{FONT};fill:currentColor}}{rules}{light}@media(prefers-color-scheme:dark){{{dark}}}")
+
+
+def own_style(rules):
+    """A class for these rules, and the style in which they are for it alone: other pictures of a notebook keep theirs."""
+    name = f"kh-{hashlib.sha256(rules.encode()).hexdigest()[:8]}"
+    scoped = re.sub(r"(?<![^{}])([^{}@]+)(?=\{)", lambda it: ",".join(f".{name} {one}" for one in it[1].split(",")), rules)
+    return name, f"<style>{scoped}</style>"
 
 
 def text_width(text, size):
@@ -59,7 +68,9 @@ def picture(edges, margin, title, description, rules, lines):
     top, bottom = (edge([at for _, at in edges] or [0]) for edge in (min, max))
     x, y = math.floor(left - margin), math.floor(top - margin)
     width, height = math.ceil(right + margin) - x, math.ceil(bottom + margin) - y
-    head = f'<svg xmlns="http://www.w3.org/2000/svg" width="{width}" height="{height}" viewBox="{x} {y} {width} {height}" role="img">'
+    size = f'width="{width}" height="{height}" viewBox="{x} {y} {width} {height}"'
     ground = f'<rect class="ground" x="{x}" y="{y}" width="{width}" height="{height}" rx="8" fill="currentColor"/>'
-    texts = [f"<title>{escape(title)}</title>", f"<desc>{escape(description)}</desc>", style(rules, [ground, *lines])]
+    name, rules = style(rules, [ground, *lines])
+    head = f'<svg xmlns="http://www.w3.org/2000/svg" class="{name}" {size} role="img">'
+    texts = [f"<title>{escape(title)}</title>", f"<desc>{escape(description)}</desc>", rules]
     return "\n".join([head, *texts, ground, *lines, "</svg>"]) + "\n"

@@ -8,14 +8,20 @@ from html import escape
 from answers import euler
 from generators import MOST_DRAWN, MOST_LISTED, edges_of
 from page import CLASSES, COLOURS
+from page_cells import cells_of, ranks_told
 from page_cube import cube_of
 from page_figure import SIGNS, Figure, crossing_view, drawing_of, smoothing_view
+from page_scan import scan_section
 from page_texts import (
     circles_told, counts_told, fields_told, generators_told, jones_html, knot_atlas_html, listed, poincare_html, power, signed,
     state_link,
 )
 from sheet import alike, divided
 
+# The columns from which on a grid is set in small letters.
+BROAD = 12
+# The parts of the script, and those that a served page has too.
+SCRIPTS, SERVED = ("page_script.js", "page_steps.js", "page_quiz.js"), ("page_draw.js",)
 HERE = os.path.dirname(os.path.abspath(__file__))
 
 
@@ -37,13 +43,13 @@ def digest(text):
     return "sha256-" + base64.b64encode(hashlib.sha256(text.encode()).digest()).decode()
 
 
-def policy():
+def policy(is_served=False):
     """What a page may do: run its own script, look as its own style says, and nothing with any other place."""
-    return f"default-src 'none'; style-src 'unsafe-inline'; script-src '{digest(script())}'; img-src 'self' data:"
+    return f"default-src 'none'; style-src 'unsafe-inline'; script-src '{digest(script(is_served))}'; img-src 'self' data:"
 
 
-def script():
-    return file_text("page_script.js")
+def script(is_served=False):
+    return "\n".join(map(file_text, (*SCRIPTS, *(SERVED if is_served else ()))))
 
 
 def data_of(sheet):
@@ -89,7 +95,7 @@ class Grid:
         """The grid of a table, which is that of all these fields."""
         sums = euler(table)
         head = "".join(f'<th scope="col">{signed(it)}</th>' for it in self.columns)
-        lines = [f'<table class="grid"><caption>{fields_told(fields)}</caption>']
+        lines = [f'<table class="grid{many(self.columns)}"><caption>{fields_told(fields)}</caption>']
         lines.append(f'<thead><tr><th scope="col">j \\ i</th>{head}<th scope="col">χ</th></tr></thead><tbody>')
         for j in self.rows:
             cells = "".join(self.cell(table, (j, i)) for i in self.columns)
@@ -107,6 +113,24 @@ class Grid:
         return f"Dimension {dimensions}.{torsion} {states}"
 
 
+def plain_grid(table, name):
+    """The grid of a table alone."""
+    rows, columns = ({at[side] for at in table.dimensions} for side in (0, 1))
+    columns = range(min(columns), max(columns) + 1) if columns else []
+    head = "".join(f'<th scope="col">{signed(it)}</th>' for it in columns)
+    lines = [f'<table class="grid{many(columns)}"><caption>{name}</caption>']
+    lines.append(f'<thead><tr><th scope="col">j \\ i</th>{head}</tr></thead><tbody>')
+    for j in range(max(rows), min(rows) - 1, -2) if rows else []:
+        cells = "".join(f"<td>{table.dimensions.get((j, i), '')}</td>" for i in columns)
+        lines.append(f'<tr><th scope="row">{signed(j)}</th>{cells}</tr>')
+    return "\n".join([*lines, "</tbody></table>"])
+
+
+def many(columns):
+    """The class of a grid that is broad."""
+    return " many" if len(columns) > BROAD else ""
+
+
 def table_section(grid):
     """The tables as grids, those that are alike once."""
     sheet = grid.sheet
@@ -114,8 +138,8 @@ def table_section(grid):
         return f'<p class="limit">There is no table: {escape(sheet.limit)}. So many generators are more than the program takes.</p>'
     groups = alike(sheet.tables)
     notes = [
-        "A row is a quantum degree j, a column a homological degree i; χ is the sum of a row with signs, the coefficient of q<sup>j</sup> in "
-        "the Jones polynomial. A dimension depends on the numbers that one counts with: a field of 2, 3, 5 or 7 elements; in that of 2 "
+        "A row is a quantum degree j, a column a homological degree i; χ is the sum of a row with signs, the coefficient of q<sup>j</sup> "
+        "in the Jones polynomial. A dimension depends on the numbers that one counts with: a field of 2, 3, 5 or 7 elements; in that of 2 "
         "elements 1 + 1 = 0."
     ]
     if len(groups) > 1:
@@ -200,15 +224,17 @@ def state_section(sheet):
     return "\n".join([*lines, "</tbody></table></div>"])
 
 
-def cell_section(grid):
+def cell_section(grid, figure):
     """Each cell of the grids with what there is to say of it."""
-    lines = ['<dl class="cells">']
+    lines, cells, ranks = ['<dl class="cells">'], cells_of(grid.sheet, figure), ranks_told(grid.sheet, grid.generators)
     for pair in ((j, i) for j in grid.rows for i in grid.columns):
         if grid.is_told(pair):
             states = " ".join(state.text() for state, _, _ in grid.generators.get(pair, []))
             head = f"j = {signed(pair[0])}, i = {signed(pair[1])}"
             data = f' data-states="{states}"' if len(grid.sheet.crossings) <= MOST_LISTED else ""
-            lines.append(f'<div id="{grid.name(pair)}"{data}><dt>{head}</dt><dd>{grid.told(pair)}</dd></div>')
+            work = cells.work(pair) if cells else f'<p class="brief">{ranks[pair]}</p>' if pair in ranks else ""
+            told = f'<p class="brief">{grid.told(pair)}</p>{work}'
+            lines.append(f'<div id="{grid.name(pair)}"{data}><dt>{head}</dt><dd>{told}</dd></div>')
     return "\n".join([*lines, "</dl>"])
 
 
@@ -216,54 +242,59 @@ def section(name, title, inside):
     return f'<section id="{name}" aria-labelledby="{name}-title">\n<h2 id="{name}-title">{title}</h2>\n{inside}\n</section>'
 
 
+# Where what a chosen cell has stands beside the table.
+CELL = '<section id="cell" class="screen" aria-live="polite" aria-label="the cell that is chosen" hidden></section>'
 CHOSEN = (
-    '<figure id="preview" class="screen" hidden><img alt=""><figcaption class="note"></figcaption></figure>'
     '<section id="chosen" aria-live="polite" aria-label="what is chosen"><div id="told"><p>Choose a crossing of the drawing, a cell of the '
     "table or a state.</p></div></section>"
 )
 
 
-def drawing_section(figure, listed_states):
+def drawing_section(figure, listed_states, moves):
     """The drawing, the code and the counts, and what is chosen."""
     sheet = figure.sheet
     told = f'<p>{counts_told(sheet.counts)}.</p><p class="code"><code>{escape(sheet.code)}</code></p>'
-    return f"{drawing_of(figure, listed_states)}\n<div id=\"choices\"></div>\n{CHOSEN}\n{told}"
+    return f"{drawing_of(figure, listed_states, moves)}\n<div id=\"choices\"></div>\n{CHOSEN}\n{told}"
 
 
-def page_of(sheet, before="", between="", head="", first=""):
-    """The page of a diagram. A server has more to say before it, and between the drawing and the table."""
-    figure, grid, count = Figure(sheet), Grid(sheet), len(sheet.crossings)
+def page_of(sheet, before="", between="", head="", first="", figure=None, moves=()):
+    """The page of a diagram. A server has more to say before it, and between the drawing and the table; a figure behind a move; and moves,
+    each with the address of its picture."""
+    figure, grid, count = figure or Figure(sheet), Grid(sheet), len(sheet.crossings)
     listed_states = sheet.states if count <= MOST_LISTED else []
     name = sheet.name or "A diagram"
-    parts = [section("table", "Table", table_section(grid)), section("polynomials", "Polynomials", polynomial_section(sheet))]
+    parts = [section("table", "Table", table_section(grid)), CELL, section("polynomials", "Polynomials", polynomial_section(sheet))]
     if count <= MOST_DRAWN:
         parts.append(section("cube", "Cube of states", cube_section(figure, sheet.states)))
+        scan = scan_section(figure)
+        parts += [section("scan", "The scan, step by step", scan)] if scan else []
     else:
         parts.append(section("cube", "Cube of states", undrawn_section(count)))
     lists = [section("crossings", "Crossings", crossing_section(figure))] if count else []
     if grid.rows:
-        lists.append(section("cells", "Cells of the table", cell_section(grid)))
+        lists.append(section("cells", "Cells of the table", cell_section(grid, figure)))
     if listed_states:
         lists.append(section("states", "States", state_section(sheet)))
-    left = section("diagram", "Drawing", drawing_section(figure, listed_states))
+    left = section("diagram", "Drawing", drawing_section(figure, listed_states, moves))
     meta = head or f'<meta http-equiv="Content-Security-Policy" content="{policy()}">'
     return whole(name, meta, [
         f"<header>{first}<h1>{escape(name)}</h1>{before}</header>",
         f'<main>\n<div class="left">\n{left}\n</div>\n<div class="right">', between, *parts, *lists, "</div>\n</main>",
         f'<script type="application/json" id="data">{data_of(sheet)}</script>',
-    ])
+    ], bool(head))
 
 
-def whole(title, meta, lines):
+def whole(title, meta, lines, is_served=False):
     """A file of HTML with this in its body."""
     return "\n".join([
         "<!DOCTYPE html>", '<html lang="en">', "<head>", '<meta charset="utf-8">', meta, '<link rel="icon" href="data:,">',
         '<meta name="viewport" content="width=device-width, initial-scale=1">', '<meta name="color-scheme" content="light dark">',
         f"<title>{escape(title)}</title>", f"<style>{style()}</style>", "</head>", "<body>", *lines,
-        f"<footer>{FOOTER}</footer>", f"<script>{script()}</script>", "</body>", "</html>",
+        f"<footer>{FOOTER}</footer>", f"<script>{script(is_served)}</script>", "</body>", "</html>",
     ]) + "\n"
 
 
 FOOTER = (
-    "Counts, polynomials and tables are as <code>kh</code> writes them; drawing, states and this page are beside it, tested and not proved."
+    "Counts and polynomials are as <code>kh</code> writes them, tables as <code>kh-scan</code> or <code>kh</code>; drawing, states and "
+    "this page are beside them, tested and not proved."
 )

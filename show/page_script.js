@@ -12,6 +12,7 @@
   const data = JSON.parse(find("#data").textContent);
   const count = data.crossings.length;
   const told = find("#told"), shown = find("#shown"), marks = find("#marks"), choices = find("#choices");
+  const panel = find("#cell");
   const NOTHING = told.innerHTML;
 
   const signed = (value) => String(value).replace("-", "\u2212");
@@ -92,7 +93,10 @@
 
   function showCell(name) {
     const cell = document.getElementById(name);
-    told.innerHTML = `<h3>${find("dt", cell).innerHTML}</h3><p>${find("dd", cell).innerHTML}</p>`;
+    const head = `<h3>${find("dt", cell).innerHTML}</h3>`, work = find(".work", cell);
+    told.innerHTML = head + all(".brief", cell).map((it) => it.outerHTML).join("");
+    panel.hidden = !work;
+    panel.innerHTML = work ? head + work.innerHTML : "";
     all(`.grid a[href="#${name}"]`).forEach((link) => link.classList.add("on"));
     const states = (cell.dataset.states || "none").split(" ");
     all(".cube .state").forEach((state) => state.classList.toggle("has", states.includes(state.dataset.state)));
@@ -108,6 +112,8 @@
   // Shows what this name stands for, and nothing else.
   function show(name) {
     shown.replaceChildren();
+    panel.hidden = true;
+    panel.replaceChildren();
     drawing.classList.remove("dim");
     all(".on, .out, .one, .has").forEach((it) => it.classList.remove("on", "out", "one", "has"));
     all(".choice", choices).forEach((button, at) => choose(button, at, null));
@@ -178,9 +184,10 @@
 
   let waiting;
 
-  // Marks the arcs and crossings of a move on the drawing, and shows what the move would make, where a server answers.
+  // Marks the arcs and crossings of a move on the drawing, and shows in its frame what the move would make, where a server answers.
   function mark(move) {
     marks.replaceChildren();
+    find("#preview").replaceChildren();
     clearTimeout(waiting);
     if (!move) return;
     const { arcs = "", crossings = "", preview } = move.dataset;
@@ -189,15 +196,54 @@
       const circle = find(`.target[href="#crossing-${crossing}"] circle`);
       element("circle", marks, { class: "mark thin", cx: circle.getAttribute("cx"), cy: circle.getAttribute("cy"), r: 17 });
     });
-    if (preview) waiting = setTimeout(() => showPreview(move), 250);
+    if (preview) waiting = setTimeout(() => showPreview(preview), 250);
   }
 
-  function showPreview(move) {
-    const image = find("#preview");
-    image.hidden = false;
-    find("img", image).src = move.dataset.preview;
-    find("img", image).alt = "the diagram behind the move";
-    find("figcaption", image).textContent = `What it makes: ${move.getAttribute("aria-label")}`;
+  function showPreview(href) {
+    const [x, y, width, height] = drawing.getAttribute("viewBox").split(" ");
+    element("image", find("#preview"), { x, y, width, height, href });
+  }
+
+  // A mark of a move on the drawing presses the button of that move.
+  function makeMove(mark) {
+    const button = all("button[name=line]").find((it) => it.value === mark.dataset.line);
+    if (button) button.click();
+  }
+
+  // The points of a line at even distances, by its lengths.
+  function spaced(points, count) {
+    const far = [0];
+    points.slice(1).forEach(([x, y], at) => far.push(far[at] + Math.hypot(x - points[at][0], y - points[at][1])));
+    let at = 0;
+    return Array.from({ length: count }, (_, number) => {
+      const wanted = (far[far.length - 1] * number) / (count - 1);
+      while (at < points.length - 2 && far[at + 1] < wanted) at++;
+      const part = far[at + 1] > far[at] ? (wanted - far[at]) / (far[at + 1] - far[at]) : 0;
+      return [0, 1].map((side) => points[at][side] + part * (points[at + 1][side] - points[at][side]));
+    });
+  }
+
+  // The strands go over from where they lay before the move into where they are, in half a second.
+  function goOver() {
+    const strands = all("#strands [data-from]").map((path) => {
+      const from = path.dataset.from.split(" ").map((it) => it.split(",").map(Number));
+      const count = 2 * from.length, length = path.getTotalLength();
+      const to = Array.from({ length: count }, (_, at) => path.getPointAtLength((length * at) / (count - 1))).map((it) => [it.x, it.y]);
+      return { path, from: spaced(from, count), to, whole: path.getAttribute("d") };
+    });
+    if (!strands.length || matchMedia("(prefers-reduced-motion: reduce)").matches) return;
+    const begun = performance.now();
+    drawing.classList.add("moving");
+    const step = () => {
+      const part = Math.min(1, Math.max(0, (performance.now() - begun) / 500)), eased = part * part * (3 - 2 * part);
+      strands.forEach(({ path, from, to, whole }) => {
+        const points = to.map(([x, y], at) => `${from[at][0] + eased * (x - from[at][0])} ${from[at][1] + eased * (y - from[at][1])}`);
+        path.setAttribute("d", part < 1 ? `M${points.join("L")}` : whole);
+      });
+      if (part < 1) requestAnimationFrame(step);
+      else drawing.classList.remove("moving");
+    };
+    step();
   }
 
   document.addEventListener("click", (event) => {
@@ -212,7 +258,13 @@
     document.addEventListener(begun, (event) => mark(event.target.closest("[data-arcs], [data-crossings]")));
     document.addEventListener(ended, () => mark(null));
   }
+  all(".move").forEach((it) => it.addEventListener("click", () => makeMove(it)));
   document.addEventListener("keydown", (event) => {
+    const pressed = event.key === "Enter" || event.key === " " ? event.target.closest(".move") : null;
+    if (pressed) {
+      event.preventDefault();
+      makeMove(pressed);
+    }
     if (event.key === "Escape" && chosen()) close();
   });
   window.addEventListener("popstate", () => show(chosen()));
@@ -221,4 +273,5 @@
   makeChoices();
   makeSmall();
   show(chosen());
+  goOver();
 })();

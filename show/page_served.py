@@ -2,7 +2,7 @@
 from html import escape
 
 from asking import FIELDS
-from page_html import page_of, section, whole
+from page_html import page_of, plain_grid, section, whole
 from page_moves import KINDS
 from page_texts import counted
 
@@ -61,26 +61,34 @@ def lists(moves, action):
     return "".join(parts)
 
 
-def table_told(before, now):
+def table_told(before, now, base):
     """What became of the table."""
     if before.limit or now.limit:
         return f"The table is not computed: {escape(now.limit or before.limit)}."
-    alike = [one.dimensions == other.dimensions for one, other in zip(before.tables, now.tables)]
+    alike = all(one.dimensions == other.dimensions for one, other in zip(before.tables, now.tables))
     fields = ", ".join(map(str, FIELDS[:-1])) + f" and {FIELDS[-1]}"
-    same = "the same; that it is so for each move is a theorem, not proved here" if all(alike) else "another one"
-    return f"The table over {fields} elements, computed anew, is {same}."
+    stays = f'The table stays: <a href="{base}/theorem">proved</a>. ' if alike else ""
+    return f"{stays}The table over {fields} elements, computed anew, is {'the same' if alike else 'another one'}."
 
 
-def unchanged(before, now, lines):
+def two_tables(before, now):
+    """Both tables over 2 elements, side by side."""
+    if before.limit or now.limit:
+        return ""
+    both = "".join(f'<div class="scroll">{plain_grid(it.tables[0], name)}</div>' for it, name in ((before, "before"), (now, "now")))
+    return f'<details open><summary>Both tables, over 2 elements</summary><div class="grids">{both}</div></details>'
+
+
+def unchanged(before, now, lines, base):
     """What moves did not change, as `kh` answers of both diagrams."""
     same = "the same; that no move changes it is proved" if now.jones_line == before.jones_line else "another one"
     counts = [counted(it.counts["crossings"], "crossing") for it in (before, now)]
     changed = f"What changed: the drawing, from {counts[0]} to {counts[1]}, and with it the cube."
     if before.code == now.code:
         changed = "The diagram is the first one again, with all its numbers."
-    parts = [f"The Jones polynomial is {same}: <code>{escape(now.jones_line)}</code>", table_told(before, now), changed]
+    parts = [table_told(before, now, base), f"The Jones polynomial is {same}: <code>{escape(now.jones_line)}</code>", changed]
     items = "".join(f"<li>{it}</li>" for it in parts)
-    return f'<div id="unchanged"><p>After {counted(len(lines), "step")}:</p><ul>{items}</ul></div>'
+    return f'<div id="unchanged"><p>After {counted(len(lines), "step")}:</p><ul>{items}</ul>{two_tables(before, now)}</div>'
 
 
 def script_told(step):
@@ -89,20 +97,23 @@ def script_told(step):
     return f'<details><summary>The script, for <code>./kh edit</code></summary><pre id="script">{escape(text)}</pre></details>'
 
 
-def moves_section(session, step, action, fault):
+def moves_section(session, step, base, action, fault):
     """The moves of a diagram, its undo and redo, and other diagrams."""
     moves = session.moves_of(step.code)
     steps = "".join(
         f'<button name="line" value="{word}"{"" if session.can(step, word) else " disabled"}>{word}</button>' for word in ("undo", "redo")
     )
     told = f'<div class="fault" role="alert"><pre>{escape(fault)}</pre></div>' if fault else ""
-    changed = unchanged(session.sheet(step.start), session.sheet(step.code), step.lines) if step.lines else ""
+    changed = unchanged(session.sheet(step.start), session.sheet(step.code), step.lines, base) if step.lines else ""
     turns = (
         f'<form class="screen inline" method="post" action="{action}/turn"><button name="word" value="mirror">mirror image</button> '
         '<button name="word" value="reverse">turn all directions</button></form>'
     )
     form_of = f'<form class="screen" method="post" action="{action}/move"><p class="steps">{steps}</p>{lists(moves, action)}</form>'
-    told_of = "each tried by <code>kh edit</code>. Point at one to see where it is and what it makes; press it to make it."
+    told_of = (
+        "each tried by <code>kh edit</code>. Point at one to see on the drawing where it is and what it makes; press it to make it. Those "
+        "that are marked on the drawing can be pressed there."
+    )
     note = f'<p class="note">{counted(len(moves), "move")}, {told_of}</p>'
     script = script_told(step) if step.lines else ""
     return section("moves", "Moves", f"{told}{changed}{note}{form_of}{script}{turns}")
@@ -116,7 +127,9 @@ def step_page(session, base, number, head, fault=""):
     sheet = session.sheet(step.code, (step.name or "A diagram") + after)
     said = f'<p class="note said">{escape(step.said)}</p>' if step.said else ""
     save = f'<p class="screen note"><a href="{action}/page.html" download>Save this page as a file</a></p>'
-    return page_of(sheet, said + save, moves_section(session, step, action, fault), head, form(base, step.start))
+    moves = [(move, f"{action}/preview/{at}.svg") for at, move in enumerate(session.moves_of(step.code))]
+    section_of = moves_section(session, step, base, action, fault)
+    return page_of(sheet, said + save, section_of, head, form(base, step.code), session.figure(number), moves)
 
 
 def start_page(base, head, text="", fault=""):
@@ -126,10 +139,10 @@ def start_page(base, head, text="", fault=""):
         "read: planar diagrams (Knot Atlas, KnotInfo, SnapPy), Gauss and DT codes, braid words such as <code>braid: 1 1 1</code>, names "
         "such as <code>8_19</code> and <code>T(3,4)</code>.</p>"
     )
-    return whole("kh", head, [f"<header>{told}{form(base, text, fault)}</header>", HOW % base])
+    return whole("kh", head, [f"<header>{told}{form(base, text, fault)}</header>", HOW % base], True)
 
 
 def saved_page(session, number):
     """The page of a step as a file."""
     step = session.steps[number]
-    return page_of(session.sheet(step.code, step.name or "A diagram"))
+    return page_of(session.sheet(step.code, step.name or "A diagram"), figure=session.figure(number))

@@ -6,6 +6,7 @@ bounded: its bytes, the seconds in which it has to come, how many there are at a
 import contextlib
 import hmac
 import http.server
+import os
 import re
 import socket
 import sys
@@ -14,8 +15,8 @@ import urllib.parse
 from typing import NamedTuple
 
 import page_served
-from answers import Unreadable
-from asking import MOST_BYTES
+from answers import Unreadable, given
+from asking import MOST_BYTES, TOP
 from page_html import policy
 from page_session import TURNS, Busy
 
@@ -142,7 +143,9 @@ class Handler(http.server.BaseHTTPRequestHandler):
         if path in ("", "/"):
             return Reply(200, HTML, page_served.start_page(base, HEAD))
         if path == "/example.svg":
-            return Reply(200, SVG, session.picture(page_served.TREFOIL, True))
+            return Reply(200, SVG, session.picture(page_served.TREFOIL))
+        if path == "/theorem":
+            return Reply(200, TEXT, given([os.path.join(TOP, "docs", "THEOREM.md")]))
         number, what, move = self.step(session, path)
         if what == "":
             return Reply(200, HTML, page_served.step_page(session, base, number, HEAD))
@@ -151,7 +154,7 @@ class Handler(http.server.BaseHTTPRequestHandler):
         moves = session.moves_of(session.steps[number].code) if move else []
         if not move or int(move) >= len(moves):
             raise Refused(404, "there is nothing here")
-        return Reply(200, SVG, session.picture(moves[int(move)].code))
+        return Reply(200, SVG, session.preview(number, moves[int(move)]))
 
     def post(self, session, path, form):
         """Makes a step of a form, and leads to it."""
@@ -184,7 +187,7 @@ class Handler(http.server.BaseHTTPRequestHandler):
         heads = {
             "Content-Type": reply.kind, "Content-Length": str(len(body)), "Cache-Control": "no-store", "X-Content-Type-Options": "nosniff",
             "Referrer-Policy": "same-origin", "Cross-Origin-Resource-Policy": "same-origin", "Cross-Origin-Opener-Policy": "same-origin",
-            "Content-Security-Policy": f"{policy()}; {OF_PAGES}" if is_page else OF_OTHERS,
+            "Content-Security-Policy": f"{policy(True)}; {OF_PAGES}" if is_page else OF_OTHERS,
         }
         self.send_response(reply.status)
         for name, value in [*heads.items(), *reply.heads]:

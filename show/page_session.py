@@ -12,6 +12,7 @@ from answers import Unreadable, read_drawing
 from arcs import crossings_of
 from asking import ANSWERED, CONVERT, DRAW, KH_CODES, MIRROR, REVERSE, Refusal, ran
 from figure import Diagram, svg_of
+from page_figure import Change, Figure, preview_of
 from page_moves import LINE, MOST_LINES, accepted, behind
 from sheet import sheet_of
 
@@ -29,13 +30,29 @@ PLACE = re.compile(r"^line 1: (?:code 1: )?", re.M)
 
 
 class Step(NamedTuple):
-    """The name of a diagram, its code, the lines of moves behind it, the code that they lead to, and what there is to say."""
+    """The name of a diagram, its code, the lines of moves behind it, the code that they lead to, what there is to say, and the number of
+    the step before, 0 for none."""
 
     name: str
     start: str
     lines: tuple
     code: str
     said: str
+    before: int = 0
+
+
+def last_move(lines):
+    """The move that the last line of a script makes, and whether it is taken back."""
+    made, undone, last = [], [], None
+    for line in lines:
+        if line == "undo":
+            undone.append(made.pop())
+            last = undone[-1], True
+        else:
+            line, undone = (undone.pop(), undone) if line == "redo" else (line, [])
+            made.append(line)
+            last = line, False
+    return last
 
 
 class Busy(Exception):
@@ -56,7 +73,7 @@ class Session:
 
     def __init__(self, kh):
         self.kh, self.lock = kh, threading.Lock()
-        self.steps, self.sheets, self.moves, self.count = OrderedDict(), OrderedDict(), OrderedDict(), 0
+        self.steps, self.sheets, self.moves, self.figures, self.count = OrderedDict(), OrderedDict(), OrderedDict(), OrderedDict(), 0
 
     def __enter__(self):
         if not self.lock.acquire(timeout=WAIT):
@@ -76,6 +93,19 @@ class Session:
         """What `kh` answers of a code."""
         found = self.sheets.get(code) or sheet_of(self.kh, code)
         return kept(self.sheets, code, found, MOST_SHEETS)._replace(name=name)
+
+    def figure(self, number):
+        """The picture of a step. It begins with that of the step before, where this is kept, and is that of a step of the same code
+        before, where there is one that is kept."""
+        if number not in self.figures:
+            step, drawn = self.steps[number], None
+            change = Change(self.figures[step.before], *last_move(step.lines)) if step.before in self.figures else None
+            at = step
+            while at.before in self.steps and drawn is None:
+                drawn = self.figures[at.before].drawn if self.steps[at.before].code == step.code and at.before in self.figures else None
+                at = self.steps[at.before]
+            self.figures[number] = Figure(self.sheet(step.code), change, drawn)
+        return kept(self.figures, number, self.figures[number], MOST_SHEETS)
 
     def moves_of(self, code):
         """The moves that a diagram accepts."""
@@ -112,7 +142,7 @@ class Session:
         if len(step.lines) >= MOST_LINES:
             return None, f"a script has {MOST_LINES} lines here at most"
         code, answer = behind(self.kh, step.start, [*step.lines, line])
-        return (self.add(step._replace(lines=(*step.lines, line), code=code, said="")) if code else None), answer
+        return (self.add(step._replace(lines=(*step.lines, line), code=code, said="", before=number)) if code else None), answer
 
     def can(self, step, word):
         """Whether there is something to undo, or to redo."""
@@ -125,11 +155,19 @@ class Session:
         said = "The mirror image" if word == "mirror" else "All directions turned"
         return self.add(Step(f"{said} of {step.name or 'the diagram before'}", start, (), start, ""))
 
-    def picture(self, code, with_numbers=False):
-        """The drawing of a code as a picture of its own, with its numbers or without."""
+    def picture(self, code):
+        """The drawing of a code as a picture of its own, with its numbers."""
         slices, crossings = read_drawing(self.kh.answer(DRAW, code)), crossings_of(code, "the code")
         diagram = Diagram(slices, crossings)
-        return svg_of(slices, crossings, with_numbers, colours=len(diagram.components) + diagram.plane.loops > 1)
+        return svg_of(slices, crossings, True, colours=len(diagram.components) + diagram.plane.loops > 1)
+
+    def preview(self, number, move):
+        """The picture of what a move makes, in the frame of the drawing of its step."""
+        figure, sheet = self.figure(number), self.sheet(self.steps[number].code)
+        slices, crossings = read_drawing(self.kh.answer(DRAW, move.code)), crossings_of(move.code, "the code")
+        loops = len(self.kh.answer(CONVERT, move.code).split("Loop[")) - 1
+        behind = Figure(sheet._replace(slices=slices, crossings=crossings, loops=loops), Change(figure, move.line))
+        return preview_of(figure, behind)
 
     def is_ready(self):
         """What is said where the program gives no answer, or not at once since it is not built."""

@@ -3,6 +3,8 @@
 A curve is a list of points: where it begins, then for each cubic part two points that it is drawn towards and where this part ends. The
 lengths here are those of `mesh.py`; y goes down, as on a page.
 """
+import bisect
+import functools
 import math
 from typing import NamedTuple
 
@@ -139,15 +141,49 @@ def least(worth, turns, reach):
     return turns
 
 
+def nearest(points, x, y):
+    """The square of the distance from a place to the nearest of some points, which are sorted."""
+    start, best = bisect.bisect(points, (x, y)), math.inf
+    for way in (range(start, len(points)), range(start - 1, -1, -1)):
+        for at in way:
+            far, deep = points[at]
+            if (far - x) * (far - x) >= best:
+                break
+            best = min(best, (far - x) * (far - x) + (deep - y) * (deep - y))
+    return best
+
+
+def mirrored_worth(points):
+    """How far points are from their mirror image, turned by so much: the mean square of the distances to the nearest ones; and how fast
+    its root changes at most, for a turn."""
+
+    @functools.cache
+    def unlike(turns):
+        these = sorted(rotated(points, turns))
+        return math.fsum(nearest(these, -x, y) for x, y in these) / len(these)
+
+    # (the mirror image turns twice as far)
+    return unlike, 4 * math.pi * math.sqrt(math.fsum(x * x + y * y for x, y in points) / len(points))
+
+
+def axes_of(points):
+    """The turns after which left and right of some points are alike. A turn is followed no further where none near it can be one."""
+    unlike, fastest = mirrored_worth(points)
+    worths, found = [unlike(number / 120) for number in range(60)], []
+    for at in (number / 120 for number in range(60) if worths[number] <= min(worths[number - 1], worths[(number + 1) % 60])):
+        for part in (1 / 1200, 1 / 12000, 1 / 120000):
+            if math.sqrt(unlike(at)) > math.sqrt(ALIKE) + 11.2 * part * fastest:
+                break
+            at = min((at + number * part for number in range(-10, 11)), key=unlike)
+        found += [at] if unlike(at) < ALIKE else []
+    return found
+
+
 def upright(points, marks):
     """The points turned so that left and right are alike, where that can be, by some of the points; else so that they need little room.
     They are broader than high, and the heavier half is below."""
     middle = [math.fsum(it) / len(points) for it in zip(*points)]
     points = [(x - middle[0], y - middle[1]) for x, y in points]
-
-    def unlike(turns):
-        these = rotated([points[it] for it in marks], turns)
-        return math.fsum(min((x + far) * (x + far) + (y - deep) * (y - deep) for far, deep in these) for x, y in these) / len(these)
 
     def room(turns):
         left, top, right, bottom = bounds(rotated(points, turns))
@@ -157,23 +193,42 @@ def upright(points, marks):
         _, top, _, bottom = bounds(rotated(points, turns))
         return round(bottom - top, 2)
 
-    worths = [unlike(number / 120) for number in range(60)]
-    valleys = [number / 120 for number in range(60) if worths[number] <= min(worths[number - 1], worths[(number + 1) % 60])]
-    alike = [it for it in (least(unlike, it, 1 / 120) for it in valleys) if unlike(it) < ALIKE]
     area = least(room, 0.125, 0.125)
-    best = min(alike or [area, area + 0.25], key=height)
+    best = min(axes_of([points[it] for it in marks]) or [area, area + 0.25], key=height)
     _, top, _, bottom = bounds(rotated(points, best))
     return rotated(points, best if top + bottom < 1e-6 else best + 0.5)
 
 
-def piece_shape(plane, crossings, slices):
+class Like(NamedTuple):
+    """A drawing that another one is to be like: where crossings stand, and a dart at the outer face."""
+
+    places: dict
+    outer: tuple
+
+
+def turned_like(points, places):
+    """The points turned so that some of them come as near as they can to these places."""
+    pairs = [(points[it], place) for it, place in places.items()]
+    middles = [[math.fsum(pair[side][at] for pair in pairs) / len(pairs) for at in (0, 1)] for side in (0, 1)]
+    across = up = 0.0
+    for (x, y), (far, deep) in pairs:
+        x, y, far, deep = x - middles[0][0], y - middles[0][1], far - middles[1][0], deep - middles[1][1]
+        across, up = across + x * far + y * deep, up + x * deep - y * far
+    turns = math.atan2(up, across) / (2 * math.pi)
+    these = rotated([(x - middles[0][0], y - middles[0][1]) for x, y in points], turns)
+    return [(x + middles[1][0], y + middles[1][1]) for x, y in these]
+
+
+def piece_shape(plane, crossings, slices, like=None):
     """The curves of a piece: smooth ones, or where these come too near to each other those of its drawing."""
     between = between_for(len(crossings))
-    piece = piece_of(plane, crossings, between)
+    piece = piece_of(plane, crossings, between, like and like.outer)
     begun = spread(piece, between)
     if begun:
+        points = [(x, -y) for x, y in zip(*bent(piece, *begun))]
         marks = [*range(len(crossings)), *sorted({chain[1 + between // 2] for chain in piece.chains.values()})]
-        arcs = curves_of(plane, piece, upright([(x, -y) for x, y in zip(*bent(piece, *begun))], marks))
+        points = turned_like(points, like.places) if like else upright(points, marks)
+        arcs = curves_of(plane, piece, points)
         near = clearance(plane, arcs)
         if near * LARGEST > NEAREST:
             return {dart: moved(curve, 0, 0, NEAREST / near) for dart, curve in arcs.items()}
@@ -191,9 +246,10 @@ def moved(curve, x, y, scale=1.0):
     return [(scale * (across + x), scale * (down + y)) for across, down in curve]
 
 
-def shape_of(plane, slices):
-    """The shape of a drawing: its pieces and its loops stand in rows."""
-    parts = [piece_shape(plane, crossings, slices) for crossings in pieces_of(plane)]
+def shape_of(plane, slices, like=None):
+    """The shape of a drawing: its pieces and its loops stand in rows. One piece may be drawn like another drawing."""
+    pieces = pieces_of(plane)
+    parts = [piece_shape(plane, crossings, slices, like if len(pieces) == 1 else None) for crossings in pieces]
     parts += [{("loop", number): circle(RADIUS)} for number in range(plane.loops)]
     sizes = [bounds([point for curve in part.values() for point in sampled(curve)]) for part in parts]
     rows, broad = [], 0.0

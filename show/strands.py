@@ -10,11 +10,12 @@ SMOOTHED, SHARPNESS = 22, 0.62
 
 
 class Strand(NamedTuple):
-    """The curve of a strand, the number of its component, and whether it ends where it begins."""
+    """The curve of a strand, the number of its component, whether it ends where it begins, and the darts of its arcs."""
 
     curve: list
     component: int
     is_closed: bool
+    darts: tuple = ()
 
 
 def gap_end(plane, shape, dart):
@@ -41,9 +42,9 @@ def strands_of(plane, shape, components):
             curve = joined([shape.arcs[dart] for dart in darts])
             curve = split(curve, gap_end(plane, shape, darts[0]))[1]
             curve = split(curve[::-1], gap_end(plane, shape, plane.partner[darts[-1]]))[1][::-1]
-            found.append(Strand(curve, number, False))
+            found.append(Strand(curve, number, False, tuple(darts)))
         if not unders:
-            found.append(Strand(joined([shape.arcs[dart] for dart in walk]), number, True))
+            found.append(Strand(joined([shape.arcs[dart] for dart in walk]), number, True, tuple(walk)))
     loops = [Strand(curve, len(components) + number, True) for number, curve in enumerate(shape.loops)]
     return found + loops
 

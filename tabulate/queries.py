@@ -1,79 +1,241 @@
-"""Ready questions to the results of `kh-tabulate`: which links have the same tables, where there is torsion, and what was refused.
+"""Ready questions to the results of `kh-tabulate`: which links have the same tables, or those of mirror images, where there is torsion,
+which have the same Jones polynomial and other tables, which have a given table, and what was refused.
 
-Each question is a head and a function that gives rows from the results of each link, and counts what it has seen, for the last line on
-standard error.
+Each question has a head and gives rows, and counts what it has seen, for the last line on standard error. What grows with the number of
+links is in temporary tables of the database, and not in memory.
 """
 import hashlib
+import sys
 from itertools import groupby
+from typing import Callable, NamedTuple
 
-from results import dimensions_of
+from programs import TABLE
+from results import ANSWERED, Fault, dimensions_of, text_of
 
 FIELDS = (2, 3, 5, 7)
+KEYS = """
+create temporary table keys (
+    place integer primary key, name text, code text, fields text, jones text, tables blob, mirrored blob, class blob
+)
+"""
+SAME, MIRROR, BOTH = "same", "mirror", "both"
 
 
-def links_of(database, chosen, fields):
-    """The name and the code of each link, or of these alone, with its results over these fields: field, status, table and refusal."""
-    every = "select name, code, field, status, table_rows, refusal from results order by name, code, field"
-    for link, rows in groupby(database.execute(every), lambda row: row[:2]):
-        results = [row[2:] for row in rows if not fields or row[2] in fields]
-        if results and (chosen is None or link in chosen):
-            yield link, results
+class Asked(NamedTuple):
+    """A database, whether the links of a list alone are asked for, the fields, and what else a question takes."""
+
+    database: object
+    is_of_list: bool
+    fields: tuple
+    mirror: bool
+    prime: int
 
 
-def tables_of(results):
-    """The texts of the tables of a link, by its fields."""
-    return {field: text for field, status, text, _ in results if status == 0}
+class Result(NamedTuple):
+    """A result of a link."""
+
+    link: int
+    name: str
+    code: str
+    field: int
+    status: int
+    text: str
+    jones: str
+    refusal: str
+
+
+class Question(NamedTuple):
+    """How a question is answered, the head of its rows, and what the last line says."""
+
+    answer: Callable
+    head: tuple
+    closing: str
+
+    def head_of(self, asked):
+        """The head, with a column more where mirror images are asked for."""
+        return (*self.head[:-1], "table", self.head[-1]) if asked.mirror and self.answer is same else self.head
+
+
+def links_of(asked):
+    """The name and the code of each link, with its results over the fields, in the order of names: that of an index, so that nothing is
+    sorted, which of a million links would take gigabytes."""
+    chosen = "where exists (select 1 from chosen_links where link = links.id)" if asked.is_of_list else ""
+    columns = "links.id, name, codes.code, field, status, table_rows, jones, refusal"
+    rows = asked.database.execute(f"select {columns} from {ANSWERED} {chosen} order by name, links.id, field")
+    for _, results in groupby(map(Result._make, rows), lambda it: it.link):
+        results = [it for it in results if not asked.fields or it.field in asked.fields]
+        if results:
+            yield (results[0].name, results[0].code), results
+
+
+def answered(results):
+    """The results of a link that have a table."""
+    return [it for it in results if it.status == 0]
 
 
 def listed(numbers):
     return ",".join(map(str, numbers))
 
 
-def same(links, counts):
-    """Links whose tables are the same over the same fields, with the number of their class."""
-    classes = {}
-    for (name, code), results in links:
-        tables = tables_of(results)
-        if tables:
-            counts["answered"] += 1
-            # (of a million links the tables themselves would take gigabytes)
-            key = hashlib.sha256(repr(tables).encode()).digest()
-            classes.setdefault(key, []).append((name, listed(tables), code))
-    for them in classes.values():
-        if len(them) > 1:
-            counts["classes"] += 1
-            counts["links"] += len(them)
-            yield from ((counts["classes"], *it) for it in them)
+def digest(texts):
+    """What stands for the tables of a link: of a million links they themselves would take gigabytes."""
+    return hashlib.blake2b("\n".join(texts).encode(), digest_size=16).digest()
 
 
-def torsion(links, counts):
-    """The pairs of degrees at which a link has not one dimension over all of its fields, with the dimensions over each."""
-    for (name, code), results in links:
-        tables = {field: dimensions_of(text) for field, text in tables_of(results).items()}
+def mirror_text(text):
+    """The table of the mirror image: over a field the dimension at j, i is that at -j, -i."""
+    return text_of({(-j, -i): dimension for (j, i), dimension in dimensions_of(text).items()})
+
+
+class Mirrors:
+    """The tables of mirror images, the last ones remembered."""
+
+    def __init__(self, size=4_096):
+        self.size, self.texts = size, {}
+
+    def text(self, text):
+        if text not in self.texts:
+            if len(self.texts) >= self.size:
+                self.texts.clear()
+            self.texts[text] = mirror_text(text)
+        return self.texts[text]
+
+
+def write_keys(asked, counts):
+    """A row of `keys` for each link that has a table: what stands for its tables, for those of its mirror image, and for its class."""
+    asked.database.execute(KEYS)
+    asked.database.execute("begin")
+    mirrors = Mirrors()
+    for (name, code), results in links_of(asked):
+        results = answered(results)
+        if not results:
+            continue
+        counts["answered"] += 1
+        own = digest(f"{it.field} {it.text}" for it in results)
+        other = digest(f"{it.field} {mirrors.text(it.text)}" for it in results) if asked.mirror else own
+        row = name, code, listed(it.field for it in results), results[0].jones, own, other, min(own, other)
+        asked.database.execute("insert into keys values (null, ?, ?, ?, ?, ?, ?, ?)", row)
+    asked.database.execute("commit")
+
+
+def classes(database, key, condition):
+    """The links of each class, in the order of their names: rows of `keys` that agree on these columns, where a condition holds."""
+    database.execute(f"create index temp.by_key on keys ({key})")
+    firsts = database.execute(f"select {key}, min(place) from keys group by {key} having {condition} order by min(place)").fetchall()
+    where = " and ".join(f"{it} = ?" for it in key.split(", "))
+    for number, (*values, _) in enumerate(firsts, 1):
+        links = f"select name, fields, code, tables, mirrored from keys where {where} order by place"
+        yield number, database.execute(links, values).fetchall()
+
+
+def side(tables, mirrored, first):
+    """Whether a link has the same table as the first of its class, the one of its mirror image, or both."""
+    if tables == mirrored:
+        return BOTH
+    return SAME if tables == first else MIRROR
+
+
+def same(asked, counts):
+    """Links whose tables are the same over the same fields, or those of mirror images where these are asked for, with the number of their
+    class."""
+    write_keys(asked, counts)
+    for number, links in classes(asked.database, "class", "count(*) > 1"):
+        counts["classes"] += 1
+        counts["links"] += len(links)
+        for name, fields, code, tables, mirrored in links:
+            yield number, name, fields, *([side(tables, mirrored, links[0][3])] if asked.mirror else []), code
+
+
+def jones(asked, counts):
+    """Links with the same Jones polynomial and not all with the same tables, with the number of their class and that of their tables in
+    it."""
+    write_keys(asked, counts)
+    for number, links in classes(asked.database, "jones, fields", "count(distinct tables) > 1"):
+        counts["classes"] += 1
+        counts["links"] += len(links)
+        order = list(dict.fromkeys(it[3] for it in links))
+        for name, fields, code, tables, _ in sorted(links, key=lambda it: order.index(it[3])):
+            yield number, order.index(tables) + 1, name, fields, code
+
+
+def is_torsion(dimensions, prime):
+    """Whether dimensions by fields tell of torsion; of this prime, where one is given: then its own is greater than another."""
+    if prime is None:
+        return len({*dimensions.values()}) > 1
+    return any(dimensions[prime] > it for it in dimensions.values())
+
+
+def torsion(asked, counts):
+    """The pairs of degrees at which a link has not one dimension over all of its fields, with the dimensions over each; of a prime, those
+    where the dimension over it is greater than over another field."""
+    for (name, code), results in links_of(asked):
+        tables = {it.field: dimensions_of(it.text) for it in answered(results)}
+        if len(tables) < 2 or asked.prime and asked.prime not in tables:
+            counts["unknown"] += 1
+            continue
         pairs = sorted({pair for table in tables.values() for pair in table})
-        differing = [pair for pair in pairs if len({table.get(pair, 0) for table in tables.values()}) > 1]
-        counts["torsion" if differing else "none" if len(tables) > 1 else "unknown"] += 1
+        dimensions = {pair: {field: table.get(pair, 0) for field, table in tables.items()} for pair in pairs}
+        differing = [pair for pair in pairs if is_torsion(dimensions[pair], asked.prime)]
+        counts["torsion" if differing else "none"] += 1
         for pair in differing:
-            yield name, *pair, *(tables[field].get(pair, 0) if field in tables else "" for field in FIELDS), code
+            yield name, *pair, *(dimensions[pair].get(field, "") for field in FIELDS), code
 
 
-def refused(links, counts):
-    """What was refused or is too large, with the line that `kh` wrote, and over which fields."""
-    for (name, code), results in links:
+def refused(asked, counts):
+    """What was refused or is too large, with the line that was written, and over which fields."""
+    for (name, code), results in links_of(asked):
         lines = {}
-        for field, status, _, line in results:
-            if status:
-                lines.setdefault((status, line), []).append(field)
+        for it in results:
+            if it.status:
+                lines.setdefault((it.status, it.refusal), []).append(it.field)
         counts["refused" if lines else "answered"] += 1
         yield from ((name, listed(fields), status, line, code) for (status, line), fields in lines.items())
 
 
+def given_tables(text):
+    """The texts of the tables of standard input by their fields, as results have them."""
+    found = {int(it[0].split()[3]): it[1].replace("j ", "").replace(" i ", " ").replace(" dim ", " ") for it in TABLE.finditer(text)}
+    if not found or TABLE.sub("", text).strip():
+        raise Fault("standard input has no tables, as kh-scan and kh homology write them")
+    return {field: rows.replace("\n", "; ")[:-2] for field, rows in found.items()}
+
+
+def links_with(asked, tables):
+    """The links that have all of these tables, by their fields."""
+    marks = " or ".join("field = ? and table_rows = ?" for _ in tables)
+    chosen = "links.id in (select link from chosen_links) and" if asked.is_of_list else ""
+    of_tables = "tables cross join answers on answers.table_id = tables.id cross join codes on codes.id = answers.code"
+    every = f"select name, codes.code from {of_tables} cross join links on links.code = codes.id where {chosen} ({marks})"
+    grouped = "group by links.id having count(distinct field) = ? order by name, codes.code"
+    values = [it for pair in tables.items() for it in pair]
+    return asked.database.execute(f"{every} {grouped}", (*values, len(tables)))
+
+
+def table(asked, counts):
+    """The links that have the tables of standard input, or whose mirror images have them where these are asked for."""
+    tables = given_tables(sys.stdin.read())
+    mirrored = {field: mirror_text(text) for field, text in tables.items()}
+    kinds = [(BOTH if tables == mirrored else SAME, tables)]
+    kinds += [(MIRROR, mirrored)] if asked.mirror and tables != mirrored else []
+    counts["links"] = 0
+    for kind, them in kinds:
+        for name, code in links_with(asked, them):
+            counts["links"] += 1
+            yield name, kind, code
+
+
 QUESTIONS = {
-    "same": (same, ("class", "name", "fields", "code"), "classes: {classes}; links in them: {links}, of {answered} with a table"),
-    "torsion": (
+    "same": Question(same, ("class", "name", "fields", "code"), "classes: {classes}; links in them: {links}, of {answered} with a table"),
+    "torsion": Question(
         torsion,
         ("name", "j", "i", *(f"over_{field}" for field in FIELDS), "code"),
-        "links with torsion: {torsion}; with the same table over all fields: {none}; with fewer than two tables: {unknown}",
+        "links with torsion: {torsion}; without: {none}; of which too few fields are known: {unknown}",
     ),
-    "refused": (refused, ("name", "fields", "status", "line", "code"), "links refused or too large: {refused}; others: {answered}"),
+    "jones": Question(
+        jones,
+        ("class", "table", "name", "fields", "code"),
+        "Jones polynomials with several tables: {classes}; links that have them: {links}, of {answered} with a table",
+    ),
+    "table": Question(table, ("name", "table", "code"), "links with this table: {links}"),
+    "refused": Question(refused, ("name", "fields", "status", "line", "code"), "links refused or too large: {refused}; others: {answered}"),
 }

@@ -1,8 +1,15 @@
-"""The database of `kh-tabulate`: the results, a row for each code and field, and the dimensions of their tables, a row for each pair of
-degrees.
+"""The database of `kh-tabulate`: each code once, the names that it has, and for each field one answer, whose table stands once as well.
 
-The texts of `table_rows` are what was answered, and the rows of `dimensions` follow from them. Both change together or not at all, so they
-agree whatever is killed. A row of `dimensions` has the number of its result, since a name may have two codes.
+| Table | A row is |
+|---|---|
+| `codes` | a code: `id`, `code` |
+| `links` | a name of a code: `id`, `name`, `code` (its `id`) |
+| `answers` | of a code over a field: `code`, `field`, `status`, `table_id` (where there is a table), `refusal`, `seconds`, `program` |
+| `tables` | a table with its Jones line, which links share: `id`, `table_rows`, `jones` |
+| `degrees` | a dimension of a table: `table_id`, `j`, `i`, `dim` |
+
+The views `results` and `dimensions` put these together, a row for each link and field, and for each of its dimensions. What follows from
+something else changes with it or not at all, whatever is killed.
 """
 import contextlib
 import os
@@ -13,70 +20,86 @@ COLUMNS = ("name", "code", "field", "status", "table_rows", "jones", "refusal", 
 LISTED = ", ".join(COLUMNS)
 # What results of an older version, which do not say their program, were made by.
 OLDER = "kh"
-RESULTS = """
-create table results (
-    id integer primary key,
-    name text, code text, field integer, status integer, table_rows text, jones text, refusal text, seconds real, program text,
-    unique (name, code, field)
+# The number that a database of this version has (`pragma user_version`); older ones have 0.
+VERSION = 3
+# Rows of links in their order with their answers: they are walked so, and never sorted.
+ANSWERED = """
+    links cross join codes on codes.id = links.code cross join answers on answers.code = codes.id left join tables on tables.id = table_id
+"""
+ROW = "name, codes.code, field, status, coalesce(table_rows, ''), coalesce(jones, ''), refusal, seconds, program"
+SCHEMA = (
+    "create table codes (id integer primary key, code text not null unique)",
+    "create table links (id integer primary key, name text not null, code integer not null, unique (code, name))",
+    "create index links_by_name on links (name)",
+    "create table tables (id integer primary key, table_rows text not null, jones text not null, unique (table_rows, jones))",
+    "create table degrees (table_id integer, j integer, i integer, dim integer, primary key (table_id, j, i)) without rowid",
+    """
+    create table answers (
+        code integer, field integer, status integer not null, table_id integer, refusal text not null, seconds real, program text,
+        primary key (code, field)
+    ) without rowid
+    """,
+    "create index answers_by_table on answers (table_id)",
+    """
+    create view results as
+    select links.id as link, name, codes.code as code, field, status, coalesce(table_rows, '') as table_rows, coalesce(jones, '') as jones,
+        refusal, seconds, program
+    from links join codes on codes.id = links.code join answers on answers.code = links.code left join tables on tables.id = table_id
+    """,
+    """
+    create view dimensions as
+    select links.id as link, name, field, j, i, dim
+    from links join answers on answers.code = links.code join degrees on degrees.table_id = answers.table_id
+    """,
+    """
+    create trigger dropped_results instead of delete on results begin
+        delete from answers where field = old.field and code = (select id from codes where code = old.code);
+    end
+    """,
 )
-"""
-DIMENSIONS = """
-create table dimensions (
-    name text, field integer, j integer, i integer, dim integer, result integer,
-    primary key (result, j, i)
-) without rowid
-"""
-# Whoever drops a result drops its dimensions, with `sqlite3` too.
-DROPPED = """
-create trigger dimensions_of_dropped after delete on results begin
-    delete from dimensions where result = old.id;
-end
-"""
-
-
-# The seconds that a write waits for those who read a large database.
-PATIENCE = 300
+# The seconds that a write waits for those who read a large database, and the kilobytes of it that are held in memory.
+PATIENCE, HELD = 300, 20_000
+# How many tables are remembered under their numbers.
+REMEMBERED = 4_096
 
 
 class Fault(Exception):
     """What is missing or wrong."""
 
 
-def open_database(path):
-    """A database to write to, made where there is none; one of an older version gets its dimensions and programs."""
-    database = sqlite3.connect(path, PATIENCE)
-    if not is_whole(database):
-        with together(database):
-            # (another process may have been faster)
-            if not is_whole(database):
-                set_up(database)
+def connected(path, **options):
+    database = sqlite3.connect(path, PATIENCE, isolation_level=None, **options)
+    database.execute(f"pragma cache_size = -{HELD}")
     return database
 
 
-def open_old_database(path):
-    """A database that is there."""
+def open_database(path):
+    """A database to write to, made where there is none; one of an older version is brought up to this one."""
+    database = connected(path)
+    if version_of(database, path) != VERSION:
+        with together(database):
+            # (another process may have been faster)
+            if version_of(database, path) != VERSION:
+                set_up(database, path)
+    return database
+
+
+def open_to_read(path):
+    """A database that is there, and of this version."""
     if not os.path.isfile(path):
         raise Fault(f"there is no database {path}")
-    return sqlite3.connect(pathlib.Path(path).absolute().as_uri() + "?mode=rw", uri=True)
+    database = connected(pathlib.Path(path).absolute().as_uri() + "?mode=rw", uri=True)
+    if version_of(database, path) != VERSION:
+        raise Fault(f"{path} is a database of an older version: kh-tabulate rebuild {path} brings it up to this one, and keeps its results")
+    return database
 
 
-def has_table(database, name):
-    return database.execute("select count(*) from sqlite_master where name = ?", (name,)).fetchone()[0] > 0
-
-
-def has_programs(database):
-    """Whether results say by which program they were made."""
-    return database.execute("select count(*) from pragma_table_info('results') where name = 'program'").fetchone()[0] > 0
-
-
-def is_whole(database):
-    """Whether results say their programs, and the table of dimensions is there, which is the last that is made."""
-    return has_programs(database) and has_table(database, "dimensions")
-
-
-def listed(database):
-    """The columns of results as they are asked for, also of an older version."""
-    return LISTED if has_programs(database) else LISTED.replace("program", f"'{OLDER}'")
+def version_of(database, path):
+    """The version of a database, 0 for an older or an empty one."""
+    version = database.execute("pragma user_version").fetchone()[0]
+    if version > VERSION:
+        raise Fault(f"{path} is a database of a newer version of kh-tabulate")
+    return version
 
 
 @contextlib.contextmanager
@@ -87,43 +110,29 @@ def together(database):
         yield
 
 
-def set_up(database):
-    """Makes the tables; results of an older version get programs, and where they had no numbers they get them in their order."""
-    is_older = has_table(database, "results")
-    if is_older and has_table(database, "dimensions"):
-        database.execute("alter table results add column program text")
-        database.execute("update results set program = ?", (OLDER,))
-        return
-    if is_older:
-        database.execute(f"create temporary table older ({LISTED})")
-        database.execute(f"insert into older select {listed(database)} from results order by rowid")
-        database.execute("drop table results")
-    database.execute(RESULTS)
-    if is_older:
-        database.execute(f"insert into results ({LISTED}) select {LISTED} from older order by rowid")
-        database.execute("drop table older")
-    database.execute(DIMENSIONS)
-    database.execute(DROPPED)
-    fill(database)
+def set_up(database, path):
+    """Makes the tables; the results of an older version are put into them, in their order."""
+    there = {name for name, in database.execute("select name from sqlite_master where type = 'table'")}
+    if there and "results" not in there:
+        raise Fault(f"{path} is no database of kh-tabulate")
+    if there:
+        database.execute("alter table results rename to older_results")
+        database.execute("drop trigger if exists dimensions_of_dropped")
+        database.execute("drop table if exists dimensions")
+    for statement in SCHEMA:
+        database.execute(statement)
+    database.execute(f"pragma user_version = {VERSION}")
+    if there:
+        keeper = Keeper(database)
+        for row in database.execute(f"select {older_columns(database)} from older_results order by rowid"):
+            keeper.keep_row(row)
+        database.execute("drop table older_results")
 
 
-def fill(database):
-    """The dimensions of all results, from their texts; it answers of how many results."""
-    answered = database.execute("select id, name, field, table_rows from results where status = 0")
-    count = 0
-    for number, name, field, text in answered:
-        insert_dimensions(database, number, name, field, text)
-        count += 1
-    return count
-
-
-def rebuild(path):
-    """The dimensions of a database anew; it answers of how many results."""
-    open_old_database(path).close()
-    database = open_database(path)
-    with together(database):
-        database.execute("delete from dimensions")
-        return fill(database)
+def older_columns(database):
+    """The columns of results of an older version, which may have no programs."""
+    has_programs = database.execute("select count(*) from pragma_table_info('older_results') where name = 'program'").fetchone()[0]
+    return LISTED if has_programs else LISTED.replace("program", f"'{OLDER}'")
 
 
 def dimensions_of(text):
@@ -132,24 +141,76 @@ def dimensions_of(text):
     return {(j, i): dimension for j, i, dimension in rows}
 
 
-def insert_dimensions(database, number, name, field, text):
-    rows = [(name, field, j, i, dimension, number) for (j, i), dimension in dimensions_of(text).items()]
-    database.executemany("insert into dimensions values (?, ?, ?, ?, ?, ?)", rows)
+def text_of(dimensions):
+    """The text of a table."""
+    return "; ".join(f"{j} {i} {dimension}" for (j, i), dimension in sorted(dimensions.items()))
 
 
-def insert(database, rows):
-    """Results with their dimensions, in place of those that there were of the same codes and fields."""
-    if not rows:
-        return
-    marks = ", ".join("?" * len(COLUMNS))
+class Keeper:
+    """Puts codes, their names and what was answered into a database, each once; and remembers the last code and some tables."""
+
+    def __init__(self, database):
+        self.database, self.last, self.tables = database, (None, None), {}
+
+    def code(self, code):
+        """The number of a code."""
+        if self.last[0] != code:
+            self.database.execute("insert or ignore into codes (code) values (?)", (code,))
+            self.last = code, self.database.execute("select id from codes where code = ?", (code,)).fetchone()[0]
+        return self.last[1]
+
+    def link(self, name, code):
+        """The number of a name of the code of this number."""
+        self.database.execute("insert or ignore into links (name, code) values (?, ?)", (name, code))
+        return self.database.execute("select id from links where code = ? and name = ?", (code, name)).fetchone()[0]
+
+    def table(self, text, jones):
+        """The number of a table with its Jones line."""
+        if (text, jones) not in self.tables:
+            added = self.database.execute("insert or ignore into tables (table_rows, jones) values (?, ?)", (text, jones)).rowcount
+            number = self.database.execute("select id from tables where table_rows = ? and jones = ?", (text, jones)).fetchone()[0]
+            if added:
+                add_degrees(self.database, number, text)
+            if len(self.tables) >= REMEMBERED:
+                self.tables.clear()
+            self.tables[text, jones] = number
+        return self.tables[text, jones]
+
+    def keep(self, code, answer):
+        """An answer to the code of this number, in place of the one that there was over its field."""
+        field, status, text, jones, refusal, seconds, program = answer
+        number = None if status else self.table(text, jones)
+        row = code, field, status, number, refusal, seconds, program
+        self.database.execute("insert or replace into answers values (?, ?, ?, ?, ?, ?, ?)", row)
+
+    def keep_row(self, row):
+        """A result with its name and code, in the order of the columns; the number of its link."""
+        code = self.code(row[1])
+        link = self.link(row[0], code)
+        self.keep(code, row[2:])
+        return link
+
+
+def add_degrees(database, number, text):
+    try:
+        rows = [(number, j, i, dimension) for (j, i), dimension in dimensions_of(text).items()]
+    except ValueError:
+        raise Fault(f"this is no table: {text[:80]}") from None
+    database.executemany("insert into degrees values (?, ?, ?, ?)", rows)
+
+
+def rebuild(path):
+    """Brings a database up to this version, makes its degrees anew, and drops what nothing refers to; it answers of how many tables."""
+    if not os.path.isfile(path):
+        raise Fault(f"there is no database {path}")
+    database = open_database(path)
     with together(database):
-        for row in rows:
-            database.execute("delete from results where name = ? and code = ? and field = ?", row[:3])
-            number = database.execute(f"insert into results ({LISTED}) values ({marks})", row).lastrowid
-            insert_dimensions(database, number, row[0], row[2], row[4])
-
-
-def known_results(database):
-    """The status and the line of a refusal of each result, by name, code and field."""
-    rows = database.execute("select name, code, field, status, refusal from results")
-    return {row[:3]: row[3:] for row in rows}
+        database.execute("delete from tables where id not in (select table_id from answers where table_id is not null)")
+        database.execute("delete from links where code not in (select code from answers)")
+        database.execute("delete from codes where id not in (select code from links)")
+        database.execute("delete from degrees")
+        count = 0
+        for number, text in database.execute("select id, table_rows from tables"):
+            add_degrees(database, number, text)
+            count += 1
+    return count

@@ -10,7 +10,8 @@ the row names are functions of the crate; the files that its tables on changes n
 quotes its sources line by line. Every name of a definition that a clause of a public function cites is in docs/DEFINITIONS.md, or else in
 docs/NAMES.md with the first sentence of the comment at its definition. The files that are trusted are as long as docs/THEOREM.md says, and
 as README.md says of all. CITATION.cff has the version of CHANGELOG.md. The old text of each planted bug of must-fail/ and more-edits/
-stands once in its file, and must-fail/ has two or three of them or none.
+stands once in its file, and must-fail/ has two or three of them or none. Every script that a page names is run by a command of a page or by
+a test (`shared/named_scripts.py`, which lists those that are run by hand).
 """
 import argparse
 import os
@@ -19,11 +20,12 @@ import sys
 import textwrap
 
 from companions.pages import pages
+from shared import named_scripts
 from shared.places import TOP
 from tools.version import version
 
 LONGEST = 7
-HEADINGS = "foundations diagrams cube moves texts cancellation scan threads program tests".split()
+HEADINGS = "foundations diagrams cube moves texts cancellation invariance scan unions threads program tests".split()
 COLUMNS = 135
 CHANGES = "## To change something"
 NAMED = re.compile(r"`(\w+)`")
@@ -287,6 +289,7 @@ def page_faults(crates):
     yield "THEOREM.md has the lengths of the edge", "`tests/rules.py --write` mends it" if page != with_lengths(page) else None
     given = re.search(r"^version: (.*)$", read("CITATION.cff"), re.M)[1]
     yield "CITATION.cff has the version", f"{given} and not {version()}" if given != version() else None
+    yield "each script that a page names is run by a test", ", ".join(named_scripts.untested()) or None
     page = read("docs", "DEFINITIONS.md") + read("docs", "NAMES.md")
     missing = [f"{name} of {crate}" for name, crate, _ in cited_names(crates) if not is_read_aloud(name, page)]
     yield "each name in a public contract is in DEFINITIONS.md or NAMES.md", ", ".join(missing) or None

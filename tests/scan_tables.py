@@ -32,11 +32,6 @@ FIELDS = "2357"
 DRAWN = int(os.environ.get("KH_SCANS", "120"))
 LEAST_AT_MOST = 15  # (crossings of random diagrams that `kh homology` is asked about)
 MOVED = 12
-# Words that name another command, or options of others, or none.
-OTHER_WORDS = (
-    [], ["homology"], ["jones"], ["--", "--field", "3"], ["--mark", "1"], ["--number", "7"], ["--field", "5", "--workers", "64"],
-    ["--to", "gauss"],
-)  # fmt: skip
 
 
 def rows(scan, program):
@@ -52,14 +47,6 @@ def rows(scan, program):
             yield name, None if came.status == 0 and came.wrote.startswith(b"table 2\n") else f"{came.status}, {came.wrote[:100]!r}"
         else:
             yield name, fault_of(child, words, row.given, row.status, row.wrote.decode())
-
-
-def other_words(scan, program):
-    """Words that name another command, or none, are those of `kh homology` with them behind it."""
-    child, whole = Child(scan), Child(program)
-    for words in OTHER_WORDS:
-        came, wanted = child.run(words, b"PD[X[1,1,2,2]]"), whole.run(["homology", *words], b"PD[X[1,1,2,2]]")
-        yield f"kh-scan, the words {words}", None if came[:3] == wanted[:3] else f"{came[:3]} and not {wanted[:3]}"
 
 
 def stored(scan, program):
@@ -158,7 +145,7 @@ def moved(scan, program, seed):
         yield f"kh-scan, behind moves over {field}", wrong(table_of(child, text, field)[0], tables[field])
 
 
-GROUPS = (rows, other_words, stored, euler_characteristics, curls_apart, mirrors, unions)
+GROUPS = (rows, stored, euler_characteristics, curls_apart, mirrors, unions)
 
 
 def named(scan, cases):

@@ -110,7 +110,10 @@ def in_another_form(source, part, refusal):
         return
     status, wrote = ended([sys.executable, KH_CODES], part)
     count = wrote.count(b"\n") if status == 0 else 0
-    if count > 1:
+    if count > 1 and source.name == "kh-scan":
+        yield from wrapped(f"tools/kh-codes reads {count} codes in it, and kh-scan takes many by its command each:")
+        yield f"{MARGIN}{called('tools/kh-codes')} {source.file} | {called(source.name, ['each', *source.words])}"
+    elif count > 1:
         yield from wrapped(f"tools/kh-codes reads {count} codes in it, and kh takes one; docs/TABULATION.md is about many")
     elif count and part != source.given:
         yield from wrapped("tools/kh-codes reads this code: give it the code alone, and write what comes of it in its place")
@@ -138,6 +141,14 @@ def refused(source, is_second, refusal):
         yield from in_another_form(source, part, refusal)
 
 
+def field_words(words):
+    """Those of the words of a command that name its field."""
+    for place, word in enumerate(words):
+        if word.partition("=")[0] == "--field":
+            return words[place : place + 1 + (word == "--field")]
+    return []
+
+
 def scanned(source):
     """That the scan, where there is one, has no limit on generators, and how it is called."""
     if not (os.path.isfile(KH_SCAN) and os.access(KH_SCAN, os.X_OK)):
@@ -145,9 +156,8 @@ def scanned(source):
     if source.command != "homology":
         yield from wrapped("the table, without this limit, is written by ./kh-scan, which reads a code")
         return
-    options = [it for it in source.words if it != source.command]
     yield from wrapped("./kh-scan writes the same table without this limit:")
-    yield f"{MARGIN}{called('kh-scan', options)} < {source.file}"
+    yield f"{MARGIN}{called('kh-scan', field_words(source.words))} < {source.file}"
 
 
 def generators_limit(source, ratio):

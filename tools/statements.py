@@ -10,6 +10,7 @@ import braid_words
 import codes
 import dowker
 import link_names
+import plain_lists
 
 # Signs that other programs write for a minus, and quotes, which are blanks.
 MINUS, QUOTES = "\u2010\u2011\u2012\u2013\u2014\u2015\u2212\ufe63\uff0d", "\"'`“”‘’"
@@ -24,6 +25,11 @@ OWN = re.compile(
     rf"\s*({WORDS}|{OPEN}\s*{OPEN}|[^\[\](){{}},;:=]+[:=]|{OPEN}\s*\d+\s*,\s*{OPEN}"
     rf"|{OPEN}(\s*-?\d*[02468]\s*,)+\s*-?\d*[02468]\s*[\])}}]{BEHIND}|{link_names.NAME}{BEHIND})"
 )
+# What tells the fields of a row apart; what stands between two quotes tells nothing.
+SEPARATORS = ",\t;|"
+MARKS = {it: re.compile(rf'"[^"]*"|["\[\](){{}}{re.escape(it)}]') for it in SEPARATORS}
+# A name before a planar diagram that may be known.
+NAMED = re.compile(r"(?P<name>[A-Za-z0-9_.^(){}+-]+)(\t|: ?)")
 SIGNS = re.compile(r"\s*Signs\b")
 GAUSS = re.compile(r"\s*Gauss")
 BRAID, DOWKER, MISSING = "braid", "dowker", "missing"
@@ -39,6 +45,14 @@ COLUMNS = {
     "dt": DOWKER,
     "gauss_notation": "",
 }
+
+
+class Known(NamedTuple):
+    """A code of which nothing has to be said: its name, the text for `kh`, and the line where it stands."""
+
+    name: str
+    code: str
+    line: int
 
 
 class Field(NamedTuple):
@@ -110,13 +124,14 @@ def named(line):
 def fields_of(line, separator):
     """The fields of a row: a separator in quotes or in brackets is none."""
     fields, start, depth, is_quoted = [], 0, 0, False
-    for place, sign in enumerate(line + separator):
+    for found in MARKS[separator].finditer(line):
+        sign = found[0]
         is_quoted ^= sign == '"'
         depth += 0 if is_quoted else (sign in codes.OPEN) - (sign in codes.CLOSE)
-        if place == len(line) or sign == separator and not is_quoted and depth <= 0:
-            fields.append(Field(start, line[start:place]))
-            start = place + 1
-    return fields
+        if sign == separator and not is_quoted and depth <= 0:
+            fields.append(Field(start, line[start : found.start()]))
+            start = found.end()
+    return [*fields, Field(start, line[start:])]
 
 
 def title_of(text):
@@ -125,7 +140,7 @@ def title_of(text):
 
 def heading_of(line):
     """The heading of a table, where a line is one: it names a column `name` and one with codes."""
-    for separator in ",\t;|" if "name" in line.lower() else "":
+    for separator in SEPARATORS if "name" in line.lower() else "":
         titles = [title_of(it.text) for it in fields_of(line, separator)]
         columns = [(titles.index(title), form) for title, form in COLUMNS.items() if title in titles]
         if columns and "name" in titles:
@@ -133,33 +148,50 @@ def heading_of(line):
     return None
 
 
-def row_of(heading, line, number):
+def row_of(heading, line, number, may_be_known):
     """The code of a row of a table."""
     fields = fields_of(line, heading.separator)
     name = fields[heading.name].text.strip(QUOTES + " ") if heading.name < len(fields) else ""
     for at, form in heading.columns:
         if at < len(fields) and re.search(r"\d", fields[at].text):
+            code = plain_lists.written(fields[at].text.strip('" ')) if may_be_known and name and not form else ""
+            if code:
+                return Known(name, code, number)
             return Statement(name, fields[at].text, number, line[: fields[at].start].expandtabs(1), form)
     return Statement(name, line, number, "", MISSING)
 
 
-def statements(text):
-    """The codes of a text."""
+def known_of(line, number):
+    """The code of a line of its own, with a name before it or none, where nothing has to be said of it; else nothing."""
+    found = NAMED.match(line)
+    name = found["name"] if found else ""
+    if name and (not is_name(name) or "name" in name.lower()):
+        return None
+    code = plain_lists.written(line[found.end() :] if found else line)
+    return Known(name, code, number) if code else None
+
+
+def statements(text, may_be_known=True):
+    """The codes of a text; where they may be known, those are of which nothing has to be said."""
     whole = heading = None
     for number, line in enumerate(text.split("\n"), 1):
-        is_comment = bool(re.match(r"\s*#", line))
-        line = COMMENT.sub("", line).rstrip()
+        known = known_of(line, number) if may_be_known and not heading else None
+        is_comment = "#" in line and bool(re.match(r"\s*#", line))
+        line = (COMMENT.sub("", line) if "#" in line else line).rstrip()
         if whole and (is_comment or whole.goes_on(line)):
             whole.shown += "\n" + line
             continue
         if whole:
             yield whole
             whole = None
+        if known:
+            yield known
+            continue
         found = heading_of(line)
         if found or not line and not is_comment:
             heading = found
         elif heading and line:
-            yield row_of(heading, line, number)
+            yield row_of(heading, line, number, may_be_known)
         elif line:
             name, code, head = named(line)
             whole = Statement(name, code, number, head)

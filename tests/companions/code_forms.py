@@ -6,8 +6,8 @@ import os
 import tempfile
 
 import plain.diagrams
+from companions import code_lists, code_truth
 from companions import code_rows as rows
-from companions import code_truth
 from companions.code_texts import diagrams, forms, run, run_each
 from shared.places import TOP
 
@@ -67,4 +67,5 @@ def faults(program=None):
         came = run([], rows.TREFOIL, tools)
         yield "kh-codes: by way of another name of its folder", None if came == (0, rows.TREFOIL + "\n", "") else str(came)
     yield from form_faults()
+    yield from code_lists.faults()
     yield from ((f"kh-codes: {name}", fault) for name, fault in code_truth.faults())

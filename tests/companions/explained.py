@@ -30,7 +30,7 @@ DRAWN = 300
 WRONG, WRONG_LINE = b"PD[X[1,1,2,2]!]", "refused text at 13\n"
 WRONG_SAID = "kh: no code has the sign !\n  PD[X[1,1,2,2]!]\n               ^\n"
 SCAN = "kh: ./kh-scan writes the same table without this limit:\n  ./kh-scan --field=3 < code\n"
-SCAN_OF_A_PIPE = "kh: ./kh-scan < FILE writes the table without this limit, with the options of homology\n"
+SCAN_OF_A_PIPE = "kh: ./kh-scan < FILE writes the table without this limit, and has the --field of homology\n"
 SCAN_FOR_OTHERS = "kh: the table, without this limit, is written by ./kh-scan, which reads a code\n"
 # What stands in for the program of scans: it answers as `kh homology` does.
 STAND_IN = '#!/bin/sh\nexec "${0%/*}/../../kh_main/out/kh_main" homology "$@"\n'
@@ -177,7 +177,8 @@ def scan_faults(copy):
     for mode in (0o755, 0o644, None):
         os.chmod(path, mode) if mode else os.remove(path)
         wanted = [mode == 0o755] * 3 + [False] * 2
-        came = [SCAN in run(copy, ["homology", "--field=3"], large)[2], SCAN_OF_A_PIPE in ended(copy, HOMOLOGY, input=large)[2]]
+        came = [SCAN in run(copy, ["--workers", "2", "homology", "--field=3"], large)[2]]
+        came.append(SCAN_OF_A_PIPE in ended(copy, HOMOLOGY, input=large)[2])
         came.append(SCAN_FOR_OTHERS in run(copy, ["certify"], large)[2])
         came += ["kh-scan" in run(copy, HOMOLOGY, wide)[2], "kh-scan" in ended(copy, JONES, input=wide)[2]]
         yield f"./kh-scan with the mode {mode}", None if came == wanted else f"{came} and not {wanted}"
@@ -187,7 +188,7 @@ def scan_faults(copy):
 def faults_of_scan(copy):
     """What `./kh-scan` says is what `./kh homology` says, but for what is typed next."""
     for name, words, given in (
-        ("a place", [], WRONG), ("an arc", ["--field", "3"], b"PD[X[1,1,2,3]]"), ("crossings", ["--workers", "2"], curls(21).encode()),
+        ("a place", [], WRONG), ("an arc", ["--field", "3"], b"PD[X[1,1,2,3]]"), ("crossings", ["--field=7"], curls(21).encode()),
         ("loops", [], b"PD[Loop[1]" + b",Loop[1]" * 8 + b"]"), ("bytes", [], b" " * 65_537), ("a log", [], said.LOG),
     ):
         whole, came = run(copy, ["homology", *words], given), run(copy, words, given, script="./kh-scan")
@@ -196,6 +197,10 @@ def faults_of_scan(copy):
     line = "tools/kh-codes code | ./kh-scan --field=3"
     right = f"kh: tools/kh-codes reads it:\n  {line}\n" in told and wrote_in(copy, line).startswith("table 2\nfield 3\n")
     yield "what ./kh-scan offers for another form", plain_fault(told) if right else told
+    told = run(copy, ["--field=3"], b"a: PD[Loop[1]]\nb: PD[Loop[1]]", script="./kh-scan")[2]
+    many = "kh: tools/kh-codes reads 2 codes in it, and kh-scan takes many by its command each:\n"
+    right = f"{many}  tools/kh-codes code | ./kh-scan each --field=3\n" in told
+    yield "what ./kh-scan offers for two codes", plain_fault(told) if right else told
     came = ended(copy, [], input=b"braid: 1", script="./kh-scan")
     yield "what ./kh-scan says of a pipe", None if "tools/kh-codes FILE | ./kh-scan\n" in came[2] and came[0] == REFUSED else str(came)
 

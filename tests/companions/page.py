@@ -14,6 +14,7 @@ import tempfile
 import plain.cube
 import plain.diagrams
 import plain.moves
+from companions.page_cells import matrices_fault
 from companions.show import help_fault, named_circles
 from shared import documents, known_diagrams
 from shared.places import TOP
@@ -130,7 +131,7 @@ def generators_fault(root, diagram):
         for minuses in range(circles + 1):
             j = circles - 2 * minuses + sum(state) + count - 3 * minus
             wanted.setdefault((j, sum(state) - minus), {})["".join(map(str, state)) or "the one state"] = math.comb(circles, minuses)
-    for cell in root.one("dl", class_="cells").all("div"):
+    for cell in (it for it in root.one("dl", class_="cells").all("div") if "id" in it.attributes):
         pair = tuple(map(int, cell.attributes["id"].split("_")[1:]))
         text = cell.one("dd").text()
         found = {name: int(many) for name, many in re.findall(r"([01]+|the one state) \((\d+) with \d", text)}
@@ -203,6 +204,7 @@ def page_faults(program, name, text):
     yield f"{name}, names", named_fault(root)
     yield f"{name}, grids", grids_fault(root, diagram)
     yield f"{name}, generators", generators_fault(root, diagram)
+    yield f"{name}, matrices", matrices_fault(root, diagram)
     yield f"{name}, states", states_fault(root, code)
     yield f"{name}, edges", edges_fault(root, code)
     yield f"{name}, crossings", crossings_fault(root, diagram)
@@ -301,22 +303,24 @@ printf 'table 2\\nfield %s\\nj 0 i 0 dim 1\\njones 1*q^0\\n' "$2"
 
 
 def scan_fault(program):
-    """Beyond the limit the tables are those of `kh-scan`, where there is one and it ends in time, asked with the words for the field."""
-    with open(os.path.join(TOP, "examples", "braid-20.pd"), encoding="utf-8") as file, tempfile.TemporaryDirectory() as folder:
-        code, kh = file.read(), asking.Kh(program, scan=os.path.join(folder, "kh-scan"))
-        without = sheets.tables_of(kh, code)
+    """The tables are those of `kh-scan`, where there is one and it ends in time, asked with the words for the field; else those of `kh`."""
+    trefoil, large = (open(os.path.join(TOP, "examples", f"{it}.pd"), encoding="utf-8").read() for it in ("trefoil", "braid-20"))
+    with tempfile.TemporaryDirectory() as folder:
+        kh = asking.Kh(program, scan=os.path.join(folder, "kh-scan"))
+        alone, without = sheets.tables_of(kh, trefoil), sheets.tables_of(kh, large)
         with open(kh.scan, "w", encoding="utf-8") as made_of:
             made_of.write(SCAN)
         os.chmod(kh.scan, 0o755)
-        tables, limit = sheets.tables_of(kh, code)
+        first, (tables, limit) = sheets.tables_of(kh, trefoil), sheets.tables_of(kh, large)
         words = open(kh.scan + ".words", encoding="utf-8").read().splitlines()
-        status, page, said = made(program, code, "--scan", kh.scan)
+        status, page, said = made(program, large, "--scan", kh.scan)
         open(kh.scan + ".slow", "w", encoding="utf-8").close()
-        late = sheets.tables_of(asking.Kh(program, 5, kh.scan), code)
+        late = sheets.tables_of(asking.Kh(program, 5, kh.scan), large)
     if (status, said) != (0, "") or list(documents.read(page).all("p", class_="limit")):
         return f"{status}, {said}"
     right = without == late == ([], BEYOND) and ([it.field for it in tables], limit) == (list(FIELDS), "")
-    return None if right and words == [f"--field {field}" for field in FIELDS] else f"{without}, {tables}, {limit}, {words}, {late}"
+    right = right and first == (tables, "") and len(alone[0][0].dimensions) == 6
+    return None if right and words == 2 * [f"--field {field}" for field in FIELDS] else f"{without}, {tables}, {limit}, {words}, {late}"
 
 
 def stored_fault(program):
@@ -339,6 +343,6 @@ def faults(program):
         yield f"moves of {name}", moves_fault(program, code)
     yield "no other words", words_fault(program)
     yield "a run that takes long", slow_fault()
-    yield "tables beyond the limit", scan_fault(program)
+    yield "tables of kh-scan", scan_fault(program)
     yield "docs/pages", stored_fault(program)
     yield "kh-page --help", help_fault("kh-page")

@@ -8,6 +8,7 @@ import os
 import re
 import subprocess
 
+from companions import page_lessons
 from rows.texts import TREFOIL
 from shared import browser
 from shared.places import TOP
@@ -196,8 +197,8 @@ def served_faults(tab, program):
         marked = tab.value("Array.from(document.querySelectorAll('#marks use')).map((it) => it.getAttribute('href')).join()")
         yield "a move that is pointed at", None if marked == "#arc-1,#arc-3" else marked
         wide = tab.value(
-            "new Promise((done) => {const it = document.querySelector('#preview img');"
-            "it.addEventListener('load', () => done(it.naturalWidth)); it.addEventListener('error', () => done(0));"
+            "new Promise((done) => {const look = () => {const it = document.querySelector('#preview image'); if (!it) setTimeout(look, 50);"
+            "else {it.addEventListener('load', () => done(it.getBBox().width)); it.addEventListener('error', () => done(0));}}; look();"
             "setTimeout(() => done(-1), 60000)})"
         )
         yield "the picture of what it makes", None if wide > 100 else f"{wide}"
@@ -236,14 +237,18 @@ def plain_move_fault(tab, serving):
 
 # The steps of the lessons: what is typed, what is pressed and leads to another page, what is clicked on the page.
 KINK, FINGER = 'button[value="r1 add 1 under plus"]', 'button[value="r2 add 1 left 3 left"]'
+FORWARD = "#scan .steps button:nth-of-type(2)"
 LESSONS = [
     ("type", "PD[X[1,4,2,5], X[3,6,4,1], X[5,2,6]]"), ("press", "#draw"), ("type", TREFOIL), ("press", "#draw"),
     ("click", '.target[href="#crossing-1"]'), ("click", '.state[data-state="000"]'), ("click", "#choices .choice:nth-of-type(2)"),
     ("click", '.grid a[href="#cell_-5_-2"]'), ("click", '.grid a[href="#cell_-7_-3"]'), ("press", 'button[value^="trefoil"]'),
     ("press", KINK), ("click", '.state[data-state="0000"]'), ("press", 'button[value="undo"]'), ("press", 'button[value="redo"]'),
-    ("press", 'button[value="undo"]'), ("press", FINGER), ("type", "braid: 1 2 1"), ("press", "#draw"), ("press", 'button[value="r3 1 2 3"]'),
+    ("press", '.move[data-line="r1 drop 4"] circle'), ("press", 'button[value^="trefoil"]'), ("press", FINGER), ("type", "braid: 1 2 1"),
+    ("press", "#draw"), ("press", '.move[data-line="r3 1 2 3"] circle'),
     ("press", 'button[value="r1 drop 2"]'), ("press", 'button[value^="trefoil"]'), ("press", 'button[value="mirror"]'),
-    ("click", '.state[data-state="111"]'),
+    ("click", '.state[data-state="111"]'), ("press", 'button[value^="trefoil"]'), ("click", '.grid a[href="#cell_-7_-2"]'),
+    ("click", '.grid a[href="#cell_-7_-3"]'), *5 * [("click", FORWARD)], ("click", "#scan .steps button:nth-of-type(4)"),
+    *3 * [("click", FORWARD)], ("draw", ""), ("press", "#draw"), *(("click", f"#quiz button:nth-of-type({at})") for at in (2, 4, 5, 3)),
 ]
 QUOTED = re.compile(r'"([^"\n]*(?:\n[^"\n]+)*)"')
 
@@ -252,7 +257,7 @@ def lessons_fault(tab, program):
     """The steps of `docs/TEACHING.md` can be done, and what it quotes is then on the page."""
     seen = []
     with open(os.path.join(TOP, "docs", "TEACHING.md"), encoding="utf-8") as file:
-        quotes = [" ".join(it.split()) for it in QUOTED.findall(file.read().partition("```")[0])]
+        quotes = [" ".join(it.split()) for it in QUOTED.findall(re.sub("```.*?```", "", file.read(), flags=re.S))]
     with Serving(program) as serving:
         tab.load(serving.address())
         for kind, what in LESSONS:
@@ -260,6 +265,8 @@ def lessons_fault(tab, program):
                 tab.type("#text", what)
             elif kind == "click":
                 tab.click(what)
+            elif kind == "draw":
+                page_lessons.drawn_curve(tab)
             else:
                 press(tab, what)
             tab.value("document.querySelectorAll('details').forEach((it) => (it.open = true))")
@@ -308,4 +315,5 @@ def faults(program):
         yield from scrolled_faults(tab)
         yield from colour_faults(tab)
         yield from served_faults(tab, program)
+        yield from page_lessons.faults(tab, program)
         yield "the lessons", lessons_fault(tab, program)

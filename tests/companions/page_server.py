@@ -303,7 +303,7 @@ def end_at_work_fault(program):
         with open(path, "w", encoding="utf-8") as file:
             file.write(SLOW % os.path.abspath(program))
         os.chmod(path, 0o755)
-        with Serving(path) as serving:
+        with Serving(path, "--scan", path + ".none") as serving:
             asked = threading.Thread(target=serving.get, args=[serving.step(TREFOIL)], daemon=True)
             asked.start()
             while not (os.path.exists(path + ".pid") and os.path.getsize(path + ".pid")):

@@ -2,8 +2,8 @@
 
 In the blocks of `docs/`, `examples/README.md` and `README.md` a line that begins with `$ ` is a command, and the lines up to the next such
 line or the end of the block are what it writes. Commands run one after another in a folder that has all of the repository, with `./kh`
-the program that is tested; what they write into files stays for the commands of the same page. Behind the pages come the texts of
-`docs/pictures`. `tests/program` runs these behind its rows.
+the program that is tested, and `./kh-scan` the one of scans that goes with it, where there is one; what they write into files stays for the
+commands of the same page. Behind the pages come the texts of `docs/pictures`. `tests/program` runs these behind its rows.
 """
 import os
 import re
@@ -12,6 +12,7 @@ import tempfile
 
 from shared.places import TOP
 from shared.running import PATIENCE
+from shared.scanning import scan_of
 
 BLOCK = re.compile(r"^```[a-z]*\n(.*?)^```$", re.M | re.S)
 
@@ -37,12 +38,15 @@ def commands(text):
 
 
 def folder_of(path, program):
-    """A folder with all of the repository, but for the program."""
+    """A folder with all of the repository, but for the programs."""
+    scan = scan_of(program)
+    programs = {"kh": os.path.abspath(program), **({"kh-scan": scan} if scan and os.path.isfile(scan) else {})}
     for name in os.listdir(TOP):
         # (a reader's own `out` may have files of the same commands)
-        if name not in (".git", "kh", "out"):
+        if name not in (".git", "out", *programs):
             os.symlink(os.path.join(TOP, name), os.path.join(path, name))
-    os.symlink(os.path.abspath(program), os.path.join(path, "kh"))
+    for name, target in programs.items():
+        os.symlink(target, os.path.join(path, name))
 
 
 def page_faults(name, program):

@@ -1,16 +1,19 @@
 """Tries `./kh`, `./kh-scan` and `./build` in a small copy of the repository, with a toolchain of its own that proves nothing and takes no
 time.
 
-On the path are that toolchain and the commands that both call, and no others, so that no `rt` of this machine is found. `tests/program`
-runs these behind its rows.
+On the path are that toolchain and the commands that both call, and no others, so that no `rt` of this machine is found. Behind these cases
+each script that is run by hand is begun with --help, and two benchmarks are run on next to nothing. `tests/program` runs these behind its
+rows.
 """
 import os
+import re
 import shutil
 import subprocess
 import sys
 import tempfile
 
 from companions import building
+from shared.named_scripts import BY_HAND
 from shared.places import TOP
 from shared.running import PATIENCE
 
@@ -154,6 +157,41 @@ TRIED = (
 )
 
 
+def ended(path, *words):
+    """The status of a script of the repository, what it wrote and what it said."""
+    came = subprocess.run([os.path.join(TOP, path), *words], stdin=subprocess.DEVNULL, capture_output=True, text=True, timeout=PATIENCE)
+    return came.returncode, came.stdout, came.stderr
+
+
+def help_faults():
+    """What is wrong with the scripts that are run by hand, where they only say what they do."""
+    for path in BY_HAND:
+        status, wrote, errors = ended(path, "--help")
+        fault = None if (status, errors) == (0, "") and os.path.basename(path) in wrote else f"status {status}: {wrote[:200]}{errors[:300]}"
+        yield f"{path} --help", fault
+
+
+# Benchmarks that need no other program: words, and what they write.
+MEASURES = (
+    ("bench/fitting.py", ["1"], "crossings: fitting\n(1[3-9]|20): [0-5] of 5\n(.*\n)*"),
+    (
+        "bench/each.py",
+        ["2", "--crossings", "6", "--jobs", "2", "--scan", os.path.join(TOP, "tests", "shared", "pretended_scan.py")],
+        "2 codes of 6 crossings over four fields; 2 processes of kh-tabulate\n(.*\n)*"
+        "each: [0-9.]+ times the computing one by one; other answers: 0\n"
+        "kh-tabulate: [0-9.]+ times each, [0-9.]+ by the wall; wanted at most 2\n.*\n",
+    ),
+)
+
+
+def measure_faults():
+    """What is wrong with benchmarks that are run on next to nothing."""
+    for path, words, pattern in MEASURES:
+        status, wrote, errors = ended(path, *words)
+        fault = None if status == 0 and re.fullmatch(pattern, wrote) else f"status {status}: {wrote}{errors}"
+        yield f"{path} {words[0]}", fault
+
+
 def faults():
     """The name of each case, and what is wrong with it, if anything is."""
     for case in TRIED:
@@ -161,3 +199,5 @@ def faults():
             came, wanted = case(Copy(folder))
         yield f"./kh, ./kh-scan and ./build {case.__name__.replace('_', ' ')}", None if came == wanted else f"{came} and not {wanted}"
     yield from building.faults(Copy)
+    yield from help_faults()
+    yield from measure_faults()

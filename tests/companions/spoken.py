@@ -57,19 +57,31 @@ WRONG = [
 ]
 # Words that `./kh-scan` does not take, and the first line that is said.
 WRONG_OF_SCAN = [
-    (["homology"], "`homology` is a command of kh, and kh-scan takes none"),
-    (["--field", "3", "jones"], "`jones` is a command of kh, and kh-scan takes none"),
+    (["homology"], "`homology` is a command of kh, and kh-scan takes `each` or none"),
+    (["--field", "3", "jones"], "`jones` is a command of kh, and kh-scan takes `each` or none"),
+    (["each", "check"], "`check` is a command of kh, and kh-scan takes `each` or none"),
     (["README.md"], "the file `README.md` is not named, but read: kh-scan < FILE"),
-    (["missing.pd"], "`missing.pd` is no option, and kh-scan takes no command"),
-    (["Homology"], "`Homology` is no option, and kh-scan takes no command"),
+    (["each", "README.md"], "the file `README.md` is not named, but read: kh-scan each < LIST"),
+    (["missing.pd"], "`missing.pd` is no command, and kh-scan needs none"),
+    (["Each"], "`Each` is no command, but `each` is, and kh-scan needs none"),
+    (["each", "each"], "`each` is a second command behind `each`"),
+    (["--", "each", "--"], "`--` is no command, and kh-scan needs none"),
     ([""], "a word is empty"),
-    (["--field", "4"], "--field takes 2, 3, 5 or 7, and not `4`"),
+    (["--field", "4"], "--field takes 2, 3, 5 or 7, or all for a list, and not `4`"),
+    (["each", "--field", "All"], "--field takes 2, 3, 5 or 7, or all for a list, and not `All`"),
+    (["--field", "all"], "--field all is for lists: kh-scan each --field all < LIST"),
+    (["--field=all", "--"], "--field all is for lists: kh-scan each --field all < LIST"),
     (["--field", "3", "--field=3"], "--field stands twice"),
-    (["--workers"], "--workers lacks its value"),
-    (["--", "--field", "3"], "`--field` is no option, and kh-scan takes no command"),
+    (["each", "--field"], "--field lacks its value"),
+    (["--workers", "2"], "--workers is an option of kh, and kh-scan has --field alone"),
+    (["each", "--mark=1"], "--mark is an option of kh, and kh-scan has --field alone"),
+    (["--to", "gauss"], "--to is an option of kh, and kh-scan has --field alone"),
+    (["--number=7"], "--number is an option of kh, and kh-scan has --field alone"),
+    (["--", "--field", "3"], "`--field` is no command, and kh-scan needs none"),
     (["-x"], "`-x` is no option"),
+    (["each", "-"], "`-` is no option"),
 ]
-RIGHT_OF_SCAN = [[], ["--"], ["--field", "3"], ["--field=7", "--workers", "2"]]
+RIGHT_OF_SCAN = [[], ["--"], ["--field", "3"], ["each"], ["--", "each"], ["--field", "all", "each"], ["each", "--field=5", "--"]]
 RIGHT = [["homology"], ["--", "homology"], ["homology", "--"], ["--field", "3", "check"], ["bench", "--number=7"]]
 RIGHT += [["reduced", "--mark", "7"], ["certify", "--field", "7"], ["verify"]]
 LONG = [["--help"], ["-h"], ["help"], ["homology", "--help"], ["--version"], ["version"], ["-V"]]
@@ -96,6 +108,14 @@ STATUSES_OF_SCAN = [
     (6, ["kh: no command takes more than 20 crossings or 8 loops", "  an input of more than 65536 bytes"]),
     (8, []),
 ]
+STATUSES_OF_LISTS = [
+    (0, []),
+    (3, ["kh: standard input can not be read on; the lines that had ended are answered"]),
+    (4, ["kh: standard output did not take the whole answer"]),
+    (5, ["kh: out of memory for a line or for what is written of it; whole answers are written"]),
+    (6, ["kh: a list has fewer than 2^64 - 2 bytes"]),
+    (8, []),
+]
 PROGRAM = "#!/bin/sh\necho answer\nexit %d\n"
 
 # What is said to be waited for at a terminal.
@@ -103,15 +123,18 @@ WAITS = [
     (["homology"], "a code"), (["--field", "3", "certify"], "a code"), (["edit"], "a code"), (["verify"], "a log"),
     (["--workers=2", "--", "verify"], "a log"), (["bench", "--number", "7"], ""), (["homologies"], ""), (["homology", "verify"], ""),
 ]
-WAITS_OF_SCAN = [([], "a code"), (["--field", "3"], "a code"), (["homology"], "")]
+WAITS_OF_SCAN = [([], "a code"), (["--field", "3"], "a code"), (["homology"], ""), (["--field", "all"], "")]
+WAITS_OF_SCAN += [(["each"], "codes"), (["--field", "all", "--", "each"], "codes")]
+# What is waited for, and the call that reads a file.
+WAITING = re.compile(r"(?:kh: (a code|a log|codes) (?:is|are) waited for[;,] .*, or read a file: (kh.*)\n)?")
+CALLS = {"a code": "kh-scan < FILE", "codes": "kh-scan each < LIST", "": ""}
 
 
 class Script(NamedTuple):
-    """One of the scripts: its name, the crate of its program, words, and what it has to say of words, of statuses and at a terminal."""
+    """One of the scripts: its name, the crate of its program, and what it says of words, of statuses with some words, and at a terminal."""
 
     name: str
     crate: str
-    words: list
     listed: list
     wrong: list
     right: list
@@ -120,10 +143,11 @@ class Script(NamedTuple):
 
 
 OF_KH = [*COMMANDS, "--field", "--workers", "--to", "--number", "--mark", "kh homology --field 3 < examples/trefoil.pd"]
-OF_SCAN = ["--field", "--workers", "kh-scan --field 3 < examples/trefoil.pd"]
+OF_SCAN = ["--field", "kh-scan each", "kh-scan --field 3 < examples/trefoil.pd"]
+OF_LISTS = (["each", "--field", "all"], STATUSES_OF_LISTS)
 SCRIPTS = (
-    Script("kh", "kh_main", ["homology"], OF_KH, WRONG, RIGHT, STATUSES, WAITS),
-    Script("kh-scan", "scan_main", [], OF_SCAN, WRONG_OF_SCAN, RIGHT_OF_SCAN, STATUSES_OF_SCAN, WAITS_OF_SCAN),
+    Script("kh", "kh_main", OF_KH, WRONG, RIGHT, [(["homology"], STATUSES)], WAITS),
+    Script("kh-scan", "scan_main", OF_SCAN, WRONG_OF_SCAN, RIGHT_OF_SCAN, [([], STATUSES_OF_SCAN), OF_LISTS], WAITS_OF_SCAN),
 )
 
 
@@ -156,13 +180,14 @@ def status_faults(script, copy):
     """Around a program that ends with each status the answer and the status stay, whatever is said."""
     path = os.path.join(copy.folder, script.name)
     program = os.path.join("crates", script.crate, "out", script.crate)
-    for status, begins in script.statuses:
+    for words, status, begins in ((words, *row) for words, rows in script.statuses for row in rows):
         copy.write(program, PROGRAM % status)
         os.chmod(os.path.join(copy.folder, program), 0o755)
-        came = subprocess.run([path, *script.words], stdin=subprocess.DEVNULL, capture_output=True, text=True)
+        came = subprocess.run([path, *words], stdin=subprocess.DEVNULL, capture_output=True, text=True)
         lines = came.stderr.splitlines()
         right = (came.returncode, came.stdout) == (status, "answer\n") and len(lines) == len(begins)
-        yield f"./{script.name} with status {status}", None if right and all(map(str.startswith, lines, begins)) else str(came)
+        name = " ".join([f"./{script.name}", *words, f"with status {status}"])
+        yield name, None if right and all(map(str.startswith, lines, begins)) else str(came)
     for words, waits in script.waits:
         try:
             ours, theirs = pty.openpty()
@@ -171,8 +196,8 @@ def status_faults(script, copy):
             continue
         came = subprocess.run([path, *words], stdin=theirs, capture_output=True, text=True)
         os.close(ours), os.close(theirs)
-        said_of, call = re.match(r"(?:kh: (a \w+) is waited for; .*: (kh.*) < FILE\n)?", came.stderr).groups("")
-        wanted = " ".join([script.name, *words[-1:] * (script.name == "kh")]) if waits else ""
+        said_of, call = WAITING.match(came.stderr).groups("")
+        wanted = CALLS[waits] if script.name == "kh-scan" else f"kh {words[-1]} < FILE" * bool(waits)
         yield f"./{script.name} {words} at a terminal", None if (said_of, call) == (waits, wanted) else str(came)
 
 

@@ -4,6 +4,7 @@ import os
 import random
 
 import drawn.inputs
+import drawn.lists
 import drawn.words
 import plain.answers as answers
 import plain.cube
@@ -11,7 +12,7 @@ import plain.diagrams
 import plain.words
 from plain.codes import Ended
 from shared.running import PATIENCE, Child, known_commands, least_seconds, slowness
-from shared.scanning import HOMOLOGY, LIMIT_OF_CUBES, ScanChild
+from shared.scanning import HOMOLOGY, LIMIT_OF_CUBES
 
 REFUSED_SECONDS = 0.5
 REFUSED_KILOBYTES = 96 * 1024
@@ -22,9 +23,12 @@ CUBE_TASKS = ("homology", "schedule", "reduced", "certify")
 LARGE_CUBE = 20_000
 
 
-def is_beyond(answer):
-    """Whether an answer is the limit on generators."""
-    return answer is not None and answer.text.startswith(LIMIT_OF_CUBES)
+def texts(words):
+    """The words as texts; None where one of them is none."""
+    try:
+        return [os.fsencode(it).decode() for it in words]
+    except UnicodeDecodeError:
+        return None
 
 
 def is_large(given):
@@ -39,9 +43,9 @@ def is_large(given):
 class Fuzzer:
     """What is drawn for a program, and what came of it so far."""
 
-    def __init__(self, program, seed, slower=1):
+    def __init__(self, program, seed, slower=1, commands=None):
         self.child, self.seed, self.slower = Child(program, PATIENCE * slower), seed, slower
-        self.commands = known_commands(program)
+        self.commands = commands or known_commands(program)
         self.options = {name: it for name, it in plain.words.OPTIONS.items() if name != "--mark" or "reduced" in self.commands}
         self.stored = sorted({number for number, _ in answers.DIMENSIONS})
         self.counts, self.slowest, self.largest, self.unknown = collections.Counter(), (0, None), (0, None), 0
@@ -58,10 +62,10 @@ class Fuzzer:
 
     def wanted(self, words, given):
         """The answer, or None where it is not known."""
-        try:
-            words = [os.fsencode(it).decode() for it in words]
-        except UnicodeDecodeError:
-            return NO_TEXT
+        words = texts(words)
+        return NO_TEXT if words is None else self.answer(words, given)
+
+    def answer(self, words, given):
         return answers.answer(words, given, self.commands, self.options)
 
     def fault_of(self, number):
@@ -88,21 +92,17 @@ class Fuzzer:
 
 
 class ScanFuzzer(Fuzzer):
-    """What is drawn for a program of scans: words with `homology` before them, which it does not get."""
+    """What is drawn for a program of scans: its own words, with a code or with a list of codes, none of which has a large cube."""
 
-    def __init__(self, program, scan, seed, slower=1):
-        super().__init__(program, seed, slower)
-        self.child = ScanChild(scan, PATIENCE * slower)
+    def __init__(self, scan, seed, slower=1):
+        super().__init__(scan, seed, slower, ("each",))
 
     def drawn(self, number):
         draw = random.Random(f"{self.seed} {number}")
-        given = drawn.inputs.some_input(draw, HOMOLOGY)
-        words = drawn.words.some_words(draw, HOMOLOGY, self.options, self.stored)
-        if HOMOLOGY in words:
-            words.remove(HOMOLOGY)
-        return [HOMOLOGY, *words], given, draw.random() < 0.2
+        words = drawn.words.some_scan_words(draw)
+        asked = plain.words.asked_of_scan(texts(words) or [""])
+        given = drawn.lists.some_list(draw) if asked and asked.is_list else drawn.inputs.some_input(draw, HOMOLOGY)
+        return words, drawn.lists.NO_CODE if drawn.lists.is_far(given) else given, draw.random() < 0.2
 
-    def fault_of(self, number):
-        """The same; an input with more generators than `kh` takes is left out."""
-        words, given, _ = self.drawn(number)
-        return None if is_beyond(self.wanted(words, given)) else super().fault_of(number)
+    def answer(self, words, given):
+        return answers.scan_answer(words, given)

@@ -70,3 +70,13 @@ def spoiled(draw, words, options):
 def some_words(draw, task, options, stored):
     words = usual_words(draw, task, options, stored)
     return spoiled(draw, words, options) if draw.random() < 0.06 else words
+
+
+def some_scan_words(draw):
+    """Words of `kh-scan`: mostly some that ask for one table or for those of a list, with a field or without one."""
+    names = ["each"] * (draw.random() < 0.4)
+    fields = (*VALUES["--field"], *(["all"] * 2 if names else []))
+    parts = [names, option_words(draw, "--field", draw.choice(fields)) * (draw.random() < 0.6)]
+    draw.shuffle(parts)
+    words = [word for part in parts for word in part] + ["--"] * (draw.random() < 0.05)
+    return spoiled(draw, words, VALUES) if draw.random() < 0.08 else words

@@ -155,7 +155,7 @@ def faults(child, chosen, all_numbers=False, most=None, has_threads=True):
     """The name of each case in which a call fails, and what is wrong with it, if anything is; of a program that has threads, or none."""
     with tempfile.TemporaryDirectory() as folder:
         shim = Shim(child, folder)
-        if shim.is_built(cases.ALL[0]):
+        if shim.is_built(cases.ALL[0] if has_threads else chosen[0]):
             yield from thread_counts(shim) if has_threads else ()
             for case in chosen:
                 yield from case_faults(shim, case, most, all_numbers)

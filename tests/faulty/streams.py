@@ -47,10 +47,10 @@ def different(came, *wanted):
     return None if came in wanted else f"{str(came)[:500]} and not {str(wanted)[:500]}"
 
 
-def unreadable(program, case, folder):
-    """Inputs that no read can be made of: what reads ends with its fault, and what reads nothing answers."""
+def unreadable(program, case, folder, before=b""):
+    """Inputs that no read can be made of: what reads ends with its fault, and what it writes before, and what reads nothing answers."""
     wanted = ended(started(program, case, folder, stdout=subprocess.PIPE))
-    wanted = (READ_FAULT, b"", b"") if reads(case) else wanted
+    wanted = (READ_FAULT, before, b"") if reads(case) else wanted
     sources = {
         "is a folder": lambda: os.open(folder, os.O_RDONLY),
         "is open for writing alone": lambda: os.open(os.path.join(folder, "sink"), os.O_WRONLY | os.O_CREAT),

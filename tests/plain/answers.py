@@ -13,6 +13,7 @@ import plain.codes
 import plain.cube
 import plain.diagrams
 import plain.drawing
+import plain.frames
 import plain.logs
 import plain.moves
 import plain.schedules
@@ -220,6 +221,40 @@ def bench(number, field):
     if (number, field) in DIMENSIONS:
         return Answer(DONE, f"{head}{DIMENSIONS[number, field]}\n{polynomial}")
     return Answer(DONE, re.escape(head) + "[1-9][0-9]*\n" + re.escape(polynomial), {})
+
+
+class ListAnswer(NamedTuple):
+    """The answers to the questions of a list."""
+
+    asked: list
+    answers: list
+
+    def fault(self, status, wrote):
+        found = plain.frames.read(wrote)
+        if status != DONE or not found or found[1] or [it[:2] for it in found[0]] != [it[:2] for it in self.asked]:
+            return f"status {status}, frames {[it[:3] for it in (found or [[]])[0]]}, and not {[it[:2] for it in self.asked]}"
+        faults = (answer.fault(frame.status, frame.text) for frame, answer in zip(found[0], self.answers))
+        return next((f"frame {number}: {fault}" for number, fault in enumerate(faults, 1) if fault), None)
+
+
+def scan_reply(field, given):
+    """The answer of `kh-scan` to an input over a field."""
+    try:
+        need_bytes(given, BYTES)
+        return table_answer(read(given), field)
+    except Ended as it:
+        return Answer(it.status, it.line + "\n")
+
+
+def scan_answer(words, given):
+    """The answer of `kh-scan` to words and to an input of bytes."""
+    asked = plain.words.asked_of_scan(words)
+    if not asked:
+        return Answer(USAGE, "usage: kh-scan [each] [--field FIELD]\n")
+    if not asked.is_list:
+        return scan_reply(int(asked.fields), given)
+    questions = plain.frames.questions(given, asked.fields)
+    return ListAnswer(questions, [scan_reply(int(it.field), it.line) for it in questions])
 
 
 def answer(words, given, commands=plain.words.COMMANDS, options=plain.words.OPTIONS):

@@ -1,8 +1,10 @@
 """A plain second reading of the words that follow the program's name, from `docs/FORMATS.md` alone.
 
-`command_of(words)` gives the command and its options, or None where the words give none.
+`command_of(words)` gives the command of `kh` and its options, and `asked_of_scan(words)` what is asked of `kh-scan`; None where the words
+give nothing.
 """
 import re
+from typing import NamedTuple
 
 COMMANDS = ("homology", "jones", "check", "convert", "schedule", "edit", "bench")
 COMMANDS += ("draw", "certify", "verify", "reduced", "mirror", "reverse", "union")
@@ -16,6 +18,7 @@ OPTIONS = {
     "--number": (re.compile("[0-9]{1,7}"), None),
     "--mark": (re.compile("[01]?[0-9]{1,2}|2[0-4][0-9]|25[0-5]"), None),
 }
+SCAN_OPTIONS = {"--field": (re.compile("[2357]|all"), "2")}
 
 
 def sorted_out(words, options):
@@ -51,3 +54,22 @@ def command_of(words, commands=COMMANDS, options=OPTIONS):
     if task in NEEDED and NEEDED[task] not in values:
         return None
     return {"task": task, **{name: values.get(name, without) for name, (_, without) in options.items()}}
+
+
+class Asked(NamedTuple):
+    """What is asked of `kh-scan`: whether it is the lines of a list, and over which fields."""
+
+    is_list: bool
+    fields: str
+
+
+def asked_of_scan(words):
+    """What is asked of `kh-scan`, or None."""
+    found = sorted_out(words, SCAN_OPTIONS)
+    if not found or found[0] not in ([], ["each"]) or len(found[1]) > 1:
+        return None
+    (value,) = [value for _, value in found[1]] or ["2"]
+    is_list = found[0] == ["each"]
+    if not SCAN_OPTIONS["--field"][0].fullmatch(value) or (value == "all" and not is_list):
+        return None
+    return Asked(is_list, "2357" if value == "all" else value)

@@ -15,6 +15,7 @@ import rows.input
 import rows.jones
 import rows.link
 import rows.log
+import rows.scan
 import rows.schedule
 import rows.stream
 import rows.word
@@ -75,6 +76,14 @@ def all_rows():
     for name, words, given, status, wrote in rows.stream.LITTLE_MEMORY:
         sizes = rows.stream.SIZES_OF_WORKERS if "--workers" in words else rows.stream.SIZES
         yield Row(name, words, as_bytes(given), status, wrote.encode(), source="file", sizes=sizes)
+
+
+def scan_rows():
+    """The rows on words and lists of `kh-scan` alone."""
+    for name, words, status, wrote in rows.scan.WORDS:
+        yield Row(f"kh-scan, {name}", words, TREFOIL.encode(), status, wrote.encode())
+    for name, words, given, frames in rows.scan.LISTS:
+        yield Row(f"kh-scan, a list: {name}", words, as_bytes(given), 0, rows.scan.written_of(frames).encode())
 
 
 def is_plain(row):

@@ -25,7 +25,7 @@ BEGIN = (
     "import fcntl, os, sys; files = [fcntl.fcntl(int(it), fcntl.F_DUPFD, 10) for it in sys.argv[1:3]]; "
     "os.dup2(files[0], 3), os.dup2(files[1], 4); os.execv(sys.argv[3], sys.argv[3:])"
 )
-KEYS = {"Tab": 9, "Enter": 13, "Escape": 27}
+KEYS = {"Tab": 9, "Enter": 13, "Escape": 27, "ArrowLeft": 37, "ArrowRight": 39}
 
 
 def path():
@@ -148,10 +148,13 @@ class Browser:
         self.value(f"document.querySelector({json.dumps(selector)}).focus();document.querySelector({json.dumps(selector)}).select?.()")
         self.call("Input.insertText", text=text)
 
-    def screen(self, width, height, dark=False, paper=False, script=True):
-        """The size of the screen, whether it is dark or paper, and whether scripts run."""
+    def screen(self, width, height, dark=False, paper=False, script=True, still=False):
+        """The size of the screen, whether it is dark or paper, whether scripts run, and whether motion is not wanted."""
         self.call("Emulation.setDeviceMetricsOverride", width=width, height=height, deviceScaleFactor=1, mobile=width < 700)
-        features = [{"name": "prefers-color-scheme", "value": "dark" if dark else "light"}]
+        features = [
+            {"name": "prefers-color-scheme", "value": "dark" if dark else "light"},
+            {"name": "prefers-reduced-motion", "value": "reduce" if still else "no-preference"},
+        ]
         self.call("Emulation.setEmulatedMedia", media="print" if paper else "", features=features)
         self.call("Emulation.setScriptExecutionDisabled", value=not script)
 

@@ -38,7 +38,7 @@ MOVES = (
 )
 SHAPES = {
     1: re.compile(f"(second\n)?refused ({REFUSALS})\n"),
-    2: re.compile("usage: kh COMMAND \\[OPTIONS\\]\n|"),
+    2: re.compile("usage: (kh COMMAND \\[OPTIONS\\]|kh-scan \\[each\\] \\[--field FIELD\\])\n|"),
     6: re.compile(f"(second\n)?limit ({LIMITS})\n"),
     7: re.compile(f"({NUMBER} PD\\[[^\n]*\\]\n)*{NUMBER} refused ({MOVES})\n"),
 }
@@ -252,8 +252,8 @@ def fault_of(child, words, given, status, text):
     came = child.run(words, given.encode() if isinstance(given, str) else given)
     if (came.status, came.wrote, came.said) == (status, text.encode(), b""):
         return None
-    wrote = came.wrote.decode(errors="replace")
-    return f"{came.status}, {wrote[:300]!r}, {came.said[:100]!r} and not {status}, {text[:300]!r}: {' '.join(words)} on {given[:600]!r}"
+    wrote, call = came.wrote.decode(errors="replace"), " ".join(map(str, words))
+    return f"{came.status}, {wrote[:300]!r}, {came.said[:100]!r} and not {status}, {text[:300]!r}: {call} on {given[:600]!r}"
 
 
 def told(program, *commands):

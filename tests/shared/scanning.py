@@ -1,17 +1,18 @@
-"""The program of scans beside that of `kh`, and what is tried on it: `kh-scan WORDS` means what `kh homology WORDS` means.
+"""The program of scans beside that of `kh`, and what is tried on it: `kh-scan --field P` means what `kh homology --field P` means.
 
-So a run of `kh` whose first word is `homology` is one of `kh-scan` without that word.
+So a run of `kh` for the homology of a diagram, with no other option than the field, is one of `kh-scan`.
 """
 import dataclasses
 import functools
 import os
 
+import plain.words
 from shared.places import TOP
-from shared.running import Child
 
 SCAN = os.path.join(TOP, "crates", "scan_main", "out", "scan_main")
 BY_RATTLE = ".by-rattle"
 HOMOLOGY = "homology"
+FIELD_ALONE = {"--field": plain.words.OPTIONS["--field"]}
 # The line of the limit that a scan has not.
 LIMIT_OF_CUBES = "limit generators "
 
@@ -36,8 +37,11 @@ def is_there(scan):
 
 
 def words_behind(words):
-    """The words for `kh-scan`, where `homology` is the first word."""
-    return words[1:] if words[:1] == [HOMOLOGY] else None
+    """The words for `kh-scan` that ask for what these ask of `kh`; None where it is no homology, or they have an option that it lacks."""
+    if any(isinstance(it, bytes) for it in words):
+        return None
+    found = plain.words.command_of(words, (HOMOLOGY,), FIELD_ALONE)
+    return found and ([] if found["--field"] == "2" else ["--field", found["--field"]])
 
 
 def has_row_of_scan(row):
@@ -48,11 +52,3 @@ def has_row_of_scan(row):
 def row_of_scan(row):
     """A row of `kh homology` as one of `kh-scan`."""
     return dataclasses.replace(row, name=f"kh-scan, {row.name}", words=words_behind(row.words))
-
-
-class ScanChild(Child):
-    """What runs `kh-scan` as `kh` is run: of the words, of which the first is `homology`, it gets those behind."""
-
-    def run(self, words, given, by_pipe=False, environment=None):
-        behind = words_behind(words)
-        return super().run(words if behind is None else behind, given, by_pipe, environment)

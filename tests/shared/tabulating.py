@@ -1,5 +1,5 @@
-"""A folder in which `kh-tabulate` is tried, with a list and a program that takes a twentieth of a second, writes down each call, refuses
-some codes, and gives no answer to others.
+"""A folder in which `kh-tabulate` is tried, with a list and two programs that take some hundredths of a second, write down each answer,
+refuse some codes, and give no answer to others: that of scans, and that of cubes.
 
 A run that is to be killed is held half-way, however fast the machine is: after so many calls the program waits, and a program that it has
 begun, until the folder is gone.
@@ -15,6 +15,7 @@ from shared.places import TOP
 from shared.running import PATIENCE
 
 TABULATE, ON_MANY = (os.path.join(TOP, "tabulate", name) for name in ("kh-tabulate", "on-many"))
+SCAN = os.path.join(TOP, "tests", "shared", "pretended_scan.py")
 COUNT = 24
 GRACE = 30
 HEAD = ["name", "code", "field", "status", "table_rows", "jones", "refusal", "seconds", "program"]
@@ -46,20 +47,6 @@ trefoil*)
 *) printf 'table 2\\nfield %s\\nj -1 i 0 dim 1\\nj 1 i 0 dim 1\\njones 1*q^-1 1*q^1\\n' "$3" ;;
 esac
 """
-# The program of scans: it writes down each call, and answers what is too large for the other.
-SCAN = """\
-#!/bin/sh
-echo "$2" >>"$TOLD.scan"
-read -r code
-case $code in
-lost) exit 70 ;;
-bad) echo "refused text at 0"; exit 1 ;;
-wide) echo "limit crossings 21 of 20"; exit 6 ;;
-*) printf 'table 2\\nfield %s\\nj 0 i 0 dim 2\\njones 2*q^0\\n' "${2:-2}" ;;
-esac
-"""
-
-
 def heeds_signals():
     """What is done in a new process, so that it heeds the signals that stop it also where this script was begun without."""
     for number in (signal.SIGINT, signal.SIGTERM):
@@ -83,18 +70,47 @@ def lines_of(path):
         return file.read().splitlines()
 
 
+def wanted():
+    """The results of the list of a folder over two and three elements."""
+    for field in (2, 3):
+        for k in range(COUNT):
+            yield f"link {k}", f"PD[Loop[{k}]]", field, 0, "-1 0 1; 1 0 1", "1*q^-1 1*q^1", "", "scan"
+        yield "wrong", "bad", field, 1, "", "", "refused text at 0", "scan"
+        yield "huge", "large", field, 0, "0 0 1", "1*q^0", "", "scan"
+
+
+def wanted_of_cubes():
+    """The same where `kh` is asked."""
+    for *row, program in wanted():
+        limit = 6, "", "", "limit generators 6630936 of 4194304"
+        yield (*(row if row[0] != "huge" else (*row[:3], *limit)), "kh")
+
+
+def kept_fault(folder):
+    """What is wrong with what is kept: each code and field has one result, and the dimensions are those of the texts."""
+    found, (kept, said) = folder.results(), folder.dimensions()
+    if found != sorted(wanted_of_cubes() if "kh" in folder.asked else wanted()):
+        return f"{len(found)} results: {found[:2]}"
+    return None if kept == said else f"dimensions {kept[:100]} and not {said[:100]}"
+
+
+def result_fault(folder):
+    """What is wrong with the results, of which not all may be worked out twice."""
+    again = folder.calls() - 2 * (COUNT + 2)
+    if kept_fault(folder):
+        return kept_fault(folder)
+    return None if 0 <= again <= 2 * COUNT else f"{again} calls too many"
+
+
 class Folder:
-    """A folder with the program and a list."""
+    """A folder with the program of cubes and a list."""
 
     def __init__(self, path):
         self.path, self.told, self.said = path, os.path.join(path, "told"), ""
-        self.program, self.scan = os.path.join(path, "kh"), os.path.join(path, "kh-scan")
-        for program, text in ((self.program, PROGRAM), (self.scan, SCAN)):
-            with open(program, "w", encoding="utf-8") as file:
-                file.write(text)
-            os.chmod(program, 0o755)
-        # (what says which programs are asked; that of scans is no other than this folder's)
-        self.asked = ("--program", "kh")
+        self.program = self.write("kh", PROGRAM)
+        os.chmod(self.program, 0o755)
+        # (what says which program is asked)
+        self.asked = ()
         self.write("list", "# a list\n" + "".join(f"link {k}\tPD[Loop[{k}]]\n" for k in range(COUNT)) + "wrong\tbad\nhuge\tlarge\n")
 
     def at(self, name):
@@ -106,20 +122,27 @@ class Folder:
             file.write(text)
         return self.at(name)
 
-    def start(self, *words, held=None):
-        """Begins these words, whose program is held after so many calls in all."""
-        settings = dict(os.environ, TOLD=self.told, KH=self.program, FIELDS="2,3", PROGRAM="kh", **({"HELD": str(held)} if held else {}))
+    def remove(self, name):
+        """Removes a file, where it is there."""
+        if os.path.exists(self.at(name)):
+            os.remove(self.at(name))
+
+    def start(self, *words, held=None, **more):
+        """Begins these words, whose program is held after so many answers in all."""
+        settings = {"TOLD": self.told, "SCAN": SCAN, "KH": self.program, "FIELDS": "2,3", **({"HELD": str(held)} if held else {})}
+        settings = {**os.environ, **settings, **more}
         pipe = subprocess.PIPE
         return subprocess.Popen(
-            words, env=settings, stdout=pipe, stderr=pipe, start_new_session=True, text=True, preexec_fn=heeds_signals
+            words, env=settings, stdin=pipe, stdout=pipe, stderr=pipe, start_new_session=True, text=True, preexec_fn=heeds_signals
         )
 
     def tabulated(self, *words):
-        return (TABULATE, "--kh", self.program, *self.asked, "--fields", "2,3", *words)
+        return (TABULATE, "--scan", SCAN, "--kh", self.program, *self.asked, "--fields", "2,3", *words)
 
-    def run(self, *words):
-        started = self.start(*self.tabulated(*words))
-        wrote, errors = started.communicate(timeout=PATIENCE)
+    def run(self, *words, given=None, **more):
+        """The status, what was written and what was said; of words of `kh-tabulate`."""
+        started = self.start(*self.tabulated(*words), **more)
+        wrote, errors = started.communicate(given, timeout=PATIENCE)
         return started.returncode, wrote, errors
 
     def stop(self, number, *words, is_alone=False):
@@ -146,19 +169,15 @@ class Folder:
         return lines_of(self.told + ".held")
 
     def calls(self):
-        """How often the program has been called for homology."""
+        """How many answers the programs have begun, but for their tries."""
         return len(lines_of(self.told))
-
-    def scans(self):
-        """The fields over which the program of scans has been called, but for its tries."""
-        return [int(it) for it in lines_of(self.told + ".scan") if it]
 
     def kept(self):
         """How many results are kept so far, in the database and in lines."""
         count = len(lines_of(self.at("out")))
         try:
             database = sqlite3.connect(f"file:{self.at('results.db')}?mode=ro", uri=True)
-            count += database.execute("select count(*) from results").fetchone()[0]
+            count += database.execute("select count(*) from answers").fetchone()[0]
             database.close()
         except sqlite3.OperationalError:
             pass
@@ -173,12 +192,10 @@ class Folder:
         return rows
 
     def dimensions(self):
-        """The rows of dimensions with the codes of their results, and those that the texts say, both in order."""
-        texts = self.select("select name, field, code, table_rows from results where status = 0")
-        said = [(name, field, *map(int, row.split()), code) for name, field, code, text in texts for row in text.split(";")]
-        kept = self.select("select d.name, d.field, j, i, dim, code from dimensions d join results on id = result")
-        count = self.select("select count(*) from dimensions")[0][0]
-        return sorted(kept) if count == len(kept) else f"{count} rows, of results {len(kept)}", sorted(said)
+        """The rows of dimensions, and those that the texts say, both in order."""
+        texts = self.select("select link, name, field, table_rows from results where status = 0")
+        said = [(link, name, field, *map(int, row.split())) for link, name, field, text in texts for row in text.split(";")]
+        return sorted(self.select("select * from dimensions")), sorted(said)
 
     def results(self):
         """What is kept, without seconds, in order."""

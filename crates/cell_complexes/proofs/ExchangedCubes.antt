@@ -30,11 +30,11 @@ use Rattle.cell_complexes.proofs.Matched.{sum_by-paired}
 use Rattle.cell_complexes.proofs.Members.{Contains-flattened, Contains-made}
 pub use Rattle.kh_types.proofs.Lists.{range-contains}
 
-record IsMember (code : Code) (x : Generator) : Type 0 where
-  state : x.state < 2 ^ length code.crossings
-  label : x.label < 2 ^ circle_count code x.state
+pub record IsMember (code : Code) (x : Generator) : Type 0 where
+  pub state : x.state < 2 ^ length code.crossings
+  pub label : x.label < 2 ^ circle_count code x.state
 
-member-from : (code : Code) (x : Generator) → Contains (generators code) x → IsMember code x
+pub member-from : (code : Code) (x : Generator) → Contains (generators code) x → IsMember code x
 member-from code x has =
     let by_state = Contains-flattened (generators_of code) (states code) x has in
     let by_label = Contains-made (generator_of by_state.0) (range_with_len 0 (2 ^ circle_count code by_state.0)) x by_state.2 in
@@ -44,20 +44,20 @@ member-from code x has =
       label = range-contains (2 ^ circle_count code by_state.0) by_label.0 by_label.1;
     })
 
-member-of : (code : Code) (x : Generator) → IsMember code x → Contains (generators code) x
+pub member-of : (code : Code) (x : Generator) → IsMember code x → Contains (generators code) x
 member-of code x is =
     Contains-flat_map (generators_of code) (states code) x.state x (Contains-range (2 ^ length code.crossings) x.state is.state)
     (Contains-map (generator_of x.state) (range_with_len 0 (2 ^ circle_count code x.state)) x.label
     (Contains-range (2 ^ circle_count code x.state) x.label is.label))
 
 -- steps, by their places
-record IsStepAt (code : Code) (s t place : ℕ) : Type 0 where
-  within : place < length code.crossings
-  zero_there : bit s place ≡ 0
-  behind : t ≡ s + 2 ^ place
+pub record IsStepAt (code : Code) (s t place : ℕ) : Type 0 where
+  pub within : place < length code.crossings
+  pub zero_there : bit s place ≡ 0
+  pub behind : t ≡ s + 2 ^ place
 
 -- a coefficient other than 0 goes along a step
-step-of : (p : ℕ) (code : Code) (tail head : Generator) → coefficient p code tail head ≢ 0
+pub step-of : (p : ℕ) (code : Code) (tail head : Generator) → coefficient p code tail head ≢ 0
     → (place : ℕ) × IsStepAt code tail.state head.state place
 step-of p code tail head some =
     let term = sum_by-some (coefficient_at p code tail head) 1 (length code.crossings) some in
@@ -69,7 +69,7 @@ step-of p code tail head some =
       | inr none ↦ absurd (term.3 none)
     ]
 
-coefficient-along : (p : ℕ) (code : Code) (tail head : Generator) (place : ℕ) → IsStepAt code tail.state head.state place
+pub coefficient-along : (p : ℕ) (code : Code) (tail head : Generator) (place : ℕ) → IsStepAt code tail.state head.state place
     → coefficient p code tail head ≡ cond (fits code tail head (place + 1)) (power_sign p (ones place tail.state)) 0
 coefficient-along p code tail head place step =
     let e : place ≡ place + 1 - 1 = omega arith in

@@ -35,32 +35,32 @@ minus-nothing p x below =
     ∙ mod-eq_of_lt below
 
 -- coefficients, by whether states and objects are the same
-inside-state : (layers : Layers) (x y : Layer) → x.state ≡ y.state
+pub inside-state : (layers : Layers) (x y : Layer) → x.state ≡ y.state
     → layer_coefficient layers x y ≡ layers.inner x.object y.object x.state x.label y.label
 inside-state layers x y same =
     ap (λ (b : Bool). if b then layers.inner x.object y.object x.state x.label y.label
     else if nat_eq x.object y.object then layers.outer x.object x.state y.state x.label y.label else 0)
     (eq-eqb x.state y.state same)
 
-elsewhere : (layers : Layers) (x y : Layer) → x.state ≢ y.state
+pub elsewhere : (layers : Layers) (x y : Layer) → x.state ≢ y.state
     → layer_coefficient layers x y ≡ (if nat_eq x.object y.object then layers.outer x.object x.state y.state x.label y.label else 0)
 elsewhere layers x y other =
     ap (λ (b : Bool). if b then layers.inner x.object y.object x.state x.label y.label
     else if nat_eq x.object y.object then layers.outer x.object x.state y.state x.label y.label else 0)
     (ne_eqb x.state y.state other)
 
-nowhere : (layers : Layers) (x y : Layer) → x.state ≢ y.state → x.object ≢ y.object → layer_coefficient layers x y ≡ 0
+pub nowhere : (layers : Layers) (x y : Layer) → x.state ≢ y.state → x.object ≢ y.object → layer_coefficient layers x y ≡ 0
 nowhere layers x y other other_object =
     elsewhere layers x y other
     ∙ ap (λ (b : Bool). if b then layers.outer x.object x.state y.state x.label y.label else 0) (ne_eqb x.object y.object other_object)
 
 -- a cell of an object
-record IsCellOf (layers : Layers) (object : ℕ) (x : Layer) : Type 0 where
-  object_is : x.object ≡ object
-  state : x.state < layers.states
-  label : x.label < layers.labels x.object x.state
+pub record IsCellOf (layers : Layers) (object : ℕ) (x : Layer) : Type 0 where
+  pub object_is : x.object ≡ object
+  pub state : x.state < layers.states
+  pub label : x.label < layers.labels x.object x.state
 
-cell-of : (layers : Layers) (object : ℕ) (x : Layer) → Contains (object_cells layers object) x → IsCellOf layers object x
+pub cell-of : (layers : Layers) (object : ℕ) (x : Layer) → Contains (object_cells layers object) x → IsCellOf layers object x
 cell-of layers object x has =
     let by_state = Contains-flattened (λ state. map (layer_of object state) (range_with_len 0 (layers.labels object state)))
     (range_with_len 0 layers.states) x has in

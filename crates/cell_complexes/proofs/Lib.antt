@@ -20,3 +20,9 @@ pub mod Shuffled
 pub mod ShuffledDarts
 pub mod ShuffledFaces
 pub mod AnyOrder
+pub mod Places
+pub mod SameElements
+pub mod Labels
+pub mod SplitLabels
+pub mod CellLists
+pub mod Reordered

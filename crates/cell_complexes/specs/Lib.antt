@@ -4,3 +4,4 @@ pub mod Elimination
 pub mod Cubes
 pub mod WorkedCells
 pub mod Layers
+pub mod Signs

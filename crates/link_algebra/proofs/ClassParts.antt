@@ -121,7 +121,7 @@ fold-small m classes [] size below pairs_below = (size, below)
 fold-small m classes (pair ∷ pairs) size below pairs_below =
     grind (arith, nat_tests, length-joined, small-joined, fold-small m (joined classes pair) pairs (length-joined classes pair ∙ size) (small-joined m classes pair size below pairs_below.0.0 pairs_below.0.1) pairs_below.1)
 
-range-lifted : (m a n : ℕ) → range_with_len (m + a) n ≡ lifted m (range_with_len a n)
+pub range-lifted : (m a n : ℕ) → range_with_len (m + a) n ≡ lifted m (range_with_len a n)
 range-lifted m a zero = refl
 range-lifted m a (suc n) = grind (arith, nat_tests, range-lifted m (a + 1) n)
 

@@ -112,7 +112,7 @@ behind g state other shift start place below (slots ∷ crossings) moved same ho
     (smoothing-moved start (bit other place) (g slots) slots (moved slots (HoldsNames-first below slots crossings hold)))
     ∙ moved-append start here later
 
-own : (state below : ℕ) (crossings : List (List ℕ)) → HoldsNames below crossings
+pub own : (state below : ℕ) (crossings : List (List ℕ)) → HoldsNames below crossings
     → smoothings_of crossings state ≡ lifted_pairs 1 (lowered (smoothings_of crossings state))
 own state below crossings hold =
     ap (smoothings_from state 0) (sym (map-id crossings))

@@ -16,11 +16,11 @@ use Rattle.scan_laws.specs.Scans.{IsScanOf, Object, Scan, circle_count_at, circl
 use Rattle.scan_laws.specs.Complexes.{degree_of_labels, layers_of}
 use Rattle.scan_laws.specs.Adding.{IsAdding, Origin, object_from, origin_of}
 use Rattle.scan_laws.proofs.AddedCircles.{circle-parts}
-use Rattle.scan_laws.proofs.CellLists.{cell-from, cell-of, cells-once}
+use Rattle.cell_complexes.proofs.CellLists.{cell-from, cell-of, cells-once}
 use Rattle.scan_laws.proofs.Objects.{object-among}
 use Rattle.scan_laws.proofs.Origins.{IsOrigin, origin-from, origin-of}
 use Rattle.scan_laws.proofs.Parts.{circle_with, circles_left, circles_with, closed_part, left_part}
-use Rattle.scan_laws.proofs.SplitLabels.{AreParts, counts, ones-parts, part-below, parts-whole, whole, whole-below, whole-parts}
+use Rattle.cell_complexes.proofs.SplitLabels.{AreParts, counts, ones-parts, part-below, parts-whole, whole, whole-below, whole-parts}
 use Rattle.scan_laws.proofs.States.{count-more, joint, joint-first, joint-parts, joint-rest, ones-joint}
 
 -- a crossing is added to a scan of an accepted code

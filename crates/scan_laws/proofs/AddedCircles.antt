@@ -1,5 +1,5 @@
 -- The circles of an object at an outer state, as those that a smoothing of the next crossing closes and those of the new object.
-use Rattle.std.proofs.Common.{◌≡◌, ℕ, ◌+◌, ◌*◌, ◌^◌, ◌<◌, ◌∙◌, List, [], ◌∷◌, ◌++◌, append_assoc, length, sym, subst, ap, arith, Bool, true, false, cond}
+use Rattle.std.proofs.Common.{◌≡◌, ℕ, ◌+◌, ◌*◌, ◌^◌, ◌<◌, ◌∙◌, List, [], ◌∷◌, ◌++◌, append_assoc, length, sym, subst, ap}
 use Rattle.std.specs.List.{Contains, filter, sum_by}
 use Rattle.std.proofs.lemmas.Bool.{eqb-true}
 use Rattle.kh_types.specs.Classes.{AreBelow, Respects, classes_of, is_least}
@@ -13,28 +13,19 @@ use Rattle.dotted_surfaces.specs.Points.{AreAmong}
 use Rattle.dotted_maps.proofs.LeastPoints.{AreJoins}
 use Rattle.cell_complexes.specs.Alike.{HasNoDoubles}
 use Rattle.cell_complexes.proofs.Members.{Contains-kept, sum_by-members}
-use Rattle.cell_complexes.proofs.NoDoubles.{first-new, once-first, once-later, once-range}
+use Rattle.cell_complexes.proofs.NoDoubles.{once-range, once-filter}
 use Rattle.scan_laws.specs.Scans.{circles_at}
 use Rattle.scan_laws.specs.Edges.{classes_at}
 use Rattle.closed_surfaces.specs.Made.{joined_outside}
 use Rattle.closed_surfaces.proofs.MadePairings.{outer-raised}
 use Rattle.scan_laws.proofs.Parts.{circle_with, circles_left, circles_with}
 use Rattle.scan_laws.proofs.Points.{placed-behind}
-use Rattle.scan_laws.proofs.SplitLabels.{AreParts}
+use Rattle.cell_complexes.proofs.SplitLabels.{AreParts}
 use Rattle.scan_laws.proofs.States.{joint, outside-more}
 
 pub respects-mapped : (f h : ℕ → ℕ) (pairs : List (ℕ × ℕ)) → Respects f pairs → Respects (λ x. h (f x)) pairs
 respects-mapped f h [] respects = tt
 respects-mapped f h (pair ∷ pairs) respects = (ap h respects.0, respects-mapped f h pairs respects.1)
-
-pub once-filter : (p : ℕ → Bool) (xs : List ℕ) → HasNoDoubles xs → HasNoDoubles (filter p xs)
-once-filter p [] once = λ k l d less below. absurd (omega (arith, below))
-once-filter p (x ∷ xs) once =
-    by (p x) (λ has. first-new x xs once (Contains-kept p xs x has).0) (once-filter p xs (once-later x xs once))
-  where
-    by : (b : Bool) → (Contains (filter p xs) x → ⊥) → HasNoDoubles (filter p xs) → HasNoDoubles (cond b (x ∷ filter p xs) (filter p xs))
-    by false new rest = rest
-    by true new rest = once-first x (filter p xs) new rest
 
 once-circles : (code : Code) (k : ℕ) (m : List (ℕ × ℕ)) (t : ℕ) → HasNoDoubles (circles_at code k m t)
 once-circles code k m t =

@@ -22,11 +22,11 @@ use Rattle.scan_laws.specs.Scans.{HasDots, Object, Scan, dot_sets, first_object,
 use Rattle.scan_laws.specs.Adding.{IsAdding, new_coefficient, object_from, origins}
 use Rattle.scan_laws.specs.Eliminating.{IsEliminating, way_coefficient}
 use Rattle.scan_laws.specs.Steps.{AreSteps, IsLast, IsRenumbering, IsScanStep}
-use Rattle.scan_laws.proofs.CellLists.{contains-range}
+use Rattle.cell_complexes.proofs.CellLists.{contains-range}
 use Rattle.scan_laws.proofs.Possible.{no-head, no-tail, no_origin, origin_in, number_in, origins-matched, others, others-listed}
-use Rattle.scan_laws.proofs.Labels.{place}
+use Rattle.cell_complexes.proofs.Labels.{place}
 use Rattle.scan_laws.proofs.ScansOf.{once-eliminated}
-use Rattle.scan_laws.proofs.Places.{numbers-test, place-at, place-found}
+use Rattle.cell_complexes.proofs.Places.{numbers-test, place-at, place-found}
 
 all-pass : {A : Type 0} (p : A → Bool) (xs : List A) → list_all p xs ≡ true → (x : A) → Contains xs x → p x ≡ true
 all-pass p xs all x has = All-contains (λ y. p y ≡ true) xs x (AllPass-from_list_all p xs all) has

@@ -23,11 +23,11 @@ use Rattle.scan_laws.specs.Edges.{classes_at, label_by, labels_by, touched_by}
 use Rattle.closed_surfaces.specs.Made.{joined_outside}
 use Rattle.scan_laws.proofs.AddedCircles.{HasNext, circle-parts, class-inside, is-cut, new-joins, own-class}
 use Rattle.scan_laws.proofs.Changes.{AreBits, total}
-use Rattle.scan_laws.proofs.Labels.{bit-number, bit-small, mark, place}
-use Rattle.scan_laws.proofs.Places.{numbers-test, place-found}
-use Rattle.scan_laws.proofs.SameElements.{AreSame}
+use Rattle.cell_complexes.proofs.Labels.{bit-number, bit-small, mark, place}
+use Rattle.cell_complexes.proofs.Places.{numbers-test, place-found}
+use Rattle.cell_complexes.proofs.SameElements.{AreSame}
 use Rattle.scan_laws.proofs.Parts.{circle_with, circles_left, circles_with}
-use Rattle.scan_laws.proofs.SplitLabels.{AreParts, both-same, part}
+use Rattle.cell_complexes.proofs.SplitLabels.{AreParts, both-same, part}
 use Rattle.scan_laws.proofs.States.{joint}
 
 -- what stands once under a map

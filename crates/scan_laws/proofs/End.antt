@@ -24,7 +24,7 @@ use Rattle.scan_laws.specs.Scans.{IsScanOf, Scan, circle_count_at, count_behind,
 use Rattle.scan_laws.specs.Complexes.{complex_of, degree_of_labels, layers_of}
 use Rattle.scan_laws.specs.Steps.{IsLast}
 use Rattle.scan_laws.specs.Counts.{count_of_object, counted_with}
-use Rattle.scan_laws.proofs.CellLists.{cell-from}
+use Rattle.cell_complexes.proofs.CellLists.{cell-from}
 use Rattle.scan_laws.proofs.Coefficients.{inside-state}
 use Rattle.scan_laws.proofs.LastPoints.{circles-last, count_behind-last}
 

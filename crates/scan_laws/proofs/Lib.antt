@@ -1,8 +1,3 @@
-pub mod Places
-pub mod SameElements
-pub mod Labels
-pub mod SplitLabels
-pub mod CellLists
 pub mod Coefficients
 pub mod States
 pub mod Edges

@@ -19,9 +19,9 @@ use Rattle.closed_surfaces.specs.Made.{joined_outside}
 use Rattle.closed_surfaces.proofs.LedSums.{led-entries, led-saddle_entries}
 use Rattle.scan_laws.specs.Edges.{changes_by, keeps_by}
 use Rattle.scan_laws.proofs.Edges.{fits_at}
-use Rattle.scan_laws.proofs.Labels.{mark}
+use Rattle.cell_complexes.proofs.Labels.{mark}
 use Rattle.scan_laws.proofs.Parts.{circle_with, circles_with, closed_part, left_part}
-use Rattle.scan_laws.proofs.SplitLabels.{part}
+use Rattle.cell_complexes.proofs.SplitLabels.{part}
 use Rattle.scan_laws.proofs.States.{behind-more, joint, outer-rest, outer-whole, outside-more, whole-at, whole_state}
 
 -- both forms of a number from bits

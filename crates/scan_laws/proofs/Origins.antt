@@ -12,8 +12,8 @@ use Rattle.cell_complexes.proofs.Members.{Contains-flattened, Contains-made}
 use Rattle.cell_complexes.proofs.NoDoubles.{once-flat, once-map, once-range}
 use Rattle.scan_laws.specs.Scans.{Scan, pairs_of}
 use Rattle.scan_laws.specs.Adding.{Origin, origin_of, origins, origins_of, origins_with}
-use Rattle.scan_laws.proofs.CellLists.{contains-range}
-use Rattle.scan_laws.proofs.Places.{IsTest}
+use Rattle.cell_complexes.proofs.CellLists.{contains-range}
+use Rattle.cell_complexes.proofs.Places.{IsTest}
 
 -- an origin is one of a scan
 pub record IsOrigin (code : Code) (scan : Scan) (w : Origin) : Type 0 where

@@ -1,7 +1,7 @@
 -- The coefficient of an edge at a later crossing, before one crossing more: it is that behind the crossing where the labels of closed
 -- circles stay, and else 0. The touched circles have as many labels on both sides, with the same sum, so they are a row of the tables on
 -- both or on neither; and a circle that is not touched is closed, or has its label behind.
-use Rattle.std.proofs.Common.{◌≡◌, ◌≢◌, ℕ, zero, suc, inl, inr, ◌+◌, ◌-◌, ◌*◌, ◌%◌, ◌^◌, ◌<◌, ◌≤◌, ◌∙◌, ◌⊎◌, List, [], ◌∷◌, ◌++◌, length, map, refl, sym, ap, ap₂, arith, Bool, true, false, cond, ◌&&◌, ◌||◌}
+use Rattle.std.proofs.Common.{◌≡◌, ◌≢◌, ℕ, zero, suc, inl, inr, ◌+◌, ◌-◌, ◌*◌, ◌%◌, ◌^◌, ◌<◌, ◌≤◌, ◌∙◌, ◌⊎◌, List, [], ◌∷◌, ◌++◌, length, refl, sym, ap, ap₂, arith, Bool, true, false, cond, ◌&&◌, ◌||◌}
 use Rattle.std.specs.Prelude.{nat_eq, if◌then◌else◌}
 use Rattle.std.specs.List.{Contains, list_all, sum_by}
 use Rattle.std.proofs.lemmas.Bool.{cases_Bool, cases_eq}
@@ -11,7 +11,6 @@ use Rattle.kh_types.specs.Bits.{bit, ones}
 use Rattle.kh_types.specs.Classes.{classes_of, is_least}
 use Rattle.kh_types.specs.Code.{Code, place_of, slots_of}
 use Rattle.kh_types.proofs.ListSums.{sum_by-some}
-use Rattle.cube_squares.proofs.LabelNumbers.{number_from}
 use Rattle.cube_squares.proofs.Pairs.{IsStep}
 use Rattle.dotted_surfaces.specs.Points.{least_points}
 use Rattle.added_crossings.specs.Codes.{closed_at, pairing_behind, points_at, smoothing_at, step_at}
@@ -24,7 +23,7 @@ use Rattle.scan_laws.specs.Edges.{changes_by, classes_at, keeps_by, labels_by, o
 use Rattle.scan_laws.proofs.AddedCircles.{HasNext, circle-parts, own-class}
 use Rattle.scan_laws.proofs.Changes.{changes_test, changes-counts, total}
 use Rattle.scan_laws.proofs.Edges.{edge-or_zero, fits_at, outer-one}
-use Rattle.scan_laws.proofs.Labels.{bit-small, mark, place}
+use Rattle.cell_complexes.proofs.Labels.{bit-small, mark, place, bits-same}
 use Rattle.scan_laws.proofs.CirclesBehind.{left-alive, in-names, labels-count, labels-total, new-bits, new_class, old-bits, rest-arc, touched-closed, touched-left}
 use Rattle.scan_laws.proofs.Parts.{circle_with, circles_left, circles_with, closed_part, left_part}
 use Rattle.scan_laws.proofs.States.{bit-joint, count-more, joint, ones-joint}
@@ -42,16 +41,6 @@ all-fails p (x ∷ xs) =
     by : (b : Bool) (n : ℕ) → (b && nat_eq n 0) ≡ nat_eq (cond b 0 1 + n) 0
     by true n = grind (arith, nat_tests)
     by false n = grind (arith, nat_tests)
-
-bits-same : (f g : ℕ → ℕ) (xs : List ℕ) → ((x : ℕ) → f x ≤ 1) → ((x : ℕ) → g x ≤ 1)
-    → nat_eq (number_from (map f xs)) (number_from (map g xs)) ≡ list_all (λ x. nat_eq (f x) (g x)) xs
-bits-same f g [] f_small g_small = refl
-bits-same f g (x ∷ xs) f_small g_small =
-    one (f x) (g x) (number_from (map f xs)) (number_from (map g xs)) (f_small x) (g_small x)
-    ∙ ap (λ b. nat_eq (f x) (g x) && b) (bits-same f g xs f_small g_small)
-  where
-    one : (a b m n : ℕ) → a ≤ 1 → b ≤ 1 → nat_eq (a + 2 * m) (b + 2 * n) ≡ (nat_eq a b && nat_eq m n)
-    one a b m n a_small b_small = grind (arith, nat_tests, a_small, b_small)
 
 -- closed circles are at points that are alive before
 closed-alive : (code : Code) (k : ℕ) (m : List (ℕ × ℕ)) (e : ℕ) → HasNext code k m e → (x : ℕ) → Contains (closed_at code k e m) x

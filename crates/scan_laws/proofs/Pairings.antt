@@ -13,9 +13,8 @@ use Rattle.dotted_surfaces.specs.Points.{AreAmong, IsPairing, ends_of}
 use Rattle.added_crossings.specs.Codes.{is_open, points_at}
 use Rattle.added_crossings.specs.Pairings.{IsPaired, end_count, ends_in}
 use Rattle.cell_complexes.specs.Alike.{HasNoDoubles}
-use Rattle.cell_complexes.proofs.NoDoubles.{once-range}
-use Rattle.scan_laws.proofs.AddedCircles.{once-filter}
-use Rattle.scan_laws.proofs.SameElements.{counted, counted-most, counted-once, hit, is, miss, some-there}
+use Rattle.cell_complexes.proofs.NoDoubles.{once-range, once-filter}
+use Rattle.cell_complexes.proofs.SameElements.{counted, counted-most, counted-once, hit, is, miss, some-there}
 
 -- lists with equal counts are one another's in another order
 permuted : (xs ys : List ℕ) → ((z : ℕ) → counted z xs ≡ counted z ys) → IsPermutation xs ys

@@ -7,7 +7,7 @@ use Rattle.added_crossings.specs.Codes.{closed_at, pairing_behind, points_at}
 use Rattle.closed_surfaces.specs.Made.{joined_outside}
 use Rattle.scan_laws.specs.Scans.{circles_at}
 use Rattle.scan_laws.specs.Edges.{classes_at}
-use Rattle.scan_laws.proofs.SplitLabels.{part}
+use Rattle.cell_complexes.proofs.SplitLabels.{part}
 use Rattle.scan_laws.proofs.States.{joint}
 
 -- the circles of a pairing m, where the next crossing has the smoothing e and the others behind the state u

@@ -23,14 +23,13 @@ use Rattle.cell_complexes.specs.Alike.{AreListed, AreMatched, HasNoDoubles}
 use Rattle.cell_complexes.proofs.ExchangedCubes.{range-contains}
 use Rattle.cell_complexes.proofs.Matched.{AreListed-matched}
 use Rattle.cell_complexes.proofs.Members.{Contains-cases, Contains-first, Contains-kept, Contains-later}
-use Rattle.cell_complexes.proofs.NoDoubles.{once-first, once-range}
+use Rattle.cell_complexes.proofs.NoDoubles.{once-first, once-range, once-filter}
 use Rattle.scan_laws.specs.Scans.{IsScanOf, Scan, dot_sets}
 use Rattle.scan_laws.specs.Adding.{IsAdding, Origin, new_coefficient, object_from, origin_of, origins}
 use Rattle.scan_laws.specs.Eliminating.{IsEliminating, IsNumber, way_coefficient}
-use Rattle.scan_laws.proofs.AddedCircles.{once-filter}
-use Rattle.scan_laws.proofs.CellLists.{contains-range}
+use Rattle.cell_complexes.proofs.CellLists.{contains-range}
 use Rattle.scan_laws.proofs.Origins.{is_same, origins-once, origins-test}
-use Rattle.scan_laws.proofs.Places.{place-at, place-found}
+use Rattle.cell_complexes.proofs.Places.{place-at, place-found}
 
 -- a map with given coefficients
 abbrev term_with : (ℕ → ℕ) → ℕ → Term

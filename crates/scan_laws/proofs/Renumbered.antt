@@ -15,7 +15,7 @@ use Rattle.cell_complexes.proofs.NoDoubles.{map-flat_map, map-map}
 use Rattle.scan_laws.specs.Scans.{Object, Scan, circle_count_at, circles_at, count_behind}
 use Rattle.scan_laws.specs.Edges.{outer_coefficient}
 use Rattle.scan_laws.specs.Complexes.{complex_of, degree_of_labels, inner_at, layers_of}
-use Rattle.scan_laws.proofs.CellLists.{cell-from}
+use Rattle.cell_complexes.proofs.CellLists.{cell-from}
 use Rattle.scan_laws.proofs.Coefficients.{between-states, inside-state, nowhere}
 
 -- the layers of a scan, with some of its objects and with other coefficients within a state

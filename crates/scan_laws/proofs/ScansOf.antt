@@ -16,9 +16,9 @@ use Rattle.scan_laws.specs.Adding.{IsAdding}
 use Rattle.scan_laws.specs.Eliminating.{IsEliminating}
 use Rattle.scan_laws.specs.Steps.{IsRenumbering}
 use Rattle.scan_laws.proofs.Eliminating.{still-there}
-use Rattle.scan_laws.proofs.Labels.{bit-number, bit-small}
+use Rattle.cell_complexes.proofs.Labels.{bit-number, bit-small}
 use Rattle.scan_laws.proofs.Origins.{origin-from}
-use Rattle.scan_laws.proofs.SameElements.{same-sums}
+use Rattle.cell_complexes.proofs.SameElements.{same-sums}
 
 -- pairings depend on the states' bits at the crossings that are done
 pairing_of-same : (code : Code) (s t k : ℕ) → ((i : ℕ) → i < k → bit s i ≡ bit t i) → pairing_of code s k ≡ pairing_of code t k

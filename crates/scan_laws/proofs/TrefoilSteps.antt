@@ -11,7 +11,8 @@ use Rattle.scan_laws.specs.Steps.{AreSteps, IsEndOfScan, last_of}
 use Rattle.scan_laws.specs.Counts.{counted_table}
 use Rattle.scan_laws.specs.Worked.{left_after_1, left_after_2, left_after_3, left_after_4, left_after_5, left_after_6, one_done, three_done, trefoil_scans, two_done, two_left}
 use Rattle.scan_laws.proofs.Checked.{AllPass, Move, adding, eliminating, last-checked, steps-checked}
-use Rattle.scan_laws.proofs.Whole.{in-own-order, table-same, whole-theorem}
+use Rattle.scan_laws.proofs.Whole.{table-same, whole-theorem}
+use Rattle.cell_complexes.proofs.Reordered.{own-order}
 
 abbrev trefoil_moves : List (Move × Scan)
 trefoil_moves =
@@ -64,7 +65,7 @@ trefoil-steps = steps-checked 2 trefoil first_scan trefoil_moves (once-range 0 1
 pub trefoil-end : IsEndOfScan 2 trefoil trefoil.crossings (last_of first_scan trefoil_scans)
 trefoil-end =
     record {
-      order = in-own-order trefoil.crossings;
+      order = own-order trefoil.crossings;
       reached = record { later = trefoil_scans; steps = trefoil-steps; last = refl };
       last = last-checked 2 trefoil left_after_6 refl refl;
     }

@@ -23,7 +23,7 @@ use Rattle.scan_laws.specs.Scans.{count_behind, crossings_behind}
 use Rattle.scan_laws.specs.Edges.{classes_at, touched_by}
 use Rattle.scan_laws.proofs.AddedCircles.{HasNext, class-respects, is-cut, old-joins, respects-mapped}
 use Rattle.scan_laws.proofs.Parts.{circle_with}
-use Rattle.scan_laws.proofs.CellLists.{contains-range}
+use Rattle.cell_complexes.proofs.CellLists.{contains-range}
 use Rattle.scan_laws.proofs.States.{behind-more, bit-joint, joint}
 
 -- an edge of the states behind the next crossing

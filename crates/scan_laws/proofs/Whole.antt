@@ -8,7 +8,7 @@ use Rattle.kh_types.specs.Directions.{minus_count, plus_count}
 use Rattle.kh_types.specs.Residues.{HasInverses}
 use Rattle.kh_types.specs.Table.{Row, dimension, from_minus, is_shown, rows_at, table}
 use Rattle.kh_types.specs.declared.limits.TheConstants.{EXPONENT}
-use Rattle.cell_complexes.specs.Cubes.{IsReordered, cube_of, listed_by}
+use Rattle.cell_complexes.specs.Cubes.{cube_of, listed_by}
 use Rattle.cell_complexes.proofs.NoDoubles.{once-range}
 use Rattle.cell_complexes.proofs.AnyOrder.{accepted-reordered}
 use Rattle.cell_complexes.proofs.Orders.{AreComplex-cube, complex-reordered, dimension-reordered}
@@ -48,11 +48,6 @@ table-same p code scan same =
     (flat_map-alike (counted_rows_at code scan) (rows_at p code) (from_minus EXPONENT)
     (λ j. ap (λ (h : ℤ → Row). filter is_shown (map h (from_minus (length code.crossings))))
     (fun_ext (λ i. ap (λ (n : ℕ). record { j = j; i = i; dim = n }) (same i j)))))
-
--- a list in its own order
-pub in-own-order : {A : Type 0} (xs : List A) → IsReordered xs xs
-in-own-order [] = refl
-in-own-order (x ∷ xs) = ([], xs, refl, in-own-order xs)
 
 -- what is reached
 pub reached-first : (p : ℕ) (code : Code) → IsReached p code first_scan

@@ -11,9 +11,8 @@ use Rattle.std.proofs.lemmas.List.Elements.{All-cons, All-contains, All-get_or, 
 use Rattle.kh_types.proofs.Lists.{Contains-filter}
 use Rattle.cell_complexes.specs.Alike.{HasNoDoubles}
 use Rattle.cell_complexes.proofs.Members.{Contains-first, Contains-kept, Contains-later}
-use Rattle.cell_complexes.proofs.NoDoubles.{once-range}
-use Rattle.scan_laws.proofs.AddedCircles.{once-filter}
-use Rattle.scan_laws.proofs.CellLists.{contains-range}
+use Rattle.cell_complexes.proofs.NoDoubles.{once-range, once-filter}
+use Rattle.cell_complexes.proofs.CellLists.{contains-range}
 use Rattle.scan_laws.proofs.Possible.{others}
 use Rattle.tangle_scan.specs.declared.column.Entry.{Entry}
 use Rattle.tangle_scan.specs.declared.object.Object.{Object}

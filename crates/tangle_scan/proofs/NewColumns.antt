@@ -26,7 +26,7 @@ use Rattle.cell_complexes.proofs.Members.{Contains-cases, Contains-first, Contai
 use Rattle.tangle_maps.specs.Sums.{HaveDotsBelow}
 use Rattle.scan_laws.specs.Scans.{Scan, pairs_of}
 use Rattle.scan_laws.specs.Adding.{Origin, added_coefficient, new_coefficient, origin_of, origins_with, saddle_coefficient}
-use Rattle.scan_laws.proofs.CellLists.{contains-range}
+use Rattle.cell_complexes.proofs.CellLists.{contains-range}
 use Rattle.scan_laws.proofs.Origins.{IsOrigin}
 use Rattle.tangle_scan.specs.declared.adding.Adding.{Adding}
 use Rattle.tangle_scan.specs.declared.column.Entry.{Entry}

@@ -1,5 +1,5 @@
 -- Crossings taken one by one out of a list are the list in another order.
-use Rattle.std.proofs.Common.{◌≡◌, ℕ, suc, ◌<◌, ◌∙◌, List, [], ◌∷◌, ◌++◌, length, get_or, take, drop, drop-cons, append_assoc, length-append, refl, sym, subst, ap, arith}
+use Rattle.std.proofs.Common.{◌≡◌, ℕ, suc, ◌<◌, ◌∙◌, List, [], ◌∷◌, ◌++◌, length, get_or, take, drop, drop-cons, append_assoc, refl, sym, subst, ap, arith}
 use Rattle.std.specs.List.{remove}
 use Rattle.std.proofs.lemmas.List.{take-append-drop}
 use Rattle.cell_complexes.specs.Cubes.{IsReordered}
@@ -35,15 +35,3 @@ taken-more {A} xs taken left at x is below here =
     }
 
 pub ruleset steps = (taken-none, taken-more, taken-all)
-
--- a list in another order is as long
-pub reordered-length : {A : Type 0} (xs ys : List A) → IsReordered xs ys → length xs ≡ length ys
-reordered-length xs [] none = ap length none
-reordered-length xs (y ∷ ys) (before, after, is, order) =
-    omega (
-      arith,
-      ap length is,
-      length-append before (y ∷ after),
-      length-append before after,
-      reordered-length (before ++ after) ys order,
-    )

@@ -11,7 +11,7 @@ use Rattle.std.proofs.lemmas.List.Sums.{sum_by-cons}
 use Rattle.cell_complexes.specs.Alike.{HasNoDoubles}
 use Rattle.cell_complexes.proofs.Members.{Contains-cases, Contains-first, Contains-later}
 use Rattle.cell_complexes.proofs.NoDoubles.{first-new, once-first, once-later}
-use Rattle.scan_laws.proofs.Places.{IsTest}
+use Rattle.cell_complexes.proofs.Places.{IsTest}
 
 pub zip-append : {A B : Type 0} (R : A → B → Type 0) (xs more : List A) (ys others : List B) → AllZip R xs ys → AllZip R more others
     → AllZip R (xs ++ more) (ys ++ others)

@@ -1,7 +1,8 @@
 use Rattle.prime_field.specs.SmallFields.{field-small_prime}
 use Rattle.plain_matrix.proofs.FieldInverses.{inverses-field}
 use Rattle.scan_laws.proofs.Ending.{scan-ends}
-use Rattle.scan_laws.proofs.Whole.{in-own-order, reached-first, reached-lists, reached-stands, reached-step, table-same, whole-theorem}
+use Rattle.scan_laws.proofs.Whole.{reached-first, reached-lists, reached-stands, reached-step, table-same, whole-theorem}
+use Rattle.cell_complexes.proofs.Reordered.{own-order}
 use Rattle.scan_laws.proofs.laws.reached_scans.Goals as goal
 
 pub returns : goal.returns
@@ -13,11 +14,11 @@ returns c =
       of = λ p code scan field is reached. (reached-stands p code 0 0 scan field is reached).of;
       dimensions = λ p code scan field is reached last.
           whole-theorem p code code.crossings scan field is
-          (record { order = in-own-order code.crossings; reached = reached; last = last });
+          (record { order = own-order code.crossings; reached = reached; last = last });
       table = λ p code scan field is reached last.
           table-same p code scan
           (whole-theorem p code code.crossings scan field is
-          (record { order = in-own-order code.crossings; reached = reached; last = last }));
+          (record { order = own-order code.crossings; reached = reached; last = last }));
       fields = λ p prime. inverses-field p (field-small_prime p prime);
       ends = λ p code scan field is reached.
           let stands = reached-stands p code 0 0 scan field is reached in

@@ -1,8 +1,8 @@
 -- Labels as numbers, whose bits stand at the places of names in their list; and the label that a label is for the same names in another
 -- list.
-use Rattle.std.proofs.Common.{◌≡◌, ℕ, suc, ◌+◌, ◌*◌, ◌/◌, ◌^◌, ◌<◌, ◌≤◌, ◌∙◌, List, [], ◌∷◌, ◌++◌, length, get_or, map, sym, subst, ap, arith}
+use Rattle.std.proofs.Common.{◌≡◌, ℕ, suc, ◌+◌, ◌*◌, ◌/◌, ◌^◌, ◌<◌, ◌≤◌, ◌∙◌, List, [], ◌∷◌, ◌++◌, length, get_or, map, sym, subst, ap, arith, refl, Bool, ◌&&◌}
 use Rattle.std.specs.Prelude.{nat_eq}
-use Rattle.std.specs.List.{position_or_len, sum_by}
+use Rattle.std.specs.List.{position_or_len, sum_by, list_all}
 use Rattle.std.proofs.lemmas.List.{get_or_default, get_or-map, length-map}
 use Rattle.std.proofs.lemmas.Nat.{mod_below}
 use Rattle.std.proofs.lemmas.Nat.Bits.{same_from_bits_below}
@@ -10,8 +10,9 @@ use Rattle.kh_types.specs.Bits.{bit, ones}
 use Rattle.kh_types.proofs.ListSums.{sum_by-places, sum_by-range_alike}
 use Rattle.cube_squares.proofs.LabelNumbers.{bit-number_from, number_from, number_from-below}
 use Rattle.cell_complexes.specs.Alike.{HasNoDoubles}
-use Rattle.scan_laws.proofs.Places.{numbers-test, place-at, place-found}
-use Rattle.scan_laws.proofs.SameElements.{AreSame}
+use Rattle.cell_complexes.proofs.Places.{numbers-test, place-at, place-found}
+use Rattle.cell_complexes.proofs.SameElements.{AreSame}
+use Rattle.std.proofs.lemmas.Bool.Decides.{nat_tests}
 
 abbrev pub place : ℕ → List ℕ → ℕ
 place z xs = position_or_len (nat_eq z) xs
@@ -78,3 +79,14 @@ number-append (a ∷ cs) bs =
   where
     spread : (a m q n : ℕ) → a + 2 * (m + q * n) ≡ a + 2 * m + 2 * q * n
     spread a m q n = omega arith
+
+-- numbers of bits are the same where their bits are
+pub bits-same : (f g : ℕ → ℕ) (xs : List ℕ) → ((x : ℕ) → f x ≤ 1) → ((x : ℕ) → g x ≤ 1)
+    → nat_eq (number_from (map f xs)) (number_from (map g xs)) ≡ list_all (λ x. nat_eq (f x) (g x)) xs
+bits-same f g [] f_small g_small = refl
+bits-same f g (x ∷ xs) f_small g_small =
+    one (f x) (g x) (number_from (map f xs)) (number_from (map g xs)) (f_small x) (g_small x)
+    ∙ ap (λ b. nat_eq (f x) (g x) && b) (bits-same f g xs f_small g_small)
+  where
+    one : (a b m n : ℕ) → a ≤ 1 → b ≤ 1 → nat_eq (a + 2 * m) (b + 2 * n) ≡ (nat_eq a b && nat_eq m n)
+    one a b m n a_small b_small = grind (arith, nat_tests, a_small, b_small)

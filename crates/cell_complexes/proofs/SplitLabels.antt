@@ -10,8 +10,8 @@ use Rattle.kh_types.proofs.ListSums.{sum_by-map}
 use Rattle.cube_squares.proofs.LabelNumbers.{number_from}
 use Rattle.cell_complexes.specs.Alike.{HasNoDoubles}
 use Rattle.cell_complexes.proofs.NoDoubles.{map-map}
-use Rattle.scan_laws.proofs.Labels.{bit-small, mark, number-append, number-below, ones-map, ones-marks, place, relabelled, relabelled-back}
-use Rattle.scan_laws.proofs.SameElements.{AreSame, same-sums, same-turned}
+use Rattle.cell_complexes.proofs.Labels.{bit-small, mark, number-append, number-below, ones-map, ones-marks, place, relabelled, relabelled-back}
+use Rattle.cell_complexes.proofs.SameElements.{AreSame, same-sums, same-turned}
 
 -- a number by its remainder and its quotient
 parts-same : (q a b c d : ℕ) → a < q → c < q → a + q * b ≡ c + q * d → (a ≡ c) × (b ≡ d)

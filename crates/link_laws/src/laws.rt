@@ -1,0 +1,45 @@
+//! Diagrams of one link, and what they have in common.
+
+ghost use Rattle.std.specs.Prelude.{◌≡◌, ℕ, ℤ, IsTrue, Ok};
+ghost use Rattle.kh_types.specs.Acceptance.{accepted};
+ghost use Rattle.kh_types.specs.Code.{Code};
+ghost use Rattle.kh_types.specs.Residues.{HasInverses};
+ghost use Rattle.kh_types.specs.StateSum.{state_sum};
+ghost use Rattle.kh_types.specs.Table.{dimension, table};
+ghost use Rattle.prime_field.specs.Residues.{IsSmallPrime};
+ghost use Rattle.diagram_moves.specs.Moved.{moved};
+ghost use Rattle.diagram_moves.specs.declared.change.Move.{Move};
+ghost use Rattle.link_laws.specs.Links.{AreOneLink};
+
+/// That two codes are diagrams of one link is an equivalence of accepted codes.
+pub fn one_link_is_an_equivalence()
+    ensures own { (code : Code) → IsTrue (accepted code) → AreOneLink code code }
+    ensures back { (first last : Code) → AreOneLink first last → AreOneLink last first }
+    ensures onward { (first middle last : Code) → AreOneLink first middle → AreOneLink middle last
+        → AreOneLink first last }
+    ensures accepted { (first last : Code) → AreOneLink first last → IsTrue (accepted last) }
+{}
+
+/// Each move of the program keeps the link, also where it adds a kink or a finger: for these are
+/// dropped again.
+pub fn moves_keep_the_link()
+    ensures { (code new : Code) (change : Move) → IsTrue (accepted code)
+        → moved code change ≡ Ok new → AreOneLink code new }
+{}
+
+/// All diagrams of a link have one homology over each field of p elements, so over the four fields
+/// of the program (Khovanov 2000, theorem 1).
+pub fn links_have_one_table()
+    ensures dimensions { (p : ℕ) (first last : Code) → HasInverses p → AreOneLink first last
+        → (i j : ℤ) → dimension p last i j ≡ dimension p first i j }
+    ensures table { (p : ℕ) (first last : Code) → HasInverses p → AreOneLink first last
+        → table p last ≡ table p first }
+    ensures fields { (p : ℕ) (first last : Code) → IsSmallPrime p → AreOneLink first last
+        → table p last ≡ table p first }
+{}
+
+/// They have one state sum, the unnormalised Jones polynomial (Jones 1985; Kauffman 1987).
+pub fn links_have_one_polynomial()
+    ensures { (first last : Code) (exponent : ℤ) → AreOneLink first last
+        → state_sum last exponent ≡ state_sum first exponent }
+{}

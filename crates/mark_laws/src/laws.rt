@@ -1,0 +1,4 @@
+//! Turned labels, and marks.
+
+pub mod marks;
+pub mod turns;

@@ -1,0 +1,99 @@
+-- A kink or a finger that is added keeps the dimensions: where it is dropped again a code is left that has the arcs of the old one.
+use Rattle.std.proofs.Common.{◌≡◌, ◌≢◌, ℕ, ◌+◌, ◌-◌, ◌<◌, ◌∙◌, ℤ, length, refl, sym, ap₂, arith, Bool, true, false, IsTrue}
+use Rattle.std.specs.Prelude.{nat_eq}
+use Rattle.kh_types.specs.Acceptance.{accepted}
+use Rattle.kh_types.specs.Code.{Code, IsArc}
+use Rattle.kh_types.specs.Directions.{plus_count}
+use Rattle.kh_types.specs.Residues.{HasInverses}
+use Rattle.kh_types.specs.Table.{dimension}
+use Rattle.gluing.specs.Codes.{IsRenumbered}
+use Rattle.orient_arcs.specs.Renumbered.{renumber}
+use Rattle.kinks_and_fingers.specs.DropCircles.{through_at}
+use Rattle.kinks_and_fingers.specs.Dropping.{HasBigonAt, HasKinkAt}
+use Rattle.kinks_and_fingers.specs.Drops.{is_of_two, without_finger, without_kink}
+use Rattle.kinks_and_fingers.specs.FingerAdd.{fingered, head_number, opened}
+use Rattle.kinks_and_fingers.specs.KinkAdds.{raised, with_kink}
+use Rattle.kinks_and_fingers.specs.KinkCodes.{one_where}
+use Rattle.kinks_and_fingers.proofs.AddedSums.{AreAddedGone-finger, AreAddedGone-kink, HasBigonAt-fingered, HasKinkAt-kinked, first_slot, second_slot}
+use Rattle.kinks_and_fingers.proofs.FingeredCodes.{AreFingerable-accepted, IsAdded-finger, finger_sign, plus_count-fingered}
+use Rattle.kinks_and_fingers.proofs.KinkFaces.{accepted-kinked}
+use Rattle.kinks_and_fingers.proofs.KinkSlots.{inner_slot, last}
+use Rattle.kinks_and_fingers.proofs.KinkedCodes.{IsAdded-kink, IsKinkable-accepted, plus_count-kinked}
+use Rattle.kinks_and_fingers.proofs.MovableArcs.{AreFingerable}
+use Rattle.kinks_and_fingers.proofs.Opened.{low, lowered}
+use Rattle.kinks_and_fingers.proofs.Sound.{IsSound-finger, IsSound-kink}
+use Rattle.view_laws.proofs.Renumbered.{dimension-renumbered_code}
+use Rattle.drop_laws.specs.DropSigns.{AreBigonSigns, AreKinkSigns}
+use Rattle.drop_laws.proofs.BigonCuts.{IsBigonCut-dropped}
+use Rattle.drop_laws.proofs.KinkCuts.{IsKinkCut-dropped}
+use Rattle.drop_laws.proofs.Signs.{AreBigonSigns-dropped, AreKinkSigns-dropped}
+use Rattle.move_laws.proofs.DroppedBigons.{dimension-dropped_bigon}
+use Rattle.move_laws.proofs.DroppedKinks.{dimension-dropped_kink}
+use Rattle.move_laws.proofs.Restored.{restored}
+
+-- the smoothing that goes through an added kink tells its sign
+through-sign : (over positive : Bool) → through_at (inner_slot over positive) ≡ one_where positive
+through-sign true true = refl
+through-sign true false = refl
+through-sign false true = refl
+through-sign false false = refl
+
+slot-below : (positive ordered : Bool) → (first_slot positive ordered < 4) × (second_slot positive ordered < 4)
+slot-below true true = (omega arith, omega arith)
+slot-below true false = (omega arith, omega arith)
+slot-below false true = (omega arith, omega arith)
+slot-below false false = (omega arith, omega arith)
+
+-- a code that has the arcs of another, and as many positive crossings
+same-dimension : (p : ℕ) (code back : Code) → HasInverses p → IsTrue (accepted code) → IsTrue (accepted back)
+    → IsRenumbered (λ x. x) code back → plus_count back.crossings ≡ plus_count code.crossings → (i j : ℤ)
+    → dimension p back i j ≡ dimension p code i j
+same-dimension p code back field holds back_holds same plus i j =
+    dimension-renumbered_code p (λ x. x) code back field holds back_holds same plus
+    (ap₂ (λ (m n : ℕ). m - n) same.size plus) i j
+
+pub dimension-kinked : (p : ℕ) (code : Code) (a : ℕ) (over positive : Bool) → HasInverses p → IsTrue (accepted code)
+    → IsArc code.crossings a
+    → (i j : ℤ) → dimension p (with_kink over positive a code) i j ≡ dimension p code i j
+dimension-kinked p code a over positive field holds arc i j =
+    let new = with_kink over positive a code in
+    let n = length code.crossings in
+    let slot = inner_slot over positive in
+    let at : HasKinkAt (with_kink over positive a code).crossings (length code.crossings) (inner_slot over positive) =
+    HasKinkAt-kinked code.crossings a over positive in
+    let holds_new = accepted-kinked code a over positive holds arc in
+    let can = IsKinkable-accepted code a holds arc in
+    let back = renumber (without_kink new n) in
+    let signs : AreKinkSigns new back slot = AreKinkSigns-dropped new n slot holds_new at in
+    let same : IsRenumbered (λ x. x) code back =
+    restored code new (raised a) (last a) (lowered a) (λ k. positive) (nat_eq n) (IsAdded-kink code.crossings a over positive can)
+    (AreAddedGone-kink code.crossings a over positive) refl (IsSound-kink new n slot holds_new at).paired in
+    let plus : plus_count back.crossings ≡ plus_count code.crossings =
+    omega (arith, signs.plus, plus_count-kinked code.crossings a over positive can, through-sign over positive) in
+    sym (dimension-dropped_kink p new back n slot field holds_new (IsKinkCut-dropped new n slot holds_new at) signs i j)
+    ∙ same-dimension p code back field holds signs.accepted_too same plus i j
+
+pub dimension-fingered : (p : ℕ) (code : Code) (a b : ℕ) (positive ordered : Bool) → HasInverses p → IsTrue (accepted code)
+    → IsArc code.crossings a → IsArc code.crossings b → a ≢ b → IsTrue (accepted (fingered code a b positive ordered))
+    → (i j : ℤ) → dimension p (fingered code a b positive ordered) i j ≡ dimension p code i j
+dimension-fingered p code a b positive ordered field holds over_arc under_arc apart holds_new i j =
+    let new = fingered code a b positive ordered in
+    let n = length code.crossings in
+    let c = first_slot positive ordered in
+    let d = second_slot positive ordered in
+    let can : AreFingerable code.crossings a b = AreFingerable-accepted code a b holds over_arc under_arc apart in
+    let at : HasBigonAt (fingered code a b positive ordered).crossings (length code.crossings) (length code.crossings + 1)
+    (first_slot positive ordered) (second_slot positive ordered) =
+    HasBigonAt-fingered code.crossings a b positive ordered can in
+    let back = renumber (without_finger new n (n + 1)) in
+    let signs : AreBigonSigns new back = AreBigonSigns-dropped new n (n + 1) c d holds_new at in
+    let same : IsRenumbered (λ x. x) code back =
+    restored code new (opened a b) (head_number a b) (low a b) (finger_sign code.crossings positive) (is_of_two n (n + 1))
+    (IsAdded-finger code.crossings a b positive ordered can) (AreAddedGone-finger code.crossings a b positive ordered) refl
+    (IsSound-finger new n (n + 1) c d holds_new at).paired in
+    let plus : plus_count back.crossings ≡ plus_count code.crossings =
+    omega (arith, signs.plus, plus_count-fingered code.crossings a b positive ordered can) in
+    let below = slot-below positive ordered in
+    sym (dimension-dropped_bigon p new back n (n + 1) c d field holds_new
+    (IsBigonCut-dropped new n (n + 1) c d holds_new at below.0 below.1) signs i j)
+    ∙ same-dimension p code back field holds signs.accepted_too same plus i j

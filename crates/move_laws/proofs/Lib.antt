@@ -1,0 +1,11 @@
+pub mod Steps
+pub mod CutViews
+pub mod Measured
+pub mod OneObject
+pub mod DroppedKinks
+pub mod DroppedBigons
+pub mod SlidMoves
+pub mod Restored
+pub mod Added
+pub mod AllMoves
+pub mod Tables

@@ -1,0 +1,54 @@
+-- Steps of inner states, as tests and as facts.
+use Rattle.std.proofs.Common.{◌≡◌, ℕ, inl, inr, ◌+◌, ◌^◌, ◌<◌, ◌∙◌, sym, ap, arith, Bool, true, false}
+use Rattle.std.specs.Prelude.{nat_eq, if◌then◌else◌}
+use Rattle.std.proofs.lemmas.Bool.{and_from, and_parts, cases_Bool, eq-eqb, eqb-true}
+use Rattle.kh_types.specs.Bits.{bit, ones}
+use Rattle.kh_types.proofs.ListSums.{sum_by-single}
+use Rattle.kh_types.proofs.RangeCounts.{list_any-at}
+use Rattle.kh_types.proofs.Ranges.{list_any-found}
+use Rattle.layer_laws.specs.Cuts.{is_change, is_step, ones_before}
+use Rattle.view_laws.specs.Views.{IsInnerStep, View}
+use Rattle.view_laws.proofs.Steps.{IsOuterStep, one-place}
+
+pub at-odds : {A : Type 0} (b : Bool) → b ≡ true → b ≡ false → A
+at-odds b passes fails = let e : true ≡ false = sym passes ∙ fails in cc
+
+pub step-of-change : (t u i : ℕ) → is_change t u i ≡ true → IsOuterStep t u i
+step-of-change t u i is =
+    let parts = and_parts (nat_eq (bit t i) 0) (nat_eq u (t + 2 ^ i)) is in
+    record { zero_there = eqb-true (bit t i) 0 parts.0; behind = eqb-true u (t + 2 ^ i) parts.1 }
+
+pub change-of-step : (t u i : ℕ) → IsOuterStep t u i → is_change t u i ≡ true
+change-of-step t u i step =
+    and_from (nat_eq (bit t i) 0) (nat_eq u (t + 2 ^ i)) (eq-eqb (bit t i) 0 step.zero_there) (eq-eqb u (t + 2 ^ i) step.behind)
+
+-- an edge of inner states has a place, whose lower bits are counted
+pub record IsStepFound (view : View) (t u : ℕ) : Type 0 where
+  pub place : ℕ
+  pub step : IsInnerStep view t u place
+  pub before : ones_before view.inner t u ≡ ones place t
+
+pub step-found : (view : View) (t u : ℕ) → t < 2 ^ view.inner → is_step view.inner t u ≡ true → IsStepFound view t u
+step-found view t u within is =
+    let found = list_any-found (is_change t u) view.inner is in
+    let i = found.0 in
+    let step = step-of-change t u i found.2 in
+    let term = λ (place : ℕ). let n : ℕ = if is_change t u place then ones place t else 0 in n in
+    record {
+      place = i;
+      step = record { place = found.1; inside = within; zero_there = step.zero_there; behind = step.behind };
+      before =
+          sum_by-single term 0 view.inner i (omega arith) (omega (arith, found.1))
+          (λ other from below differ. elim (cases_Bool (is_change t u other)) [
+            | inl too ↦ absurd (differ (one-place t u other i (step-of-change t u other too) step))
+            | inr none ↦ ap (λ (b : Bool). let n : ℕ = if b then ones other t else 0 in n) none
+          ])
+          ∙ ap (λ (b : Bool). let n : ℕ = if b then ones i t else 0 in n) found.2;
+    }
+
+pub no-step : (view : View) (t u : ℕ) → is_step view.inner t u ≡ false → (i : ℕ) → IsInnerStep view t u i → ⊥
+no-step view t u none i step =
+    at-odds (is_step view.inner t u)
+    (list_any-at (is_change t u) 0 view.inner i (omega arith) (omega (arith, step.place))
+    (change-of-step t u i (record { zero_there = step.zero_there; behind = step.behind })))
+    none

@@ -1,0 +1,4 @@
+//! Products of complexes, whose cells are pairs, and their dimensions. It has laws, and no code.
+#![tactic(auto)]
+
+pub mod laws;

@@ -1,0 +1,5 @@
+pub mod BlockRanks
+pub mod SplitRanks
+pub mod RanksFit
+pub mod SplitCells
+pub mod Halves

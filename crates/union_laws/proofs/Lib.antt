@@ -1,0 +1,12 @@
+pub mod ListTests
+pub mod MixedLabels
+pub mod UnitedNames
+pub mod UnitedLabels
+pub mod UnitedTouches
+pub mod UnitedEdges
+pub mod CubeFactors
+pub mod UnitedCoefficients
+pub mod UnitedCubes
+pub mod Unions
+pub mod UnitedTables
+pub mod Loops

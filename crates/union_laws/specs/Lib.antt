@@ -1,0 +1,3 @@
+pub mod Cubes
+pub mod Loops
+pub mod UnitedRows

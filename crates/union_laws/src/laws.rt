@@ -1,0 +1,4 @@
+//! Disjoint unions.
+
+pub mod unions;
+pub mod worked;

@@ -1,0 +1,190 @@
+"""Tries lists that are worked out in parts, by GNU parallel and by Slurm, and the other scripts of `tabulate/` (see `tabulation.py`).
+
+GNU parallel and Slurm are tried where they are installed (`shared/slurm.py`).
+"""
+import os
+import re
+import shutil
+import subprocess
+import tempfile
+
+import plain.cube
+import plain.diagrams
+from bench.braids import closure
+from companions.pages import folder_of
+from shared import slurm
+from shared.places import TOP
+from shared.running import PATIENCE
+from shared.tabulating import COUNT, ON_MANY, SCAN, TABULATE, result_fault
+
+
+def helps(folder):
+    """Each script says what it does, and what its options are."""
+    for name in ("kh-tabulate", "measure", "braids", "on-many"):
+        came = folder.start(os.path.join(os.path.dirname(TABULATE), name), "--help")
+        wrote, errors = came.communicate(timeout=PATIENCE)
+        if came.returncode or errors or name not in wrote:
+            return f"{name}: status {came.returncode}, {wrote}, {errors}"
+    return None
+
+
+def braids(folder):
+    """`tabulate/braids` writes each word once, and a diagram of its closure: one with the same Jones polynomial."""
+    came = folder.start(os.path.join(os.path.dirname(TABULATE), "braids"), "5", "4")
+    wrote, errors = came.communicate(timeout=PATIENCE)
+    lines = [line.split("\t") for line in wrote.splitlines()]
+    are_fine = len({name for name, _ in lines}) == len(lines) and lines[0] == ["3: -2 1", "PD[X[2, 3, 3, 4], X[4, 2, 1, 1]]"]
+    if came.returncode or errors or not are_fine:
+        return f"status {came.returncode}, {len(lines)} lines, {lines[:2]}, {errors}"
+    for name, text in lines:
+        strands, word = name.split(": ")
+        crossings, loops = closure(int(strands), [*map(int, word.split())])
+        code = plain.diagrams.Code(tuple(map(tuple, crossings)), loops)
+        sums = [plain.cube.jones_line(plain.diagrams.accepted(it)) for it in (code, plain.diagrams.read(text))]
+        if sums[0] != sums[1]:
+            return f"{name}: {sums}"
+    return None
+
+
+MEASURED = """\
+\\| Programs at once \\| [0-9]+ codes \\| Codes a second \\|
+\\|---\\|---\\|---\\|
+\\| 1 \\| [0-9.]+ s \\| [0-9]+ \\|
+\\| 2 \\| [0-9.]+ s \\| [0-9]+ \\|
+
+([0-9]+) of the \\1 codes were answered. A run that was killed when it had kept [0-9]+ results.*
+"""
+
+
+def measure(folder):
+    """`tabulate/measure` comes to its end on few codes, and writes what the page has."""
+    words = ("--scan", SCAN, "--jobs", "2", "--letters", "6", "4", "--orders", "1")
+    came = folder.start(os.path.join(os.path.dirname(TABULATE), "measure"), *words)
+    wrote, errors = came.communicate(timeout=PATIENCE)
+    right = came.returncode == 0 and re.match(MEASURED, wrote) and "over all four fields" in " ".join(wrote.split())
+    return None if right else f"status {came.returncode}, {wrote}, {errors}"
+
+
+def has_parallel(test):
+    """Whether GNU parallel is installed (another program has the same name); where it is not, it is told that a test is left out."""
+    came = None
+    if shutil.which("parallel"):
+        came = subprocess.run(["parallel", "--version"], stdin=subprocess.DEVNULL, capture_output=True, text=True, timeout=PATIENCE)
+    if came and came.stdout.startswith("GNU parallel"):
+        return True
+    print(f"tabulate: GNU parallel is not installed, so {test} is not tried")
+    return False
+
+
+def by_parallel(folder):
+    if not has_parallel("a list in parts"):
+        return None
+    parts = folder.at("of parts")
+    words = (ON_MANY, folder.at("list"), parts)
+    folder.start(*words).communicate(timeout=PATIENCE)
+    mended = folder.start(words[0], folder.write("mended", "one\tPD[Loop[1]]\n"), parts)
+    _, said = mended.communicate(timeout=PATIENCE)
+    os.rename(os.path.join(parts, "results.db"), folder.at("results.db"))
+    return result_fault(folder) or (None if mended.returncode == 65 and "another list" in said else said)
+
+
+def lost_by_parallel(folder):
+    """A link without an answer keeps no other out of the database; the status is not 0, and the same words try that link again."""
+    if not has_parallel("a list with a link that has no answer"):
+        return None
+    parts = folder.at("of parts")
+    folder.write("some", "one\tPD[Loop[1]]\ntwo\tlost\n")
+    for calls in (4, 2):
+        before, started = folder.calls(), folder.start(ON_MANY, folder.at("some"), parts)
+        _, said = started.communicate(timeout=PATIENCE)
+        if started.returncode != 1 or folder.calls() - before != calls or "results.db" not in os.listdir(parts):
+            return f"status {started.returncode}, {folder.calls() - before} calls, {os.listdir(parts)}, {said}"
+    os.rename(os.path.join(parts, "results.db"), folder.at("results.db"))
+    return None if [row[0] for row in folder.results()] == ["one", "one"] else str(folder.results())
+
+
+def none_by_parallel(folder):
+    """Where each link has a result and none was answered the status is 3; PROGRAM names the one that is asked."""
+    if not has_parallel("a list of which nothing is answered"):
+        return None
+    started = folder.start(ON_MANY, folder.write("some", "two\tbad\n"), folder.at("of parts"), PROGRAM="kh", SCAN=folder.at("none"))
+    _, said = started.communicate(timeout=PATIENCE)
+    return None if started.returncode == 3 and "nothing was answered" in said else f"status {started.returncode}, {said}"
+
+
+def page_by_parallel(folder):
+    """The command of `docs/TABULATION.md` for GNU parallel, as it stands there."""
+    if not has_parallel("the command of docs/TABULATION.md"):
+        return None
+    with open(os.path.join(TOP, "docs", "TABULATION.md"), encoding="utf-8") as file:
+        command = re.search(r"^(?:\w+=\w+ )*tabulate/on-many .*$", file.read(), re.M)[0]
+    with tempfile.TemporaryDirectory() as top:
+        folder_of(top, SCAN)
+        os.mkdir(os.path.join(top, "out"))
+        shutil.copy(folder.at("list"), os.path.join(top, "out", "mine.tsv"))
+        settings = dict(os.environ, TOLD=folder.told, SCAN=SCAN)
+        came = subprocess.run(["sh", "-c", command], cwd=top, env=settings, capture_output=True, text=True, timeout=PATIENCE)
+        shutil.copy(os.path.join(top, "out", "mine", "results.db"), folder.at("results.db"))
+        found = folder.select("select field, count(*) from results group by field")
+    right = came.returncode == 0 and found == [(field, COUNT + 2) for field in (2, 3, 5, 7)]
+    return None if right else f"status {came.returncode}, {found}, {came.stderr}"
+
+
+def array_commands():
+    """The commands at the head of `tabulate/array.slurm`: what cuts the list, what begins the tasks, what stores their results."""
+    with open(os.path.join(TOP, "tabulate", "array.slurm"), encoding="utf-8") as file:
+        return [line.split("        ")[0] for line in re.findall(r"^#   (.*)$", file.read(), re.M)]
+
+
+def requeued(queue, folder, top):
+    """What is wrong where the tasks of an array are held, requeued and begun again, as one whose node has failed is."""
+    cut, start, together = array_commands()
+    settings = {"TOLD": folder.told, "SCAN": SCAN, "FIELDS": "2,3", "HELD": str(COUNT)}
+    queue.run(cut.replace("1000", "10"), folder=top)
+    started = queue.run(start, folder=top, **settings)
+    number = re.findall(r"Submitted batch job (\d+)", started)
+    if not number or not queue.wait(lambda: len(folder.held()) >= 2):
+        return f"no two tasks are held: {started}{queue.run('squeue', '-h')}"
+    before = sum(len(lines) for lines in task_lines(top, "jsonl"))
+    folder.write("told.free", "")
+    for task in (0, 1, 2):
+        queue.run("scontrol", "requeue", f"{number[0]}_{task}")
+    if not queue.wait(lambda: starts_again(queue) or queue.is_empty()):
+        return f"tasks that do not end: {queue.run('squeue', '-h')}"
+    said = queue.run(together.replace("out/results.db", folder.at("results.db")), folder=top)
+    again = [line for lines in task_lines(top, "log") for line in lines if "REQUEUE" in line]
+    is_whole = "52 answered" in said or "50 answered, 2 refused, of 52" in said
+    return None if before and again and is_whole and not folder.living() else f"{before} lines, {again}, {folder.living()} living: {said}"
+
+
+def starts_again(queue):
+    """Has tasks begin that wait for two minutes since they were requeued, and tells that there still are some."""
+    for number in queue.run("squeue", "-h", "-r", "-t", "PENDING", "-o", "%A").split():
+        queue.run("scontrol", "update", f"jobid={number}", "StartTime=now")
+    return False
+
+
+def task_lines(top, ending):
+    """The lines of each file of the tasks with this ending."""
+    parts = os.path.join(top, "out", "parts")
+    for name in sorted(os.listdir(parts)):
+        if name.endswith(ending):
+            with open(os.path.join(parts, name), encoding="utf-8") as file:
+                yield file.read().splitlines()
+
+
+def by_slurm(folder):
+    """`tabulate/array.slurm` by the commands at its head, on a queue of one node, with all tasks requeued on the way."""
+    if not slurm.is_there():
+        print("tabulate: Slurm is not installed, so tabulate/array.slurm is not tried (KH_SLURM=install installs it)")
+        return None
+    with tempfile.TemporaryDirectory() as top, tempfile.TemporaryDirectory() as daemons, slurm.Queue(daemons) as queue:
+        folder_of(top, SCAN)
+        os.mkdir(os.path.join(top, "out"))
+        shutil.copy(folder.at("list"), os.path.join(top, "out", "list.tsv"))
+        fault = requeued(queue, folder, top)
+        others = sorted({*os.listdir(top)} - {*os.listdir(TOP)} - {"out", "kh"})
+        return fault or result_fault(folder) or (f"at the top: {others}" if others else None)
+
+
+TESTS = (helps, braids, measure, by_parallel, lost_by_parallel, none_by_parallel, page_by_parallel, by_slurm)
