@@ -12,11 +12,14 @@ come; and the memory and the writes of long lists. The frames are read by `plain
 import functools
 import os
 import random
+import resource
 import select
 import subprocess
 import sys
 
 import drawn.lists
+import faulty.limits as limits
+from faulty.cases import Case
 from plain import frames
 from rows.runs import answers
 from rows.scan import EACH, LISTS, NOT_MEANT, WORDS
@@ -29,6 +32,7 @@ from shared.scanning import has_row_of_scan, is_there, scan_of, words_behind
 FIELDS = "2357"
 DRAWN, SHARE = int(os.environ.get("KH_LISTS", "120")), 30
 MANY, FEW = 200_000, 100
+SPACES = range(2_000, 40_000, 500)
 
 
 def words(scan):
@@ -97,7 +101,8 @@ class Talk:
     """A run whose list is written piece by piece, while what it writes is read."""
 
     def __init__(self, scan, its_words):
-        self.process = subprocess.Popen([scan, *its_words], stdin=subprocess.PIPE, stdout=subprocess.PIPE, stderr=subprocess.PIPE, bufsize=0)
+        pipe = subprocess.PIPE
+        self.process = subprocess.Popen([scan, *its_words], stdin=pipe, stdout=pipe, stderr=pipe, bufsize=0)
 
     def wrote(self, size):
         """The next bytes that it writes, so many of them, or those that come before its end or in time."""
@@ -152,25 +157,25 @@ def turns(scan):
         talk.process.kill()
 
 
+def in_space(scan, given, size=None):
+    """What comes of a list in so many kilobytes of address space, or in all that there is."""
+    limit = limits.limited(resource.RLIMIT_AS, size * limits.KB) if size else lambda: None
+    return limits.run(scan, Case("a list", EACH, given), limit, environment={})
+
+
 def memory(scan):
-    """The memory of a run over a long list, or over long lines, is that over a short one."""
-    child = Child(scan)
-    long = {
-        "many lines": b"PD[]\n" * MANY,
-        "blank lines": b" \r\n" * MANY,
-        "long lines": (b"x" * 200_000 + b"\n") * FEW,
-        "a long line": b" " * 20_000_000,
-    }
-    least = child.run(EACH, b"PD[]\n" + b" " * 65_537).kilobytes
-    for name, given in long.items():
-        came = child.run(EACH, given)
-        asked = len(frames.lines(given))
-        found = frames.read(came.wrote)
-        right = came.status == 0 and found and len(found[0]) == asked and not found[1]
-        fault = None if right else f"status {came.status}, {came.wrote[-200:]!r}"
-        if not fault and came.kilobytes > least + SLACK:
-            fault = f"{came.kilobytes} KB, and {least} KB of one line"
-        yield f"kh-scan, memory of {name}", fault
+    """A long list, or one of long lines, is answered in the address space that one code and one long line need, and little more."""
+    one = b"PD[]\n" + b" " * 200_000 + b"\nPD[]\n"
+    least = next(size for size in SPACES if in_space(scan, one, size) == in_space(scan, one))
+    for name, given in (
+        ("many lines", b"PD[]\n" * MANY), ("blank lines", b" \r\n" * MANY), ("long lines", (b"x" * 200_000 + b"\n") * FEW),
+        ("a long line", b" " * 20_000_000),
+    ):  # fmt: skip
+        status, wrote, said = in_space(scan, given, least + SLACK)
+        found = frames.read(wrote) or ([], wrote)
+        right = (status, said, found[1]) == (0, b"", b"") and len(found[0]) == len(frames.lines(given))
+        right = right and len({(it.status, it.text) for it in found[0]}) <= 1
+        yield f"kh-scan, memory of {name}", None if right else f"in {least + SLACK} KB: status {status}, {wrote[-200:]!r}, {said[:200]!r}"
 
 
 GROUPS = (words, unread, lists, of_homology, turns, memory)

@@ -78,7 +78,8 @@ def memory_faults(shim, case, wanted, count):
             if not fault and mode == "once" and lacks + (came.status == NO_MEMORY) > 1:
                 fault = f"{lacks} frames without memory, status {came.status}"
             yield f"{case.name}, allocation {number} fails, {mode}", fault
-    yield f"{case.name}, some allocation is needed", None if NO_MEMORY in ends and lacking else f"ended with {ends}, {lacking} lacked memory"
+    needed = NO_MEMORY in ends and lacking
+    yield f"{case.name}, some allocation is needed", None if needed else f"ended with {ends}, {lacking} lacked memory"
 
 
 def read_faults(shim, case, wanted, whole):

@@ -108,7 +108,7 @@ LISTS = [
     ("65,537 bytes of a line", EACH, padded(TREFOIL, LONG) + "\nPD[Loop[1]]", [(1, "2", *LIMIT), (2, "2", 0, LOOP_TABLE)]),
     ("65,537 bytes and no line feed", EACH, padded(TREFOIL, LONG), [(1, "2", *LIMIT)]),
     ("a million bytes of a line", EACH, padded(TREFOIL, 1_000_000) + "\n\n" + TREFOIL, [(1, "2", *LIMIT), (3, "2", *DONE)]),
-    ("long lines one after another", EACH, ("x" * 70_000 + "\n") * 3 + TREFOIL, [*((it, "2", *LIMIT) for it in (1, 2, 3)), (4, "2", *DONE)]),
+    ("two long lines and a code", EACH, ("x" * 70_000 + "\n") * 2 + TREFOIL, [(1, "2", *LIMIT), (2, "2", *LIMIT), (3, "2", *DONE)]),
     ("65,536 blanks and a code", EACH, " " * FULL + "\n" + TREFOIL, [(2, "2", *DONE)]),
     ("a million blanks and a code", EACH, " " * 1_000_000 + "\r\n" + TREFOIL, [(2, "2", *DONE)]),
     ("65,536 blanks before a code", EACH, " " * FULL + TREFOIL + "\nPD[]", [(1, "2", *LIMIT), (2, "2", *EMPTY)]),
