@@ -2,6 +2,7 @@
 from html import escape
 
 from asking import FIELDS
+from page_figure import Figure
 from page_html import page_of, plain_grid, section, whole
 from page_moves import KINDS
 from page_texts import counted
@@ -145,4 +146,5 @@ def start_page(base, head, text="", fault=""):
 def saved_page(session, number):
     """The page of a step as a file."""
     step = session.steps[number]
-    return page_of(session.sheet(step.code, step.name or "A diagram"), figure=session.figure(number))
+    sheet = session.sheet(step.code, step.name or "A diagram")
+    return page_of(sheet, figure=Figure(sheet, drawn=session.figure(number).drawn))

@@ -14,6 +14,7 @@ import tempfile
 import plain.cube
 import plain.diagrams
 import plain.moves
+from companions import page_moves as page_moves_drawn
 from companions.page_cells import matrices_fault
 from companions.show import help_fault, named_circles
 from shared import documents, known_diagrams
@@ -341,6 +342,7 @@ def faults(program):
         yield name, None if came[:2] == (1, "") and came[2].startswith(wanted) else f"{came}"
     for name, code in moved_codes():
         yield f"moves of {name}", moves_fault(program, code)
+    yield from page_moves_drawn.faults()
     yield "no other words", words_fault(program)
     yield "a run that takes long", slow_fault()
     yield "tables of kh-scan", scan_fault(program)
