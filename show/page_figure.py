@@ -161,7 +161,7 @@ def face_of(figure, move):
     arcs = set(move.arcs) or {arc for arc in figure.sheet.crossings[move.crossings[0] - 1] if is_loop_at(figure, move, arc)}
     number, found = figure.numbers.arcs, []
     for face in (face for piece in pieces_of(figure.plane) for face in faces_of(figure.plane, piece)):
-        if len(face) == len(move.crossings) and {number[dart] for dart in face} == arcs:
+        if len(face) == len(move.crossings) and {number[dart] for dart in face} <= arcs and met(figure, face) == set(move.crossings):
             curve = joined([figure.shape.arcs[dart] for dart in face])
             points = sampled(curve)
             area = math.fsum(x * deep - y * far for (x, y), (far, deep) in zip(points, points[1:] + points[:1]))
@@ -181,6 +181,11 @@ def free_place(figure, middle, points):
             if min(distance(place, it) for it in points) > 15 and all(distance(place, it) > 21 for it in numbers):
                 return place
     return middle
+
+
+def met(figure, face):
+    """The crossings around a face, from 1."""
+    return {figure.numbers.crossings[crossing] + 1 for crossing, _ in face}
 
 
 def is_loop_at(figure, move, arc):
