@@ -19,7 +19,7 @@ CHECK, CONVERT, GAUSS, DRAW, JONES, EDIT, MIRROR, REVERSE = (
     ("check",), ("convert",), ("convert", "--to", "gauss"), ("draw",), ("jones",), ("edit",), ("mirror",), ("reverse",)
 )
 HOMOLOGY = {field: ("homology", "--field", str(field)) for field in FIELDS}
-# The words of `kh-scan`, which takes no command.
+# The words of `kh-scan`, which takes no command for one diagram.
 SCANNED = {field: words[1:] for field, words in HOMOLOGY.items()}
 COMMANDS = {CHECK, CONVERT, GAUSS, DRAW, JONES, EDIT, MIRROR, REVERSE, *HOMOLOGY.values()}
 ANSWERED, TOO_LARGE, MOVE_REFUSED = 0, 6, 7
