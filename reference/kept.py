@@ -19,8 +19,8 @@ PATH = os.path.join(HERE, "checked.jsonl")
 VECTORS = [os.path.join(HERE, name) for name in ("vectors.jsonl", "prime.jsonl")]
 # Whether the polynomials of a code are those of the table's diagram, or of its mirror image, or of both, as it stands to it.
 IS_SAME = {"same": (True,), "mirror image": (False,), "amphicheiral": (True, False)}
-# Links of Rolfsen's table whose complements are not hyperbolic, so that the census of complements is of no help.
-NOT_HYPERBOLIC = ("2^2_1", "4^2_1", "6^2_1", "6^3_3", "7^2_7")
+# Links of Rolfsen's table whose complements are not hyperbolic, and were not found in the census.
+NOT_FOUND = ("2^2_1", "6^2_1", "6^3_3")
 HANDS = ("same", "mirror image", "amphicheiral", "same as LinkInfo", "by its numbers", "open")
 
 
@@ -91,7 +91,7 @@ def faults_of(name, rest, record):
     if record.get("complement") == "other":
         yield f"{name}: its complement is not that of the table's link"
     link = tables.rolfsen(name)
-    if link and link not in NOT_HYPERBOLIC and not record["census"]:
+    if link and link not in NOT_FOUND and not record["census"]:
         yield f"{name}: its complement is not found under its name"
     if link and record["crossings"] != int(link[0]):
         yield f"{name}: it is not made as small as its name says"

@@ -76,7 +76,7 @@ def anew_faults():
     """The same with other programs."""
     for name, code in (("9_41", OLD), ("10_56", inverted(names()["10_25"]))):
         yield f"reference/check of another code for {name}", check_fault([name, "--code", code], 1, [f"{name}: {OTHER}"])
-    some = ["9_42", "10_71", "K11n34", "6^2_3", "L5a1{0}", "T(3,5)"]
+    some = ["9_42", "L5a1{0}", "T(3,5)"]
     yield "reference/check anew", check_fault(some, 0, [f"{len(some)} names are as the tables have them"])
 
 
