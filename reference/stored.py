@@ -28,15 +28,15 @@ def listed(words):
 
 
 class Reference:
-    """The lines of a file of vectors, by name and field."""
+    """The lines of files of vectors, by name and field."""
 
-    def __init__(self, path):
+    def __init__(self, *paths):
         self.lines, self.known = {}, {}
-        with open(path, encoding="utf-8") as file:
-            for line in file:
-                it = json.loads(line)
-                if "name" in it:
-                    self.lines.setdefault(it["name"], {})[it["field"]] = it
+        for path in paths:
+            with open(path, encoding="utf-8") as file:
+                for it in map(json.loads, file):
+                    if "name" in it:
+                        self.lines.setdefault(it["name"], {})[it["field"]] = it
 
     def need(self, name):
         """The lines of a link by fields."""

@@ -44,7 +44,7 @@ TURNED = told("crossing 1 turned by a half: the first arc was the one on which t
 NO_SPHERE = told("it can be drawn on no sphere (3 faces, not 5), so kh will refuse it")
 CLOCKWISE = told("read clockwise: the second and the fourth arc of each crossing exchanged")
 PARTS = told("a DT code: each of its 2 parts may be mirrored; chosen is the diagram in which the first crossing of each is positive")
-PERHAPS = "; perhaps the mirror image of the one you mean"
+MIRRORED, AMPHICHEIRAL = "; the mirror image of the Knot Atlas's", "; its own mirror image"
 
 # A name, an input of one code, the line that is written of it, what is said.
 READ = [
@@ -96,11 +96,11 @@ READ = [
     ("DT of a link without a word", "[(4,), (2,)]", HOPF, by_dowker()),
     ("DT of two parts", "DT[2, 4]", "PD[X[2, 2, 3, 1], X[4, 4, 1, 3]]", PARTS),
     # names
-    ("a name", "3_1", RIGHT, closed("3_1", "2 strands, 1 1 1", PERHAPS)),
-    ("a name in TeX", "$3_{1}$", RIGHT, closed("3_1", "2 strands, 1 1 1", PERHAPS)),
-    ("a name of KnotTheory", "Knot[3, 1]", RIGHT, closed("3_1", "2 strands, 1 1 1", PERHAPS)),
-    ("a name in quotes", 'Knot["3_1"]', RIGHT, closed("3_1", "2 strands, 1 1 1", PERHAPS)),
-    ("a knot that is its own mirror image", "Knot[4, 1]", FIGURE_EIGHT, closed("4_1", "3 strands, 1 -2 1 -2")),
+    ("a name", "3_1", RIGHT, closed("3_1", "2 strands, 1 1 1", MIRRORED)),
+    ("a name in TeX", "$3_{1}$", RIGHT, closed("3_1", "2 strands, 1 1 1", MIRRORED)),
+    ("a name of KnotTheory", "Knot[3, 1]", RIGHT, closed("3_1", "2 strands, 1 1 1", MIRRORED)),
+    ("a name in quotes", 'Knot["3_1"]', RIGHT, closed("3_1", "2 strands, 1 1 1", MIRRORED)),
+    ("a knot that is its own mirror image", "Knot[4, 1]", FIGURE_EIGHT, closed("4_1", "3 strands, 1 -2 1 -2", AMPHICHEIRAL)),
     ("a torus knot", "k: T(2, 3)", RIGHT, closed("T(2,3)", "2 strands, 1 1 1", called="k")),
     ("a torus knot of KnotTheory", "TorusKnot[3, 2]", RIGHT, closed("T(3,2)", "2 strands, 1 1 1")),
     ("a torus knot in TeX", "$T_{2,3}$", RIGHT, closed("T(2,3)", "2 strands, 1 1 1")),
@@ -114,7 +114,8 @@ WHICH = (
     "GaussCode[..] Signs[..] for a Gauss code"
 )
 NO_LINK = (
-    "the reference has no link of this name, but prime knots of up to 9 crossings, links of up to 7, and torus links such as T(3,7): "
+    "the reference has no link of this name, but prime knots of up to 11 crossings (up to 10_165, K11a367 and K11n185), links of up to 7 "
+    "by Rolfsen's names (7^2_1) and L2a1{0} to L6a2{1} by Thistlethwaite's, and torus links such as T(3,7): "
     "write a planar diagram, a DT code or a braid word"
 )
 LETTERS = "the first letters say how many crossings, components and entries of each there are, and here are others"
@@ -169,8 +170,11 @@ WRONG = [
     ("a pass missing", "GaussCode[1,-2,2]", "each crossing, from 1 on, has one pass over and one under", 0),
     ("a wrong sign", "GaussCode[1,-1] Signs[2]", "each crossing has one sign, 1 or -1", 24),
     ("a list of numbers", "{1,1,1}", WHICH, 0),
-    ("an unknown name", "10_123", NO_LINK, 0),
-    ("an unknown name in TeX", "10_{123}", NO_LINK, 0),
+    ("an unknown name", "10_166", NO_LINK, 0),
+    ("an unknown name in TeX", "12_{1}", NO_LINK, 0),
+    ("an unknown link", "L6a4", NO_LINK, 0),
+    ("a link without directions", "k: L6a1", "L6a1 has several directions: write L6a1{0} or L6a1{1}", 3),
+    ("an unknown name of Dowker and Thistlethwaite", "11n_186", NO_LINK, 0),
     ("an unknown name of KnotTheory", "k: Knot[10, NonAlternating, 124]", NO_LINK, 3),
     ("an unknown link of KnotTheory", "Link[5, Alternating, 1]", NO_LINK, 0),
     ("a large torus link", "T(5,6)", "this torus link has 24 crossings in its least braid, and kh takes 20", 0),
@@ -209,7 +213,7 @@ MORE = [
     ("SageMath", ["--clockwise"], "Link([[1,5,2,4], [3,1,4,6], [5,3,6,2]])", 0, [("code 1", TREFOIL)], CLOCKWISE),
     ("nothing", [], "# nothing\n\n", 0, [], ""),
     ("a sum in a name", [], "3_1#3_1: PD[Loop[1]] # no sum", 0, [("3_1#3_1", UNKNOT)], ""),
-    ("a name of KnotTheory as a name", [], "Knot[3, 1]", 0, [("3_1", RIGHT)], closed("3_1", "2 strands, 1 1 1", PERHAPS)),
+    ("a name of KnotTheory as a name", [], "Knot[3, 1]", 0, [("3_1", RIGHT)], closed("3_1", "2 strands, 1 1 1", MIRRORED)),
     ("many codes", [], MANY, 1, [("first", TREFOIL), ("3_1", OTHER)], MANY_SAID + counted(2, 1)),
     (
         "many codes, all kept",

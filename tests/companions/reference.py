@@ -217,7 +217,7 @@ def faults(program):
         yield f"reference/compare {words}: {name}", compare_fault(words.split(), given, status, said)
     yield from collection_faults()
     yield "reference: reduced tables", "; ".join(halving_faults()) or None
-    for name in ("compare", "make"):
+    for name in ("check", "compare", "make"):
         yield f"reference/{name} --help", help_fault(name)
     yield "reference: determinants and signatures", fault_of("--published")
     yield "reference: a part of the vectors", fault_of("--test", "--kh", program)

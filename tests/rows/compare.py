@@ -3,6 +3,7 @@
 The dimensions of 3_1, 8_19, 4^2_1 and T(3,5) are those of the reference.
 """
 AGREE = "the tables agree\n"
+OTHER_HAND = "(the reference's 3_1 is the mirror image of the Knot Atlas's)\n"
 
 MIRRORED = "nearest is the mirror image, with i and j negated; there:\n"
 EXCHANGED = "nearest is the reference with i before j; there:\n"
@@ -16,7 +17,7 @@ TREFOIL = [
     ("as kh writes it", "table 2\nfield 3\nj 1 i 0 dim 1\nj 3 i 0 dim 1\nj 5 i 2 dim 1\nj 9 i 3 dim 1\njones 1*q^1\n", 0, AGREE),
     ("a term less", "q + q^3 + q^9 t^3", 1, "j 5 i 2: 0, and 1 in the reference\n"),
     ("a term more", "q + q^3 + q^5 t^2 + q^9 t^3 + 2 q^7 t^2", 1, "j 7 i 2: 2, and 0 in the reference\n"),
-    ("mirrored", "1/q + 1/q^3 + 1/(q^5 t^2) + 1/(q^9 t^3)", 1, "it is the table of the mirror image: i and j are negated\n"),
+    ("mirrored", "1/q + 1/q^3 + 1/(q^5 t^2) + 1/(q^9 t^3)", 1, "it is the table of the mirror image: i and j are negated\n" + OTHER_HAND),
     ("q turned", "1/q + 1/q^3 + t^2/q^5 + t^3/q^9", 1, "j is negated: q stands for the inverse of the reference's\n"),
     ("t turned", "q + q^3 + q^5/t^2 + q^9/t^3", 1, "i is negated: t stands for the inverse of the reference's\n"),
     ("i before j", "0 1 1\n0 3 1\n2 5 1\n3 9 1\n", 1, "the columns are exchanged: i stands before j\n"),
@@ -108,20 +109,21 @@ FORMS = [
 SAID = [
     ("shifted", "3_1 --field 3", "q^3 + q^5 + q^7 t^2 + q^11 t^3", 1, "the same table, with j shifted by 2\n"),
     ("shifted twice", "3_1 --field 3", "t + q^2 t + q^4 t^3 + q^8 t^4", 1, "the same table, with j shifted by -1 and i shifted by 1\n"),
-    ("mirrored and shifted", "3_1 --field 3", "1 + q^-2 + q^-4 t^-2 + q^-8 t^-3", 1, MIRROR[:-1] + ", with j shifted by 1\n"),
+    ("mirrored and shifted", "3_1 --field 3", "1 + q^-2 + q^-4 t^-2 + q^-8 t^-3", 1, MIRROR[:-1] + ", with j shifted by 1\n" + OTHER_HAND),
     ("without crossings", "4^2_1 --field 3", "q^-2 + 1 + q^2 t^2 + q^6 t^3 + q^6 t^4 + q^8 t^4", 1, CUBE),
     ("components turned", "4^2_1 --field 3", "q^-10 t^-4 + q^-8 t^-4 + q^-6 t^-2 + q^-2 t^-1 + q^-2 + 1", 1, TURNED),
     ("shifted, and another number", "3_1 --field 3", "q^3 + q^5 + q^7 t^2 + 2 q^11 t^3", 1, NEAREST),
     ("another name", "9_1 --field 3", LARGE, 1, "this is the table of 8_19 and of T(3,4)\n"),
     ("the other hand of another name", "9_1 --field 3", INVERSE, 1, "this is the table of the mirror image of 8_19 and of T(3,4)\n"),
-    ("a name that is none", "10_124 --field 3", TORUS, 1, "compare: the reference has no 10_124; this is the table of T(3,5)\n"),
+    ("a name that is none", "12_1 --field 3", TORUS, 1, "compare: the reference has no 12_1; this is the table of T(3,5) and of 10_124\n"),
+    ("a knot of ten crossings", "10_124 --field 3", TORUS, 0, AGREE),
     ("a rational table", "8_19 --field 0", LARGE, 0, AGREE + WHERE_DECIDED),
     ("a rational table, all decided", "3_1 --field Q", KNOT, 0, AGREE),
     ("a pair less", "8_19 --field 0", LARGE.replace(" + q^13 t^3 + q^13 t^4", ""), 1, LESS),
     ("no field named", "3_1", KNOT, 1, OTHER_FIELD + ", and not over 2, which is taken where --field names none\n"),
     ("another field named", "3_1 --field 2", KNOT, 1, OTHER_FIELD + "\n"),
     ("no torsion", "3_1 --field Z", KNOT, 1, NO_TORSION),
-    ("the mirror image's groups", "3_1", "1/q + 1/q^3 + 1/(q^5 t^2) + Z[2]/(q^7 t^2) + 1/(q^9 t^3)", 1, MIRROR),
+    ("the mirror image's groups", "3_1", "1/q + 1/q^3 + 1/(q^5 t^2) + Z[2]/(q^7 t^2) + 1/(q^9 t^3)", 1, MIRROR + OTHER_HAND),
     ("inverses", "3_1", "1/q + 1/q^3 + 1/(q^5 t^2) + Z[2]/(q^7 t^3) + 1/(q^9 t^3)", 1, INVERSES),
     ("homology", "3_1", f"{KNOT} + q^7 t^2 Z[2]", 1, OF_HOMOLOGY),
     ("a reduced table", "3_1 --field 3 --reduced", HALF, 0, AGREE),
