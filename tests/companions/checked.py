@@ -1,5 +1,6 @@
 """Tries the names of the reference: what other programs answered of them (`reference/checked.jsonl`) fits the codes and the tables, wrong
-words are found, and `kh-codes` says the hand of each name. Where SageMath, Regina and HAP are installed, some names are checked anew.
+words are found, and `kh-codes` says the hand of each name. With KH_CHECK=anew in the environment some names are checked anew, by SageMath,
+Regina and HAP, where these are installed.
 
 `tests/program` runs these behind its rows, with the program of scans beside the one that is tried, if it is there.
 """
@@ -135,5 +136,5 @@ def faults(program):
     yield from kept_faults()
     yield from hand_faults()
     yield from table_faults(scan_of(program))
-    if all(map(shutil.which, PROGRAMS)):
+    if os.environ.get("KH_CHECK") == "anew" and all(map(shutil.which, PROGRAMS)):
         yield from anew_faults()
