@@ -145,7 +145,7 @@ class Handler(http.server.BaseHTTPRequestHandler):
         if path == "/example.svg":
             return Reply(200, SVG, session.picture(page_served.TREFOIL))
         if path == "/theorem":
-            return Reply(200, TEXT, given([os.path.join(TOP, "docs", "THEOREM.md")]))
+            return Reply(200, TEXT, given([os.path.join(TOP, "docs", "INVARIANCE.md")]))
         number, what, move = self.step(session, path)
         if what == "":
             return Reply(200, HTML, page_served.step_page(session, base, number, HEAD))

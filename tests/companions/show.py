@@ -1,6 +1,7 @@
 """Tries the scripts of `show/` on stored outputs of `kh`: those of `tests/data`, and drawings made by `plain.drawing`.
 
-`tests/program` runs these behind its rows, and then those of `pictures`. No program is run for them but those of this repository.
+`tests/program` runs these behind its rows, and then those of `pictures` and `move_states`. No program is run for them but those of this
+repository.
 """
 import itertools
 import os
@@ -11,7 +12,7 @@ import xml.etree.ElementTree
 
 import plain.diagrams
 import plain.drawing
-from companions import pictures
+from companions import move_states, pictures
 from rows.link import REDUCED_TREFOIL
 from rows.texts import TREFOIL, TREFOIL_OVER_THREE, TREFOIL_TABLE
 from shared.places import DATA, TOP
@@ -320,6 +321,7 @@ def faults(program=None):
     for number, code in enumerate(diagrams()[:4]):
         yield f"show/states: diagram {number}", states_fault(code)
     yield from pictures.faults()
+    yield from move_states.faults()
     yield "show/pictures: the pictures of the pages", pictures_fault()
     for name in scripts():
         yield f"{name} --help", help_fault(name)
