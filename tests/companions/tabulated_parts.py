@@ -1,6 +1,6 @@
 """Tries lists that are worked out in parts, by GNU parallel and by Slurm, and the other scripts of `tabulate/` (see `tabulation.py`).
 
-GNU parallel and Slurm are tried where they are installed (`shared/slurm.py`).
+GNU parallel is tried where it is installed, Slurm where KH_SLURM says so (`shared/slurm.py`).
 """
 import os
 import re
@@ -176,7 +176,7 @@ def task_lines(top, ending):
 def by_slurm(folder):
     """`tabulate/array.slurm` by the commands at its head, on a queue of one node, with all tasks requeued on the way."""
     if not slurm.is_there():
-        print("tabulate: Slurm is not installed, so tabulate/array.slurm is not tried (KH_SLURM=install installs it)")
+        print("tabulate: tabulate/array.slurm is not tried (KH_SLURM=run tries it where Slurm is installed, KH_SLURM=install installs it)")
         return None
     with tempfile.TemporaryDirectory() as top, tempfile.TemporaryDirectory() as daemons, slurm.Queue(daemons) as queue:
         folder_of(top, SCAN)

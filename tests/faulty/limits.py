@@ -104,6 +104,9 @@ def memory_limits(program, case, wanted):
         ("data", resource.RLIMIT_DATA, DATA, data_begins_in(program), 0),
     ):
         runs, enough = sized_runs(program, case, wanted, which, sizes)
+        # (a small run may have its memory in one step behind the first that begins it)
+        runs.update(sized_runs(program, case, wanted, which, range(max(enough - 200, 0), enough, 8))[0])
+        enough = min(size for size, came in runs.items() if came == wanted) if enough <= max(sizes) else enough
         for size, came in runs.items():
             has_room = size * KB >= begins and not enough - grows <= size < enough
             yield f"{case.name}, {size} KB of {name}", outcome(came, wanted, has_room)
@@ -114,11 +117,13 @@ def memory_limits(program, case, wanted):
 
 
 def stack_limits(program, case, wanted):
-    """A stack that can not grow ends a run before it writes anything; with 256 KB each one ends by itself."""
+    """A stack that can not grow ends a run before it writes anything, and a list before it writes all; with 256 KB each one ends by itself."""
     for size in (0, 4, 8, 16, 24, 32, 48, 64, 96, 128, 192, 256, 512, 1_024, 8_192):
         # (words and environment are on the stack)
         came = run(program, case, limited(resource.RLIMIT_STACK, size * KB), environment={})
         fault = outcome(came, wanted, size >= ENOUGH_STACK)
+        if "each" in case.words and size < ENOUGH_STACK and came[0] in SIGNALS and wanted[1].startswith(came[1]):
+            fault = None
         yield f"{case.name}, {size} KB of stack", fault or (f"{came} with room" if size >= ENOUGH_STACK and came != wanted else None)
 
 

@@ -27,6 +27,7 @@ SHORT = CASES[:2]
 # A list between whose small codes is one for which there is no memory where there is enough for the others.
 LARGE = Case("a list with a large code", ["each"], b"\n".join((TREFOIL, curls(15).encode(), TREFOIL)))
 SPACES = range(2_000, 120_000, 2_000)
+DATA = [*limits.DATA, *range(9_000, 120_000, 3_000)]
 # The bytes that a read takes at most, and how many writes are tried that take one.
 PIECES, WRITES = (1, 7, 1_000), 400
 
@@ -157,7 +158,7 @@ def memory_limits(program, case):
     kinds = set()
     for name, which, sizes, begins in (
         ("address space", resource.RLIMIT_AS, SPACES, begins_in(program)),
-        ("data", resource.RLIMIT_DATA, limits.DATA, limits.data_begins_in(program)),
+        ("data", resource.RLIMIT_DATA, DATA, limits.data_begins_in(program)),
     ):
         runs, enough = limits.sized_runs(program, case, (DONE, b"".join(frames.written(wanted)), b""), which, sizes)
         for size, (status, wrote, said) in runs.items():

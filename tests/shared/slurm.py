@@ -50,8 +50,10 @@ def found(name):
 
 
 def is_there():
-    """Whether Slurm is installed, once it has been where that is asked for."""
-    if not all(map(found, DAEMONS)) and os.environ.get("KH_SLURM") == "install":
+    """Whether Slurm is to be tried, which KH_SLURM says, and is installed, once it has been where that is asked for."""
+    if os.environ.get("KH_SLURM") not in ("install", "run"):
+        return False
+    if not all(map(found, DAEMONS)) and os.environ["KH_SLURM"] == "install":
         settings = dict(os.environ, DEBIAN_FRONTEND="noninteractive")
         subprocess.run(["apt-get", "install", "-y", "--no-install-recommends", *PACKAGES], env=settings, stdout=sys.stderr, check=False)
     return all(map(found, (*DAEMONS, "sbatch")))
