@@ -59,10 +59,11 @@ def told(came, status, wrote):
 
 def memory_outcome(status, wrote, said, wanted):
     """What is wrong with a run that lacked memory, if anything is: its frames are whole, each is the one that is wanted or says that there
-    was no memory, and all are there unless the run ends with that status. Before the first line there may be nothing."""
+    was no memory, and the run ends with that status unless all that are wanted are there. Before the first line there may be nothing."""
     found = frames.read(wrote) or ([], wrote)
     fine = len(found[0]) <= len(wanted) and all(map(frames.is_answer, found[0], wanted)) and not found[1] and not said
-    fine = fine and (status == NO_MEMORY or (status == DONE and len(found[0]) == len(wanted) and wrote))
+    whole = wrote and found[0] == wanted
+    fine = fine and (status == NO_MEMORY or (status == DONE and whole))
     return None if fine else f"status {status}, {wrote[-300:]!r}, {said[:200]!r}"
 
 
@@ -76,7 +77,7 @@ def memory_faults(shim, case, wanted, count):
             lacks = sum(it.status == NO_MEMORY for it in (frames.read(came.wrote) or [[]])[0])
             lacking += lacks
             fault = memory_outcome(came.status, came.wrote, came.said, wanted)
-            if not fault and mode == "once" and lacks + (came.status == NO_MEMORY) > 1:
+            if not fault and mode == "once" and lacks > 1:
                 fault = f"{lacks} frames without memory, status {came.status}"
             yield f"{case.name}, allocation {number} fails, {mode}", fault
     needed = NO_MEMORY in ends and lacking

@@ -1,15 +1,15 @@
 -- What is written of the answers to questions, one after the other.
-use Rattle.std.proofs.Common.{◌≡◌, ℕ, ◌+◌, ◌<◌, min, List, [], ◌∷◌, ◌++◌, length, take, drop, map, get_or, refl, sym, ap, subst, ◌∙◌, arith, append-nil, Option, Some, None, Result, Ok, Err}
+use Rattle.std.proofs.Common.{◌≡◌, inl, inr, ℕ, ◌+◌, ◌<◌, min, Bool, true, false, ◌&&◌, List, [], ◌∷◌, ◌++◌, length, take, drop, map, get_or, refl, sym, ap, subst, ◌∙◌, arith, append-nil, Option, Some, None, Result, Ok, Err}
 use Rattle.std.proofs.Math.Seq.{take-append-add}
+use Rattle.std.proofs.lemmas.Bool.{and_parts}
 use Rattle.std.proofs.lemmas.List.{map-append, map_more, take-append-drop, take-append-le, take_min}
 use Rattle.std.specs.Io.KnownBytes.{Appends}
 use Rattle.kh_io.proofs.KnownBytes.{Appends-trans}
 use Rattle.kh_replies.specs.Replies.{Reply}
-use Rattle.line_answers.specs.Answered.{AreAnswered, ArePartlyAnswered}
-use Rattle.line_answers.specs.Frames.{AreFrames, IsAnswerTo, frame_of}
+use Rattle.line_answers.specs.Answered.{AreAllAnswered, AreAnswered, ArePartlyAnswered, IsPartWritten}
+use Rattle.line_answers.specs.Frames.{IsAnswerOrNone, IsAnswerTo, frame_of, no_memory}
 use Rattle.line_answers.specs.Questions.{NumberedLine, Question, question}
 use Rattle.line_answers.specs.declared.frame.FrameStop.{FrameStop}
-use Rattle.line_answers.specs.declared.frame.FrameStop.TheVariants.{Fault}
 use Rattle.line_answers.proofs.FrameLists.{AreFrames-append, AreFrames-one, AreFrames-some}
 
 -- a sink that is not written to gains nothing
@@ -21,24 +21,38 @@ Appends-none (Some bytes) = sym (append-nil bytes)
 pub take-within : {X : Type 0} (n : ℕ) (xs more : List X) → take n xs ≡ take (min n (length xs)) (xs ++ more)
 take-within n xs more = sym (take_min n xs) ∙ sym (take-append-le (min n (length xs)) xs more (omega arith))
 
+-- what comes of two outcomes, one behind the other
+abbrev pub behind : Bool → Result Bool FrameStop → Result Bool FrameStop
+behind whole (Ok later) = Ok (whole && later)
+behind whole (Err stop) = Err stop
+
 -- some questions are answered, and those behind them or a part of them
-pub AreAnswered-behind : (Answers : ℕ → List ℕ → Reply → Type 0) (first second : List Question) (a b c : Option (List ℕ)) (text : List ℕ)
-    (result : Result (Unit {0}) FrameStop) → AreFrames (IsAnswerTo Answers) first text → Appends a b text → AreAnswered Answers second b c result
-    → AreAnswered Answers (first ++ second) a c result
-AreAnswered-behind Answers first second a b c text (Ok done) frames written (next, more, later) =
-    (text ++ next, AreFrames-append (IsAnswerTo Answers) first second text next frames more, Appends-trans a b c text next written later)
-AreAnswered-behind Answers first second a b c text (Err stop) frames written part = record {
-  text = text ++ part.text;
-  frames = AreFrames-append (IsAnswerTo Answers) first second text part.text frames part.frames;
-  size = length text + part.size;
-  written = subst (Appends a c) (sym (take-append-add text part.text part.size))
-      (Appends-trans a b c text (take part.size part.text) written part.written);
+pub AreAnswered-behind : (Answers : ℕ → List ℕ → Reply → Type 0) (first second : List Question) (a b c : Option (List ℕ)) (whole : Bool)
+    (result : Result Bool FrameStop) → AreAllAnswered Answers first a b whole → AreAnswered Answers second b c result
+    → AreAnswered Answers (first ++ second) a c (behind whole result)
+AreAnswered-behind Answers first second a b c whole (Ok later) one two = record {
+  text = one.text ++ two.text;
+  frames = AreFrames-append (IsAnswerOrNone Answers) first second one.text two.text one.frames two.frames;
+  written = Appends-trans a b c one.text two.text one.written two.written;
+  answers = λ both. let parts = and_parts whole later both in
+      AreFrames-append (IsAnswerTo Answers) first second one.text two.text (one.answers parts.0) (two.answers parts.1);
+}
+AreAnswered-behind Answers first second a b c whole (Err stop) one part = record {
+  text = one.text ++ part.text;
+  frames = AreFrames-append (IsAnswerOrNone Answers) first second one.text part.text one.frames part.frames;
+  size = length one.text + part.size;
+  written = subst (Appends a c) (sym (take-append-add one.text part.text part.size))
+      (Appends-trans a b c one.text (take part.size part.text) one.written part.written);
   whole = λ memory. let count = part.whole memory in (
     length first + count.0,
-    rw (take-append-add first second count.0, take-append-add text part.text part.size)
-        (AreFrames-append (IsAnswerTo Answers) first (take count.0 second) text (take part.size part.text) frames count.1),
+    rw (take-append-add first second count.0, take-append-add one.text part.text part.size)
+        (AreFrames-append (IsAnswerOrNone Answers) first (take count.0 second) one.text (take part.size part.text) one.frames count.1),
   );
 }
+
+-- no question is answered by nothing
+pub AreAllAnswered-none : (Answers : ℕ → List ℕ → Reply → Type 0) (a : Option (List ℕ)) → AreAllAnswered Answers [] a a true
+AreAllAnswered-none Answers a = record { text = []; frames = refl; written = Appends-none a; answers = λ _. refl }
 
 -- questions are answered in part, and so are more of them
 pub AreAnswered-before : (Answers : ℕ → List ℕ → Reply → Type 0) (first second : List Question) (a b : Option (List ℕ)) (stop : FrameStop)
@@ -48,7 +62,7 @@ AreAnswered-before Answers first second a b stop part =
     let same = take-within part.size part.text more.0 in
     record {
       text = part.text ++ more.0;
-      frames = AreFrames-append (IsAnswerTo Answers) first second part.text more.0 part.frames more.1;
+      frames = AreFrames-append (IsAnswerOrNone Answers) first second part.text more.0 part.frames more.1;
       size = min part.size (length part.text);
       written = subst (Appends a b) same part.written;
       whole = λ memory. let count = part.whole memory in (
@@ -58,32 +72,34 @@ AreAnswered-before Answers first second a b stop part =
     }
 
 -- a question is answered
-pub AreAnswered-one : (Answers : ℕ → List ℕ → Reply → Type 0) (asked : Question) (reply : Reply) (a b : Option (List ℕ)) (text : List ℕ)
-    → IsAnswerTo Answers asked reply → text ≡ frame_of asked reply → Appends a b text → AreAnswered Answers (asked ∷ []) a b (Ok tt)
-AreAnswered-one Answers asked reply a b text answer is written =
-    (frame_of asked reply, AreFrames-one (IsAnswerTo Answers) asked reply answer, subst (Appends a b) is written)
-
--- its frame is written in part
-pub AreAnswered-cut : (Answers : ℕ → List ℕ → Reply → Type 0) (asked : Question) (reply : Reply) (a b : Option (List ℕ)) (text : List ℕ)
-    (stop : FrameStop) → IsAnswerTo Answers asked reply → text ≡ frame_of asked reply → (n : ℕ) × Appends a b (take n text)
-    → stop ≡ Fault → AreAnswered Answers (asked ∷ []) a b (Err stop)
-AreAnswered-cut Answers asked reply a b text stop answer is written fault = record {
+pub AreAnswered-one : (Answers : ℕ → List ℕ → Reply → Type 0) (asked : Question) (reply : Reply) (a b : Option (List ℕ))
+    → IsAnswerTo Answers asked reply → Appends a b (frame_of asked reply) → AreAnswered Answers (asked ∷ []) a b (Ok true)
+AreAnswered-one Answers asked reply a b answer written = record {
   text = frame_of asked reply;
-  frames = AreFrames-one (IsAnswerTo Answers) asked reply answer;
-  size = written.0;
-  written = subst (λ (l : List ℕ). Appends a b (take written.0 l)) is written.1;
-  whole = λ memory. cc;
+  frames = AreFrames-one (IsAnswerOrNone Answers) asked reply (inl answer);
+  written = written;
+  answers = λ _. AreFrames-one (IsAnswerTo Answers) asked reply answer;
 }
 
--- there is no memory for its frame
-pub AreAnswered-unframed : (Answers : ℕ → List ℕ → Reply → Type 0) (asked : Question) (reply : Reply) (a : Option (List ℕ)) (stop : FrameStop)
-    → IsAnswerTo Answers asked reply → AreAnswered Answers (asked ∷ []) a a (Err stop)
-AreAnswered-unframed Answers asked reply a stop answer = record {
+-- there was no memory for the reply
+pub AreAnswered-none : (Answers : ℕ → List ℕ → Reply → Type 0) (asked : Question) (reply : Reply) (a b : Option (List ℕ))
+    → reply ≡ no_memory → Appends a b (frame_of asked reply) → AreAnswered Answers (asked ∷ []) a b (Ok false)
+AreAnswered-none Answers asked reply a b none written = record {
   text = frame_of asked reply;
-  frames = AreFrames-one (IsAnswerTo Answers) asked reply answer;
-  size = 0;
-  written = Appends-none a;
-  whole = λ memory. (0, refl);
+  frames = AreFrames-one (IsAnswerOrNone Answers) asked reply (inr none);
+  written = written;
+  answers = λ is. cc;
+}
+
+-- the frame is written in part
+pub AreAnswered-part : (Answers : ℕ → List ℕ → Reply → Type 0) (asked : Question) (reply : Reply) (a b : Option (List ℕ)) (stop : FrameStop)
+    → IsAnswerOrNone Answers asked reply → IsPartWritten (frame_of asked reply) a b stop → AreAnswered Answers (asked ∷ []) a b (Err stop)
+AreAnswered-part Answers asked reply a b stop answer part = record {
+  text = frame_of asked reply;
+  frames = AreFrames-one (IsAnswerOrNone Answers) asked reply answer;
+  size = part.size;
+  written = part.written;
+  whole = λ memory. (0, ap (λ (n : ℕ). take n (frame_of asked reply)) (part.none memory));
 }
 
 -- a line over one field more

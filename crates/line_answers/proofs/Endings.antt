@@ -7,7 +7,7 @@ use Rattle.std.specs.Io.KnownBytes.{Appends}
 use Rattle.kh_lex.specs.Lines.{HasNoLineFeed, with_feed}
 use Rattle.kh_lex.proofs.LineCuts.{CutsLines-lines_of}
 use Rattle.kh_replies.specs.Replies.{Reply}
-use Rattle.line_answers.specs.Frames.{AreFrames, IsAnswerTo, first_line}
+use Rattle.line_answers.specs.Frames.{AreFrames, IsAnswerOrNone, first_line}
 use Rattle.line_answers.specs.ListRuns.{EndsLines, WritesAnswers, WritesPrefix}
 use Rattle.line_answers.specs.Questions.{Question, asked_by, numbered, questions}
 use Rattle.line_answers.proofs.AnsweredLists.{take-within}
@@ -55,8 +55,8 @@ questions-append fields lines more = (
 
 -- a prefix of the answers to some questions is one of the answers to more
 pub WritesPrefix-of : (Answers : ℕ → List ℕ → Reply → Type 0) (all asked later : List Question) (before after : Option (List ℕ)) (text : List ℕ)
-    (size : ℕ) → all ≡ asked ++ later → AreFrames (IsAnswerTo Answers) asked text → Appends before after (take size (first_line ++ text))
-    → WritesPrefix (IsAnswerTo Answers) all before after
+    (size : ℕ) → all ≡ asked ++ later → AreFrames (IsAnswerOrNone Answers) asked text → Appends before after (take size (first_line ++ text))
+    → WritesPrefix (IsAnswerOrNone Answers) all before after
 WritesPrefix-of Answers all asked later before after text size parts frames written =
     let more = AreFrames-some Answers later in
     let same : take size (first_line ++ text) ≡ take (min size (length (first_line ++ text))) (first_line ++ (text ++ more.0)) =
@@ -64,38 +64,38 @@ WritesPrefix-of Answers all asked later before after text size parts frames writ
     ∙ ap (take (min size (length (first_line ++ text)))) (append_assoc first_line text more.0) in
     record {
       text = text ++ more.0;
-      frames = rw parts (AreFrames-append (IsAnswerTo Answers) asked later text more.0 frames more.1);
+      frames = rw parts (AreFrames-append (IsAnswerOrNone Answers) asked later text more.0 frames more.1);
       count = min size (length (first_line ++ text));
       written = subst (Appends before after) same written;
     }
 
 -- answers to the first of some questions are answers to the first of more
 pub WritesAnswers-of : (Answers : ℕ → List ℕ → Reply → Type 0) (all asked later : List Question) (before after : Option (List ℕ)) (text : List ℕ)
-    (count : ℕ) → all ≡ asked ++ later → AreFrames (IsAnswerTo Answers) (take count asked) text → Appends before after (first_line ++ text)
-    → (count : ℕ) × WritesAnswers (IsAnswerTo Answers) (take count all) before after
+    (count : ℕ) → all ≡ asked ++ later → AreFrames (IsAnswerOrNone Answers) (take count asked) text → Appends before after (first_line ++ text)
+    → (count : ℕ) × WritesAnswers (IsAnswerOrNone Answers) (take count all) before after
 WritesAnswers-of Answers all asked later before after text count parts frames written =
     let same : take count asked ≡ take (min count (length asked)) all =
     take-within count asked later ∙ ap (take (min count (length asked))) (sym parts) in (
       min count (length asked),
       record {
         text = text;
-        frames = subst (λ l. AreFrames (IsAnswerTo Answers) l text) same frames;
+        frames = subst (λ l. AreFrames (IsAnswerOrNone Answers) l text) same frames;
         written = written;
       },
     )
 
 -- answers to all of some questions are answers to the first of more
 pub WritesAnswers-all : (Answers : ℕ → List ℕ → Reply → Type 0) (all asked later : List Question) (before after : Option (List ℕ)) (text : List ℕ)
-    → all ≡ asked ++ later → AreFrames (IsAnswerTo Answers) asked text → Appends before after (first_line ++ text)
-    → (count : ℕ) × WritesAnswers (IsAnswerTo Answers) (take count all) before after
+    → all ≡ asked ++ later → AreFrames (IsAnswerOrNone Answers) asked text → Appends before after (first_line ++ text)
+    → (count : ℕ) × WritesAnswers (IsAnswerOrNone Answers) (take count all) before after
 WritesAnswers-all Answers all asked later before after text parts frames written =
     WritesAnswers-of Answers all asked later before after text (length asked) parts
-    (subst (λ l. AreFrames (IsAnswerTo Answers) l text) (sym (take-length asked)) frames) written
+    (subst (λ l. AreFrames (IsAnswerOrNone Answers) l text) (sym (take-length asked)) frames) written
 
 -- and a prefix of their answers
 pub WritesPrefix-all : (Answers : ℕ → List ℕ → Reply → Type 0) (all asked later : List Question) (before after : Option (List ℕ)) (text : List ℕ)
-    → all ≡ asked ++ later → AreFrames (IsAnswerTo Answers) asked text → Appends before after (first_line ++ text)
-    → WritesPrefix (IsAnswerTo Answers) all before after
+    → all ≡ asked ++ later → AreFrames (IsAnswerOrNone Answers) asked text → Appends before after (first_line ++ text)
+    → WritesPrefix (IsAnswerOrNone Answers) all before after
 WritesPrefix-all Answers all asked later before after text parts frames written =
     WritesPrefix-of Answers all asked later before after text (length (first_line ++ text)) parts frames
     (subst (Appends before after) (sym (take-length (first_line ++ text))) written)

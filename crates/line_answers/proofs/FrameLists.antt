@@ -1,9 +1,8 @@
 -- Frames of questions, one behind the other.
 use Rattle.std.proofs.Common.{inr, ℕ, List, [], ◌∷◌, ◌++◌, refl, sym, ap, ◌∙◌, append_assoc, append-nil}
 use Rattle.std.specs.List.{AllByRecursion}
-use Rattle.kh_replies.specs.Replies.{Reply, reply_of}
-use Rattle.kh_replies.specs.declared.status.Status.TheVariants.{NoMemory}
-use Rattle.line_answers.specs.Frames.{AreFrames, IsAnswerTo, frame_of}
+use Rattle.kh_replies.specs.Replies.{Reply}
+use Rattle.line_answers.specs.Frames.{AreFrames, IsAnswerOrNone, frame_of, no_memory}
 use Rattle.line_answers.specs.Questions.{Question}
 
 -- frames behind frames
@@ -32,9 +31,8 @@ AreFrames-map Kind Answers Others also (question ∷ asked) text all (reply, lat
     (reply, later, also question reply all.0 answer, AreFrames-map Kind Answers Others also asked later all.1 frames, same)
 
 -- there are frames of answers to all questions: those that say that there was no memory
-pub AreFrames-some : (Answers : ℕ → List ℕ → Reply → Type 0) (asked : List Question) → (text : List ℕ) × AreFrames (IsAnswerTo Answers) asked text
+pub AreFrames-some : (Answers : ℕ → List ℕ → Reply → Type 0) (asked : List Question) → (text : List ℕ) × AreFrames (IsAnswerOrNone Answers) asked text
 AreFrames-some Answers [] = ([], refl)
 AreFrames-some Answers (question ∷ asked) =
     let later = AreFrames-some Answers asked in
-    let none = reply_of NoMemory [] in
-    (frame_of question none ++ later.0, (none, later.0, inr refl, later.1, refl))
+    (frame_of question no_memory ++ later.0, (no_memory, later.0, inr refl, later.1, refl))

@@ -1,5 +1,6 @@
 -- How far a list is answered, between two lines.
-use Rattle.std.proofs.Common.{◌≡◌, ℕ, ◌+◌, ◌≤◌, List, [], ◌∷◌, ◌++◌, length, refl, sym, ap, subst, ◌∙◌, append_assoc, append-nil, codes, arith, Option}
+use Rattle.std.proofs.lemmas.Bool.{and_parts}
+use Rattle.std.proofs.Common.{◌≡◌, Bool, true, ◌&&◌, ℕ, ◌+◌, ◌≤◌, List, [], ◌∷◌, ◌++◌, length, refl, sym, ap, subst, ◌∙◌, append_assoc, append-nil, codes, arith, Option}
 use Rattle.std.proofs.lemmas.Grind.{flat_map-append}
 use Rattle.std.proofs.lemmas.List.{length-append}
 use Rattle.std.specs.List.{AllByRecursion, flat_map}
@@ -9,7 +10,8 @@ use Rattle.kh_lex.specs.Lines.{CutsLines, HasNoLineFeed, last_line, with_feed}
 use Rattle.kh_replies.specs.Replies.{Reply}
 use Rattle.kh_replies.specs.Told.{Seen}
 use Rattle.line_reader.specs.Advances.{IsAdvanced}
-use Rattle.line_answers.specs.Frames.{AreFrames, IsAnswerTo, first_line}
+use Rattle.line_answers.specs.Frames.{AreFrames, IsAnswerOrNone, IsAnswerTo, first_line}
+use Rattle.line_answers.specs.Answered.{AreAllAnswered}
 use Rattle.line_answers.specs.ListRuns.{EndsLines}
 use Rattle.line_answers.specs.Questions.{asked_by, numbered_line, questions}
 use Rattle.line_answers.proofs.FrameLists.{AreFrames-append}
@@ -23,18 +25,20 @@ pub record IsReadTo (before after : Option (List ℕ)) (buffered : List ℕ) (li
   pub whole : AllByRecursion HasNoLineFeed lines
 
 -- questions are answered behind the first line
-pub record IsWrittenTo (Answers : ℕ → List ℕ → Reply → Type 0) (fields : List ℕ) (lines : List (List ℕ)) (before after : Option (List ℕ)) : Type 0 where
+pub record IsWrittenTo (Answers : ℕ → List ℕ → Reply → Type 0) (fields : List ℕ) (lines : List (List ℕ)) (before after : Option (List ℕ))
+    (whole : Bool) : Type 0 where
   pub text : List ℕ
-  pub frames : AreFrames (IsAnswerTo Answers) (questions fields lines) text
+  pub frames : AreFrames (IsAnswerOrNone Answers) (questions fields lines) text
   pub written : Appends before after (first_line ++ text)
+  pub answers : whole ≡ true → AreFrames (IsAnswerTo Answers) (questions fields lines) text
 
 -- lines were read and answered, and the next one has this number
 pub record Progress (Answers : ℕ → List ℕ → Reply → Type 0) (fields : List ℕ) (source_before source_now sink_before sink_now : Seen)
-    (buffered : List ℕ) (number : ℕ) : Type 0 where
+    (buffered : List ℕ) (number : ℕ) (whole : Bool) : Type 0 where
   pub lines : List (List ℕ)
   pub count : number ≡ 1 + length lines
   pub read : IsReadTo source_before.bytes source_now.bytes buffered lines
-  pub answered : IsWrittenTo Answers fields lines sink_before.bytes sink_now.bytes
+  pub answered : IsWrittenTo Answers fields lines sink_before.bytes sink_now.bytes whole
   pub source_stayed : source_now.faults ≡ source_before.faults
   pub sink_stayed : sink_now.faults ≡ sink_before.faults
 
@@ -74,15 +78,18 @@ IsReadTo-line before between after buffered rest line lines read none next =
 
 -- a line more is answered
 pub IsWrittenTo-line : (Answers : ℕ → List ℕ → Reply → Type 0) (fields : List ℕ) (lines : List (List ℕ)) (line : List ℕ)
-    (before between after : Option (List ℕ)) (text : List ℕ) → IsWrittenTo Answers fields lines before between
-    → AreFrames (IsAnswerTo Answers) (asked_by fields (numbered_line (1 + length lines) line)) text → Appends between after text
-    → IsWrittenTo Answers fields (lines ++ line ∷ []) before after
-IsWrittenTo-line Answers fields lines line before between after text so_far frames written = record {
-  text = so_far.text ++ text;
-  frames = rw (questions-push fields lines line) (AreFrames-append (IsAnswerTo Answers) (questions fields lines)
-      (asked_by fields (numbered_line (1 + length lines) line)) so_far.text text so_far.frames frames);
-  written = subst (Appends before after) (append_assoc first_line so_far.text text)
-      (Appends-trans before between after (first_line ++ so_far.text) text so_far.written written);
+    (before between after : Option (List ℕ)) (whole later : Bool) → IsWrittenTo Answers fields lines before between whole
+    → AreAllAnswered Answers (asked_by fields (numbered_line (1 + length lines) line)) between after later
+    → IsWrittenTo Answers fields (lines ++ line ∷ []) before after (whole && later)
+IsWrittenTo-line Answers fields lines line before between after whole later so_far more = record {
+  text = so_far.text ++ more.text;
+  frames = rw (questions-push fields lines line) (AreFrames-append (IsAnswerOrNone Answers) (questions fields lines)
+      (asked_by fields (numbered_line (1 + length lines) line)) so_far.text more.text so_far.frames more.frames);
+  written = subst (Appends before after) (append_assoc first_line so_far.text more.text)
+      (Appends-trans before between after (first_line ++ so_far.text) more.text so_far.written more.written);
+  answers = λ both. let parts = and_parts whole later both in
+      rw (questions-push fields lines line) (AreFrames-append (IsAnswerTo Answers) (questions fields lines)
+      (asked_by fields (numbered_line (1 + length lines) line)) so_far.text more.text (so_far.answers parts.0) (more.answers parts.1));
 }
 
 -- what was read ends lines, where no line feed is buffered

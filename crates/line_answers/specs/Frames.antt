@@ -28,15 +28,21 @@ AreFrames Answers [] text = text ≡ []
 AreFrames Answers (question ∷ questions) text =
     (reply : Reply) × (later : List ℕ) × Answers question reply × AreFrames Answers questions later × (text ≡ frame_of question reply ++ later)
 
--- a reply to a line over a field: if it has more bytes than a code may have, it is refused for it, else answered; or there was no memory for
--- this, which the status says, and nothing else is
+-- the reply to a line over a field: if it has more bytes than a code may have, it is refused for it, else answered
 abbrev pub IsReplyTo : (ℕ → List ℕ → Reply → Type 0) → ℕ → List ℕ → Reply → Type 0
-IsReplyTo Answers field line reply =
-    IsLimitedReply (Some INPUT_BYTES) line (Answers field line) reply ⊎ (reply ≡ reply_of NoMemory [])
+IsReplyTo Answers field line reply = IsLimitedReply (Some INPUT_BYTES) line (Answers field line) reply
 
 -- the same of a question
 abbrev pub IsAnswerTo : (ℕ → List ℕ → Reply → Type 0) → Question → Reply → Type 0
 IsAnswerTo Answers question reply = IsReplyTo Answers question.field question.line.bytes reply
+
+-- the reply that stands for one for which memory was wanting: its status, and no text
+abbrev pub no_memory : Reply
+no_memory = reply_of NoMemory []
+
+-- the reply to a question, or that one in its place
+abbrev pub IsAnswerOrNone : (ℕ → List ℕ → Reply → Type 0) → Question → Reply → Type 0
+IsAnswerOrNone Answers question reply = IsAnswerTo Answers question reply ⊎ (reply ≡ no_memory)
 
 -- numbers in a frame that a u64 holds
 pub record IsSmallFrame (number field : ℕ) (reply : Reply) : Type 0 where

@@ -1,5 +1,5 @@
 -- What a run over a list of codes reads and writes. All of it is this project's rule.
-use Rattle.std.specs.Prelude.{◌≡◌, ◌≢◌, ◌⊎◌, ℕ, ◌-◌, ◌^◌, ◌≤◌, List, [], ◌++◌, length, take, Option, Result, Ok, Err}
+use Rattle.std.specs.Prelude.{◌≡◌, ◌≢◌, ◌⊎◌, ℕ, ◌-◌, ◌^◌, ◌≤◌, Bool, true, false, List, [], ◌++◌, length, take, Option, Result, Ok, Err}
 use Rattle.std.specs.List.{AllByRecursion, flat_map}
 use Rattle.std.specs.Io.KnownBytes.{Appends, Consumes, IsAtEnd}
 use Rattle.kh_io.specs.Faults.{Rose}
@@ -14,7 +14,7 @@ use Rattle.line_answers.specs.declared.frame.FrameStop.{FrameStop}
 use Rattle.line_answers.specs.declared.frame.FrameStop.TheVariants as frames
 use Rattle.line_answers.specs.declared.stop.ListStop.{ListStop}
 use Rattle.line_answers.specs.declared.stop.ListStop.TheVariants as stops
-use Rattle.line_answers.specs.Frames.{AreFrames, IsAnswerTo, first_line}
+use Rattle.line_answers.specs.Frames.{AreFrames, IsAnswerOrNone, IsAnswerTo, first_line}
 use Rattle.line_answers.specs.Questions.{Question, questions}
 
 -- the status with which a list ends
@@ -28,6 +28,11 @@ stop_status stops.NoMemory = NoMemory
 abbrev pub status_of : Result (Unit {0}) ListStop → Status
 status_of (Ok _) = Done
 status_of (Err stop) = stop_status stop
+
+-- the status with which a list ends that was read to its end, by whether there was memory for each reply
+abbrev pub end_status : Bool → Status
+end_status true = Done
+end_status false = NoMemory
 
 -- the stop of a list where there is no next line
 abbrev pub line_stop : LineStop → ListStop
@@ -73,20 +78,22 @@ pub record IsListRun (Answers : ℕ → List ℕ → Reply → Type 0) (fields :
   pub consumed : Consumes source_before.bytes source_after.bytes taken
   pub lines : List (List ℕ)
   pub read : AreRead source_after.bytes taken lines
-  -- it ended as done at the end of the source, and all its lines are answered
+  -- it ended as done at the end of the source, and all its lines are answered; on no other end are they
   pub done : status ≡ Done → IsAtEnd source_after.bytes × CutsLines taken lines
       × WritesAnswers (IsAnswerTo Answers) (questions fields lines) sink_before.bytes sink_after.bytes
-  -- on a fault of reading all lines that a line feed ended before it are answered
+  -- on a fault of reading all lines that a line feed ended before it have a frame, of an answer or for want of memory
   pub read_fault : status ≡ ReadFault → Rose source_before.faults source_after.faults × EndsLines taken lines
-      × WritesAnswers (IsAnswerTo Answers) (questions fields lines) sink_before.bytes sink_after.bytes
-  -- on a fault of writing a prefix of the answers is written
+      × WritesAnswers (IsAnswerOrNone Answers) (questions fields lines) sink_before.bytes sink_after.bytes
   pub write_fault : status ≡ WriteFault → Rose sink_before.faults sink_after.faults
-  pub begun : WritesPrefix (IsAnswerTo Answers) (questions fields lines) sink_before.bytes sink_after.bytes
-  -- out of memory nothing is written, or some of the questions are answered, from the first on
+  -- whatever the status is, a prefix of such frames is written
+  pub begun : WritesPrefix (IsAnswerOrNone Answers) (questions fields lines) sink_before.bytes sink_after.bytes
+  -- out of memory nothing is written, or whole frames of the first questions, or of all, where it was wanting for some of them
   pub memory : status ≡ NoMemory → Appends sink_before.bytes sink_after.bytes [] ⊎ ((count : ℕ)
-      × WritesAnswers (IsAnswerTo Answers) (take count (questions fields lines)) sink_before.bytes sink_after.bytes)
-  -- a list of fewer bytes than stand here is read to its end; there is no other end, and without a fault no count has risen
-  pub limit : status ≡ Limit → 2 ^ 64 - 2 ≤ length taken
+      × WritesAnswers (IsAnswerOrNone Answers) (take count (questions fields lines)) sink_before.bytes sink_after.bytes)
+  -- a list of fewer bytes than stand here has no limit; beyond it whole frames of the first questions are written
+  pub limit : status ≡ Limit → (2 ^ 64 - 2 ≤ length taken) × ((count : ℕ)
+      × WritesAnswers (IsAnswerOrNone Answers) (take count (questions fields lines)) sink_before.bytes sink_after.bytes)
+  -- there is no other end, and without a fault no count has risen
   pub ended : (status ≡ Done) ⊎ (status ≡ ReadFault) ⊎ (status ≡ WriteFault) ⊎ (status ≡ Limit) ⊎ (status ≡ NoMemory)
   pub quiet_source : status ≢ ReadFault → source_after.faults ≡ source_before.faults
   pub quiet_sink : status ≢ WriteFault → sink_after.faults ≡ sink_before.faults

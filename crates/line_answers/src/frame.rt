@@ -1,12 +1,13 @@
 //! Replies in frames.
 
-ghost use Rattle.std.specs.Prelude.{◌≡◌, ◌≢◌, ℕ, ◌+◌, List, [], ◌∷◌, take, Some, Err, IfOk};
+ghost use Rattle.std.specs.Prelude.{◌≡◌, ◌≢◌, ℕ, ◌+◌, List, [], ◌∷◌, take, Some, Err, IfErr, IfOk};
+ghost use Rattle.std.specs.Io.KnownBytes.{Appends};
 ghost use Rattle.kh_io.specs.Faults.{Rose};
 ghost use Rattle.kh_types.specs.declared.limits.TheConstants.{INPUT_BYTES};
 ghost use Rattle.kh_replies.specs.LimitedReplies.{IsLimitedReply};
 ghost use Rattle.line_reader.specs.Lines.{kept};
-ghost use Rattle.line_answers.specs.Answered.{AreAnswered};
-ghost use Rattle.line_answers.specs.Frames.{IsReplyTo, frame};
+ghost use Rattle.line_answers.specs.Answered.{AreAnswered, IsPartWritten};
+ghost use Rattle.line_answers.specs.Frames.{frame};
 ghost use Rattle.line_answers.specs.Questions.{numbered_line, question};
 
 use crate::answering::Answering;
@@ -55,40 +56,50 @@ pub struct Asked<'a> {
     pub line: &'a Line,
 }
 
-/// Answers a line over a field, and writes the reply in its frame.
+/// Answers a line over a field, and writes the reply in its frame; out of memory for the reply, one
+/// that says so. Whether there was memory.
 pub fn answer<A: Answering, K: Sink>(
     alloc: Global,
     answering: &A,
     field: FieldSize,
     asked: Asked<'_>,
     sink: &mut K,
-) -> Result<(), FrameStop>
+) -> Result<bool, FrameStop>
     ensures answered { (bytes : List ℕ) → asked.entry.line.now ≡ kept bytes
         → AreAnswered (A.answers answering.now) (question (numbered_line asked.entry.number bytes) field ∷ [])
         (K.written sink.old) (K.written sink.new) result }
     ensures fault { result ≡ Err FrameStop.Fault → Rose (K.faults sink.old) (K.faults sink.new) }
     ensures stayed { result ≢ Err FrameStop.Fault → K.faults sink.new ≡ K.faults sink.old }
 {
-    let reply = reply_or_none(alloc, answering, field, asked.line.bytes());
-    let text = frame(alloc, asked.number, field, &reply)?;
-    write_all(sink, &text)?;
-    Ok(())
+    match reply_to_line(alloc, answering, field, asked.line.bytes()) {
+        Ok(reply) => {
+            write_frame(alloc, asked.number, field, &reply, sink)?;
+            Ok(true)
+        }
+        Err(NoMemory) => {
+            let none = reply_made(Status::NoMemory, Vec::new(alloc));
+            write_frame(alloc, asked.number, field, &none, sink)?;
+            Ok(false)
+        }
+    }
 }
 
-/// The reply to a line, of which the first bytes are given; out of memory, one that says so.
-fn reply_or_none<A: Answering>(
+/// Writes the frame of a reply.
+fn write_frame<K: Sink>(
     alloc: Global,
-    answering: &A,
+    number: u64,
     field: FieldSize,
-    bytes: &[u8],
-) -> Reply
-    ensures { (line : List ℕ) → bytes.now ≡ take (INPUT_BYTES + 1) line
-        → IsReplyTo (A.answers answering.now) field line result }
+    reply: &Reply,
+    sink: &mut K,
+) -> Result<(), FrameStop>
+    ensures whole { IfOk result (λ _. Appends (K.written sink.old) (K.written sink.new) (frame number field reply.now)) }
+    ensures part { IfErr result (IsPartWritten (frame number field reply.now) (K.written sink.old) (K.written sink.new)) }
+    ensures fault { result ≡ Err FrameStop.Fault → Rose (K.faults sink.old) (K.faults sink.new) }
+    ensures stayed { result ≢ Err FrameStop.Fault → K.faults sink.new ≡ K.faults sink.old }
 {
-    match reply_to_line(alloc, answering, field, bytes) {
-        Ok(reply) => reply,
-        Err(NoMemory) => reply_made(Status::NoMemory, Vec::new(alloc)),
-    }
+    let text = frame(alloc, number, field, reply)?;
+    write_all(sink, &text)?;
+    Ok(())
 }
 
 /// The reply to a line, of which the first bytes are given.

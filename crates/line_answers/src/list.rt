@@ -5,7 +5,7 @@ ghost use Rattle.kh_io.specs.Faults.{Rose};
 ghost use Rattle.line_reader.specs.Lines.{kept};
 ghost use Rattle.kh_replies.specs.Told.{seen};
 ghost use Rattle.line_answers.specs.Answered.{AreAnswered};
-ghost use Rattle.line_answers.specs.ListRuns.{IsListRun, status_of};
+ghost use Rattle.line_answers.specs.ListRuns.{IsListRun, end_status, status_of};
 ghost use Rattle.line_answers.specs.Questions.{asked_by, numbered_line, question};
 
 use crate::answering::Answering;
@@ -21,7 +21,8 @@ use std::alloc::Global;
 const FIRST_LINE: &str = "answers 1\n";
 
 /// Answers each line of a source that is not blank, over each of the fields, as soon as it has been
-/// read, and writes each reply in a frame behind a first line. Answers how the run ended.
+/// read, and writes each reply in a frame behind a first line. Where memory is wanting for a reply,
+/// a frame says so, and it goes on. Answers how the run ended.
 /// Source: this project's rule.
 pub fn answer_list<A: Answering, S: Source, K: Sink>(
     alloc: Global,
@@ -55,6 +56,7 @@ fn lines_answered<A: Answering, S: Source, K: Sink>(
 {
     write_all(sink, FIRST_LINE.as_bytes())?;
     let mut buffered = Buffered::new();
+    let mut whole = true;
     'lines: for number in 1..u64::MAX {
         match next_line(alloc, source, &mut buffered)? {
             NextLine::Ended(line) => {
@@ -62,29 +64,41 @@ fn lines_answered<A: Answering, S: Source, K: Sink>(
                     number,
                     line: &line,
                 };
-                answer_over(alloc, answering, fields, asked, sink)?;
+                whole &= answer_over(alloc, answering, fields, asked, sink)?;
             }
             NextLine::Last(line) => {
                 let asked = Asked {
                     number,
                     line: &line,
                 };
-                answer_over(alloc, answering, fields, asked, sink)?;
-                return Ok(());
+                whole &= answer_over(alloc, answering, fields, asked, sink)?;
+                return ended(whole);
             }
         }
     }
     Err(ListStop::Limit)
 }
 
-/// Answers a line over each of some fields, unless it is blank.
+/// How a list ends that was read to its end: out of memory where that was wanting for some reply.
+fn ended(whole: bool) -> Result<(), ListStop>
+    ensures { status_of result ≡ end_status whole }
+{
+    if whole {
+        Ok(())
+    } else {
+        Err(ListStop::NoMemory)
+    }
+}
+
+/// Answers a line over each of some fields, unless it is blank. Whether there was memory for each
+/// reply.
 fn answer_over<A: Answering, K: Sink>(
     alloc: Global,
     answering: &A,
     fields: &[FieldSize],
     asked: Asked<'_>,
     sink: &mut K,
-) -> Result<(), FrameStop>
+) -> Result<bool, FrameStop>
     ensures answered { (bytes : List ℕ) → asked.entry.line.now ≡ kept bytes
         → AreAnswered (A.answers answering.now) (asked_by fields.now (numbered_line asked.entry.number bytes))
         (K.written sink.old) (K.written sink.new) result }
@@ -94,26 +108,27 @@ fn answer_over<A: Answering, K: Sink>(
     if asked.line.has_code() {
         answer_over_each(alloc, answering, fields, asked, sink)
     } else {
-        Ok(())
+        Ok(true)
     }
 }
 
-/// Answers a line over each of some fields.
+/// Answers a line over each of some fields. Whether there was memory for each reply.
 fn answer_over_each<A: Answering, K: Sink>(
     alloc: Global,
     answering: &A,
     fields: &[FieldSize],
     asked: Asked<'_>,
     sink: &mut K,
-) -> Result<(), FrameStop>
+) -> Result<bool, FrameStop>
     ensures answered { (bytes : List ℕ) → asked.entry.line.now ≡ kept bytes
         → AreAnswered (A.answers answering.now) (map (question (numbered_line asked.entry.number bytes)) fields.now)
         (K.written sink.old) (K.written sink.new) result }
     ensures fault { result ≡ Err FrameStop.Fault → Rose (K.faults sink.old) (K.faults sink.new) }
     ensures stayed { result ≢ Err FrameStop.Fault → K.faults sink.new ≡ K.faults sink.old }
 {
+    let mut whole = true;
     'fields: for field in fields {
-        answer(alloc, answering, *field, asked, sink)?;
+        whole &= answer(alloc, answering, *field, asked, sink)?;
     }
-    Ok(())
+    Ok(whole)
 }

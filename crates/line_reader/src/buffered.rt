@@ -1,6 +1,6 @@
 //! Bytes that were read before they are wanted.
 
-ghost use Rattle.std.specs.Prelude.{◌≡◌, [], IfOk, OnErr};
+ghost use Rattle.std.specs.Prelude.{◌≡◌, ◌≢◌, ◌+◌, ◌≤◌, [], IfOk, OnErr};
 ghost use Rattle.kh_io.specs.Faults.{HasCause};
 ghost use Rattle.std.specs.Io.KnownBytes.{IsAtEnd};
 ghost use Rattle.line_reader.specs.Advances.{IsAdvanced, IsNextByte, IsTakenFrom};
@@ -49,6 +49,8 @@ impl Buffered {
             (IsAdvanced self.old self.new (S.left source.old) (S.left source.new) []) }
         ensures emptied { OnErr result (self.new ≡ []) }
         ensures cause { HasCause (S.faults source.old) (S.faults source.new) result }
+        ensures unread { self.old ≢ [] → source.new ≡ source.old }
+        ensures reads { S.reads source.new ≤ S.reads source.old + 1 }
     {
         match self.take_byte() {
             Some(byte) => Ok(Some(byte)),
@@ -69,6 +71,7 @@ impl Buffered {
             (IsAdvanced self.old self.new (S.left source.old) (S.left source.new) []) }
         ensures emptied { OnErr result (self.new ≡ []) }
         ensures cause { HasCause (S.faults source.old) (S.faults source.new) result }
+        ensures reads { S.reads source.new ≤ S.reads source.old + 1 }
     {
         self.at = 0;
         self.end = 0;

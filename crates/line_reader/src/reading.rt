@@ -16,7 +16,7 @@ use std::alloc::Global;
 pub enum LineStop {
     /// A read failed.
     Fault,
-    /// The line goes on behind 2^64 - 1 bytes.
+    /// The line has 2^64 - 1 bytes and more.
     Limit,
     /// Out of memory.
     NoMemory,

@@ -45,13 +45,12 @@ HasHomology-reply asked reply code sized text is = record {
 
 -- an answer over one of the four fields
 pub IsTableTo-answer : (asked : Question) (reply : Reply) → IsFieldSize asked.field → IsAnswerTo IsTextReply asked reply → IsTableTo asked reply
-IsTableTo-answer asked reply sized (inl limited) = record {
-  answer = inl limited;
-  homology = λ code text. inl (HasHomology-reply asked reply code sized text
-      (IsScanReply-one asked.field asked.line.bytes reply (reply_of Done (homology_text asked.field code)) limited
-      (table-reply asked.line.bytes asked.field code text)));
+IsTableTo-answer asked reply sized answer = record {
+  answer = answer;
+  homology = λ code text. HasHomology-reply asked reply code sized text
+      (IsScanReply-one asked.field asked.line.bytes reply (reply_of Done (homology_text asked.field code)) answer
+      (table-reply asked.line.bytes asked.field code text));
 }
-IsTableTo-answer asked reply sized (inr none) = record { answer = inr none; homology = λ code text. inr none }
 
 abbrev Sized : Question → Type 0
 Sized asked = IsFieldSize asked.field

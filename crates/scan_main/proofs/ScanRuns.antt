@@ -33,7 +33,7 @@ use Rattle.scan_main.specs.ScanRuns.{IsAnsweredOver, IsDoneFor, IsReadOver, IsRe
 use Rattle.scan_main.specs.Scans.{IsScanAnswer, IsScanReply, IsTableReply, IsTextReply, ReadsUpTo, request_of, scan_usage, sizes_of}
 use Rattle.scan_main.proofs.ScanAnswers.{IsScanAnswer-one, IsScanCommand-size, alone-or-each, same-fields, table-reply}
 
-IsScanAnswer-command : (words : List (List ℕ)) (bytes : List ℕ) (field : ℕ) (reply : Reply)
+pub IsScanAnswer-command : (words : List (List ℕ)) (bytes : List ℕ) (field : ℕ) (reply : Reply)
     → IsScanCommand words (Alone field) → IsScanReply field bytes reply → IsScanAnswer words bytes reply
 unfolding IsScanAnswer
 IsScanAnswer-command words bytes field reply meant replied = inl (field, meant, replied)

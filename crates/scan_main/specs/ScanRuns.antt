@@ -14,9 +14,9 @@ use Rattle.word_line.specs.declared.scan_command.ScanCommand.{ScanCommand}
 use Rattle.word_line.specs.declared.scan_command.ScanCommand.TheVariants.{Alone, Each}
 use Rattle.word_line.specs.ScanCommands.{IsScanCommand}
 use Rattle.kh_replies.specs.declared.status.Status.{Status}
-use Rattle.kh_replies.specs.declared.status.Status.TheVariants.{Done, NoMemory}
+use Rattle.kh_replies.specs.declared.status.Status.TheVariants.{Done}
 use Rattle.kh_replies.specs.Inputs.{IsDiagramText}
-use Rattle.kh_replies.specs.Replies.{Reply, reply_of}
+use Rattle.kh_replies.specs.Replies.{Reply}
 use Rattle.kh_replies.specs.Runs.{IsKnown, IsRun, IsWritten}
 use Rattle.kh_replies.specs.Statuses.{IsReplyStatus}
 use Rattle.kh_replies.specs.declared.stop.ReplyStop.{ReplyStop}
@@ -53,12 +53,10 @@ pub record HasHomology (p : ℕ) (code : Code) (reply : Reply) : Type 0 where
   pub text : reply.text ≡ table_text (table p code) ++ polynomial_text (state_sum code)
   pub sum : (exponent : ℤ) → state_sum code exponent ≡ euler (table p code) exponent
 
--- the reply to a line over a field: where the line is the text of the code of an accepted diagram, its homology, unless there was no memory
--- for that
+-- the reply to a line over a field: where the line is the text of the code of an accepted diagram, it is its homology
 pub record IsTableTo (question : Question) (reply : Reply) : Type 0 where
   pub answer : IsAnswerTo IsTextReply question reply
-  pub homology : (code : Code) → IsDiagramText question.line.bytes code
-      → HasHomology question.field code reply ⊎ (reply ≡ reply_of NoMemory [])
+  pub homology : (code : Code) → IsDiagramText question.line.bytes code → HasHomology question.field code reply
 
 -- a run that nothing disturbed, whose words ask for a list over some fields, of fewer than 2^64 - 2 bytes, answers each of its lines that is
 -- not blank over each of the fields, in their order, those that are texts of accepted diagrams by their homology

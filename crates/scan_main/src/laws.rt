@@ -35,8 +35,15 @@ pub fn scans_answer_as_cubes()
         → IsAnswer others bytes reply → IsScanAnswer words bytes reply }
 {}
 
-/// A line of a list that is the text of an accepted diagram is answered by its homology, unless
-/// there is no memory for that.
+/// A line of a list is answered as it is alone, without its line feed: its answer over a field is
+/// the one to its bytes and to words that ask for this field.
+pub fn lines_are_answered_as_alone()
+    ensures { (words : List (List ℕ)) (asked : Question) (reply : Reply)
+        → IsScanCommand words (Alone asked.field) → IsAnswerTo IsTextReply asked reply
+        → IsScanAnswer words asked.line.bytes reply }
+{}
+
+/// A line that is the text of an accepted diagram is answered by its homology.
 pub fn lines_are_answered_by_tables()
     ensures { (asked : Question) (reply : Reply) → IsFieldSize asked.field
         → IsAnswerTo IsTextReply asked reply → IsTableTo asked reply }

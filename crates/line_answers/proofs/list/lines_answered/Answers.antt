@@ -43,13 +43,13 @@ returns-in_err-line g c =
     (seen (g.S.Source.left c.next_line.new.source) (g.S.Source.faults c.next_line.new.source))
     (seen (g.K.Sink.written c.args.sink.now) (g.K.Sink.faults c.args.sink.now))
     (seen (g.K.Sink.written c.lines.sink) (g.K.Sink.faults c.lines.sink))
-    c.lines.buffered c.next_line.new.buffered c.lines.number c.in_err-line.field-0.0 c.lines.invariant c.in_err-line.ensures.begun
+    c.lines.buffered c.next_line.new.buffered c.lines.number c.lines.whole c.in_err-line.field-0.0 c.lines.invariant c.in_err-line.ensures.begun
     (λ is. c.in_err-line.ensures.fault (ap Err is)) (λ other. c.in_err-line.ensures.stayed (λ is. other (cc))))
 
 -- a line is not answered whole
-pub returns-in_err-answer_over-in-Ended : goal.returns-in_err-answer_over-in-Ended
-returns-in_err-answer_over-in-Ended g c =
-    let stop = err_from_is_err_and c.from_residual-in_err-answer_over-in-Ended.result c.from_residual-in_err-answer_over-in-Ended.ensures.1 in
+pub returns-in_err-whole-in-Ended : goal.returns-in_err-whole-in-Ended
+returns-in_err-whole-in-Ended g c =
+    let stop = err_from_is_err_and c.from_residual-in_err-whole-in-Ended.result c.from_residual-in_err-whole-in-Ended.ensures.1 in
     let Next : NextLine → Type 0 =
     IsNextLine c.lines.buffered c.next_line.new.buffered (g.S.Source.left c.lines.source) (g.S.Source.left c.next_line.new.source) in
     let line = subst Next c.in-Ended.is c.in_ok-line.ensures.line in
@@ -61,15 +61,15 @@ returns-in_err-answer_over-in-Ended g c =
     (seen (g.K.Sink.written c.args.sink.now) (g.K.Sink.faults c.args.sink.now))
     (seen (g.K.Sink.written c.lines.sink) (g.K.Sink.faults c.lines.sink))
     (seen (g.K.Sink.written c.answer_over.new.sink) (g.K.Sink.faults c.answer_over.new.sink))
-    c.lines.buffered c.next_line.new.buffered c.lines.number c.in-Ended.line c.in_err-answer_over-in-Ended.field-0.0 c.lines.invariant line
-    (c.in_err-answer_over-in-Ended.ensures.answered line.line line.kept_of)
-    (λ is. c.in_err-answer_over-in-Ended.ensures.fault (ap Err is)) (λ other. c.in_err-answer_over-in-Ended.ensures.stayed (λ is. other (cc)))
+    c.lines.buffered c.next_line.new.buffered c.lines.number c.lines.whole c.in-Ended.line c.in_err-whole-in-Ended.field-0.0 c.lines.invariant line
+    (c.in_err-whole-in-Ended.ensures.answered line.line line.kept_of)
+    (λ is. c.in_err-whole-in-Ended.ensures.fault (ap Err is)) (λ other. c.in_err-whole-in-Ended.ensures.stayed (λ is. other (cc)))
     (c.in_ok-line.ensures.stayed (λ bad. cc)))
 
 -- the last line is not
-pub returns-in_err-answer_over-in-Last : goal.returns-in_err-answer_over-in-Last
-returns-in_err-answer_over-in-Last g c =
-    let stop = err_from_is_err_and c.from_residual-in_err-answer_over-in-Last.result c.from_residual-in_err-answer_over-in-Last.ensures.1 in
+pub returns-in_err-whole-in-Last : goal.returns-in_err-whole-in-Last
+returns-in_err-whole-in-Last g c =
+    let stop = err_from_is_err_and c.from_residual-in_err-whole-in-Last.result c.from_residual-in_err-whole-in-Last.ensures.1 in
     let Next : NextLine → Type 0 =
     IsNextLine c.lines.buffered c.next_line.new.buffered (g.S.Source.left c.lines.source) (g.S.Source.left c.next_line.new.source) in
     let line = subst Next c.in-Last.is c.in_ok-line.ensures.line in
@@ -81,9 +81,9 @@ returns-in_err-answer_over-in-Last g c =
     (seen (g.K.Sink.written c.args.sink.now) (g.K.Sink.faults c.args.sink.now))
     (seen (g.K.Sink.written c.lines.sink) (g.K.Sink.faults c.lines.sink))
     (seen (g.K.Sink.written c.answer_over-in-Last.new.sink) (g.K.Sink.faults c.answer_over-in-Last.new.sink))
-    c.lines.buffered c.next_line.new.buffered c.lines.number c.in-Last.line c.in_err-answer_over-in-Last.field-0.0 c.lines.invariant line.0 line.1
-    (c.in_err-answer_over-in-Last.ensures.answered line.0.line line.0.kept_of)
-    (λ is. c.in_err-answer_over-in-Last.ensures.fault (ap Err is)) (λ other. c.in_err-answer_over-in-Last.ensures.stayed (λ is. other (cc)))
+    c.lines.buffered c.next_line.new.buffered c.lines.number c.lines.whole c.in-Last.line c.in_err-whole-in-Last.field-0.0 c.lines.invariant line.0 line.1
+    (c.in_err-whole-in-Last.ensures.answered line.0.line line.0.kept_of)
+    (λ is. c.in_err-whole-in-Last.ensures.fault (ap Err is)) (λ other. c.in_err-whole-in-Last.ensures.stayed (λ is. other (cc)))
     (c.in_ok-line.ensures.stayed (λ bad. cc)))
 
 -- the last line is answered
@@ -92,16 +92,17 @@ returns-in-Last g c =
     let Next : NextLine → Type 0 =
     IsNextLine c.lines.buffered c.next_line.new.buffered (g.S.Source.left c.lines.source) (g.S.Source.left c.next_line.new.source) in
     let line = subst Next c.in-Last.is c.in_ok-line.ensures.line in
-    IsListRun-done (g.A.Answering.answers c.args.answering.now) c.args.fields.now
+    rw c.ended.ensures
+    (IsListRun-done (g.A.Answering.answers c.args.answering.now) c.args.fields.now
     (seen (g.S.Source.left c.args.source.now) (g.S.Source.faults c.args.source.now))
     (seen (g.S.Source.left c.lines.source) (g.S.Source.faults c.lines.source))
     (seen (g.S.Source.left c.next_line.new.source) (g.S.Source.faults c.next_line.new.source))
     (seen (g.K.Sink.written c.args.sink.now) (g.K.Sink.faults c.args.sink.now))
     (seen (g.K.Sink.written c.lines.sink) (g.K.Sink.faults c.lines.sink))
     (seen (g.K.Sink.written c.answer_over-in-Last.new.sink) (g.K.Sink.faults c.answer_over-in-Last.new.sink))
-    c.lines.buffered c.next_line.new.buffered c.lines.number c.in-Last.line c.lines.invariant line.0 line.1
-    (c.in_ok-answer_over-in-Last.ensures.answered line.0.line line.0.kept_of)
-    (c.in_ok-line.ensures.stayed (λ bad. cc)) (c.in_ok-answer_over-in-Last.ensures.stayed (λ bad. cc))
+    c.lines.buffered c.next_line.new.buffered c.lines.number c.lines.whole c.in_ok-whole-in-Last.field-0 c.in-Last.line c.lines.invariant line.0 line.1
+    (c.in_ok-whole-in-Last.ensures.answered line.0.line line.0.kept_of)
+    (c.in_ok-line.ensures.stayed (λ bad. cc)) (c.in_ok-whole-in-Last.ensures.stayed (λ bad. cc)))
 
 -- a line more is answered
 pub lines-preserved : goal.lines-preserved
@@ -116,9 +117,9 @@ lines-preserved g c =
     (seen (g.K.Sink.written c.args.sink.now) (g.K.Sink.faults c.args.sink.now))
     (seen (g.K.Sink.written c.lines.sink) (g.K.Sink.faults c.lines.sink))
     (seen (g.K.Sink.written c.answer_over.new.sink) (g.K.Sink.faults c.answer_over.new.sink))
-    c.lines.buffered c.next_line.new.buffered c.lines.number c.in-Ended.line c.lines.invariant line
-    (c.in_ok-answer_over-in-Ended.ensures.answered line.line line.kept_of)
-    (c.in_ok-line.ensures.stayed (λ bad. cc)) (c.in_ok-answer_over-in-Ended.ensures.stayed (λ bad. cc))
+    c.lines.buffered c.next_line.new.buffered c.lines.number c.lines.whole c.in_ok-whole-in-Ended.field-0 c.in-Ended.line c.lines.invariant line
+    (c.in_ok-whole-in-Ended.ensures.answered line.line line.kept_of)
+    (c.in_ok-line.ensures.stayed (λ bad. cc)) (c.in_ok-whole-in-Ended.ensures.stayed (λ bad. cc))
 
 -- the turns are at their end
 pub returns : goal.returns
@@ -128,4 +129,4 @@ returns g c =
     (seen (g.S.Source.left c.lines.source) (g.S.Source.faults c.lines.source))
     (seen (g.K.Sink.written c.args.sink.now) (g.K.Sink.faults c.args.sink.now))
     (seen (g.K.Sink.written c.lines.sink) (g.K.Sink.faults c.lines.sink))
-    c.lines.buffered c.lines.number c.lines.invariant (omega (arith, c.lines-test.false))
+    c.lines.buffered c.lines.number c.lines.whole c.lines.invariant (omega (arith, c.lines-test.false))
