@@ -1,8 +1,8 @@
 #!/bin/bash
 # A job array for Slurm: each task takes one part of a list. Begin at the top of the repository; what the tasks write goes to `out/parts`:
 #
-#   mkdir -p out/parts && split -l 1000 -d -a 4 out/list.tsv out/parts/part-
-#   sbatch --array=0-$(($(ls out/parts/part-???? | wc -l) - 1)) tabulate/array.slurm
+#   tabulate/kh-tabulate cut --links 1000 out/list.tsv out/parts
+#   sbatch --array=0-$(($(ls out/parts/part-?????? | wc -l) - 1)) tabulate/array.slurm
 #   tabulate/kh-tabulate store out/results.db out/parts/*.jsonl        (when all have ended)
 #
 # A task that was stopped, requeued or killed goes on within its part when it is started again, as Slurm does where a node fails; all parts
@@ -15,6 +15,6 @@
 #SBATCH --requeue
 #SBATCH --open-mode=append
 #SBATCH --output=out/parts/task-%a.log
-part=$(printf 'out/parts/part-%04d' "$SLURM_ARRAY_TASK_ID")
+part=$(printf 'out/parts/part-%06d' "$SLURM_ARRAY_TASK_ID")
 exec tabulate/kh-tabulate work --fields "${FIELDS:-2}" ${SCAN:+--scan "$SCAN"} ${KH:+--kh "$KH"} ${PROGRAM:+--program "$PROGRAM"} \
     "$part" "$part.jsonl"

@@ -5,6 +5,7 @@ Each question has a head and gives rows, and counts what it has seen, for the la
 links is in temporary tables of the database, and not in memory.
 """
 import hashlib
+import re
 import sys
 from itertools import groupby
 from typing import Callable, NamedTuple
@@ -13,6 +14,8 @@ from programs import TABLE
 from results import ANSWERED, Fault, dimensions_of, text_of
 
 FIELDS = (2, 3, 5, 7)
+# The lines of `kh-scan each` before its answers.
+FRAMED = re.compile(r"^(answers 1|code \d+ field [2357] status 0 bytes \d+)\n", re.M)
 KEYS = """
 create temporary table keys (
     place integer primary key, name text, code text, fields text, jones text, tables blob, mirrored blob, class blob
@@ -192,12 +195,18 @@ def refused(asked, counts):
         yield from ((name, listed(fields), status, line, code) for (status, line), fields in lines.items())
 
 
-def given_tables(text):
-    """The texts of the tables of standard input by their fields, as results have them."""
-    found = {int(it[0].split()[3]): it[1].replace("j ", "").replace(" i ", " ").replace(" dim ", " ") for it in TABLE.finditer(text)}
+def given_tables(text, fields):
+    """The texts of the tables of standard input over these fields, or all, as results have them: those of one link, in frames or without."""
+    text, found = FRAMED.sub("", text), {}
+    for it in TABLE.finditer(text):
+        field, rows = int(it[0].split()[3]), it[1].replace("j ", "").replace(" i ", " ").replace(" dim ", " ")
+        if found.setdefault(field, rows) != rows:
+            raise Fault(f"standard input has two tables over {field} elements; those of one link are wanted")
     if not found or TABLE.sub("", text).strip():
         raise Fault("standard input has no tables, as kh-scan and kh homology write them")
-    return {field: rows.replace("\n", "; ")[:-2] for field, rows in found.items()}
+    if fields and not set(fields) & set(found):
+        raise Fault(f"standard input has tables over other fields: {listed(found)}")
+    return {field: rows.replace("\n", "; ")[:-2] for field, rows in found.items() if not fields or field in fields}
 
 
 def links_with(asked, tables):
@@ -213,7 +222,7 @@ def links_with(asked, tables):
 
 def table(asked, counts):
     """The links that have the tables of standard input, or whose mirror images have them where these are asked for."""
-    tables = given_tables(sys.stdin.read())
+    tables = given_tables(sys.stdin.read(), asked.fields)
     mirrored = {field: mirror_text(text) for field, text in tables.items()}
     kinds = [(BOTH if tables == mirrored else SAME, tables)]
     kinds += [(MIRROR, mirrored)] if asked.mirror and tables != mirrored else []
@@ -229,7 +238,7 @@ QUESTIONS = {
     "torsion": Question(
         torsion,
         ("name", "j", "i", *(f"over_{field}" for field in FIELDS), "code"),
-        "links with torsion: {torsion}; without: {none}; of which too few fields are known: {unknown}",
+        "links with torsion: {torsion}; without: {none}; known over too few fields: {unknown}",
     ),
     "jones": Question(
         jones,

@@ -36,6 +36,7 @@ BRAID, DOWKER, MISSING = "braid", "dowker", "missing"
 # The columns of a table that have codes, by their headings, the first of them that a row fills being read; and the forms of their codes.
 COLUMNS = {
     "pd_notation": "",
+    "pd_notation_vector": "",
     "pd_code": "",
     "pd": "",
     "braid_notation": BRAID,

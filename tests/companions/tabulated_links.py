@@ -164,6 +164,15 @@ TREFOILS = "2\tb\t2,3\t{0}trefoil\n2\td\t2,3\t{0}trefoil turned\n"
 OF_SCANS = "table 2\nfield {0}\nj 1 i 0 dim 1\nj 3 i 0 dim 1\nj 5 i 2 dim 1\n{1}j 9 i 3 dim 1\njones 1*q^1 1*q^3 1*q^5 -1*q^9\n"
 TABLE = OF_SCANS.format(3, "") + OF_SCANS.format(2, "j 7 i 2 dim 1\nj 7 i 3 dim 1\n")
 WITH = "name\ttable\tcode\nb\tsame\ttrefoil\nd\tsame\ttrefoil turned\n"
+FRAMES = "answers 1\n" + "".join(f"code 1 field {it[14]} status 0 bytes {len(it)}\n{it}" for it in (TABLE[: TABLE.rindex("table")],))
+OVER_THREE = WITH + "e\tmirror\tmirrored\n"
+GIVEN = (
+    ("no table\n", (), "", "standard input has no tables"),
+    (TABLE + OF_SCANS.format(2, ""), (), "", "two tables over 2 elements"),
+    (TABLE, ("--fields", "5"), "", "tables over other fields: 3,2"),
+    (FRAMES, ("--mirror",), OVER_THREE, "links with this table: 3"),
+    (TABLE, ("--mirror", "--fields", "3"), OVER_THREE, "links with this table: 3"),
+)
 QUESTIONS = [
     (("same",), SAME + UNKNOTS.format("2,3", "") + TREFOILS.format(""), "classes: 2; links in them: 5, of 8 with a table"),
     (
@@ -171,10 +180,10 @@ QUESTIONS = [
         SIDES + UNKNOTS.format("2,3", "both\t") + TREFOILS.format("same\t") + "2\te\t2,3\tmirror\tmirrored\n",
         "classes: 2; links in them: 6, of 8 with a table",
     ),
-    (("torsion",), TORSION + EVEN + THREE, "links with torsion: 4; without: 4; of which too few fields are known: 2"),
-    (("torsion", "--prime", "3"), TORSION + THREE, "links with torsion: 1; without: 7; of which too few fields are known: 2"),
-    (("torsion", "--prime", "5"), TORSION, "links with torsion: 0; without: 0; of which too few fields are known: 10"),
-    (("torsion", "--fields", "3"), TORSION, "links with torsion: 0; without: 0; of which too few fields are known: 9"),
+    (("torsion",), TORSION + EVEN + THREE, "links with torsion: 4; without: 4; known over too few fields: 2"),
+    (("torsion", "--prime", "3"), TORSION + THREE, "links with torsion: 1; without: 7; known over too few fields: 2"),
+    (("torsion", "--prime", "5"), TORSION, "links with torsion: 0; without: 0; known over too few fields: 10"),
+    (("torsion", "--fields", "3"), TORSION, "links with torsion: 0; without: 0; known over too few fields: 9"),
     (
         ("jones",),
         JONES + "1\t1\ta\t2,3\tPD[Loop[1]]\n1\t1\tc\t2,3\tPD[Loop[2]]\n1\t1\tmended\t2,3\tPD[]\n1\t2\tg\t2,3\tthreefold\n"
@@ -201,8 +210,13 @@ def questions(folder):
         found = (*came.communicate(TABLE if question == "table" else None, timeout=PATIENCE), came.returncode)
         if found != (wrote, f"kh-tabulate: {said}\n", 0):
             return f"{question} {options}: {found} and not {wrote}{said}"
-    status, _, errors = folder.run("query", "table", folder.at("results.db"), given="no table\n")
-    return None if status == 1 and "standard input has no tables" in errors else errors
+    return next(filter(None, (given_fault(folder, *it) for it in GIVEN)), None)
+
+
+def given_fault(folder, given, options, wrote, said):
+    """What is wrong with what is written where these tables are given, if anything is."""
+    status, found, errors = folder.run("query", "table", folder.at("results.db"), *options, given=given)
+    return None if status == (not wrote) and found == wrote and said in errors else f"{options}: {status}, {found}, {errors}"
 
 
 # As KnotInfo writes its file: a heading of names, one of titles, and fields between bars; links as LinkInfo has them.

@@ -65,6 +65,29 @@ def measure(folder):
     return None if right else f"status {came.returncode}, {wrote}, {errors}"
 
 
+HEADED = "name,pd_notation,pd_notation_vector\none,\"[[1,4,2,5],[3,6,4,1],[5,2,6,3]]\",\n"
+HEADED += 'L2a1{0},,"{{4, 1, 3, 2}, {2, 3, 1, 4}}"\ncut,"[[1,4,2,5]",\n'
+CUT = (
+    ("a table", HEADED, ["one", "L2a1{0}"], ["cut"]),
+    ("no names", "\n# a list\nPD[Loop[1]]\n\nPD[]\nPD[Loop[2]]\n", ["line 3\tPD[Loop[1]]", "line 5\tPD[]"], ["line 6\tPD[Loop[2]]"]),
+)
+
+
+def cut(folder):
+    """Of a list in parts each has the names that the list gives, also where these stand in a table, or are the numbers of lines."""
+    for number, (name, text, first, second) in enumerate(CUT):
+        parts = folder.at(f"cut {number}")
+        came = folder.start(TABULATE, "cut", "--links", "2", folder.write("cut list", text), parts)
+        _, said = came.communicate(timeout=PATIENCE)
+        for part, wanted in (("part-000000", first), ("part-000001", second)):
+            with open(os.path.join(parts, part), encoding="utf-8") as file:
+                lines = file.read().splitlines()
+            is_right = len(lines) == len(wanted) and all(map(str.startswith, lines, wanted)) and all("\t" in it for it in lines)
+            if came.returncode or len(os.listdir(parts)) != 2 or not is_right:
+                return f"{name}: status {came.returncode}, {os.listdir(parts)}, {lines}, {said}"
+    return None
+
+
 def has_parallel(test):
     """Whether GNU parallel is installed (another program has the same name); where it is not, it is told that a test is left out."""
     came = None
@@ -187,4 +210,4 @@ def by_slurm(folder):
         return fault or result_fault(folder) or (f"at the top: {others}" if others else None)
 
 
-TESTS = (helps, braids, measure, by_parallel, lost_by_parallel, none_by_parallel, page_by_parallel, by_slurm)
+TESTS = (helps, braids, measure, cut, by_parallel, lost_by_parallel, none_by_parallel, page_by_parallel, by_slurm)
