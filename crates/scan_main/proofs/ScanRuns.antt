@@ -1,10 +1,9 @@
 -- A run over one diagram keeps the headline, and what a run has come to.
-use Rattle.std.proofs.Common.{◌≡◌, ◌≢◌, ℕ, inl, inr, List, [], refl, sym, ap, subst, ◌∙◌, Result, Ok, Err, None, Some}
+use Rattle.std.proofs.Common.{◌≡◌, ℕ, inl, inr, List, [], refl, sym, ap, subst, ◌∙◌, Result, Ok, Err, None, Some}
 use Rattle.std.specs.Prelude.{IfOk, IfSome, OnOk}
 use Rattle.std.specs.declared.option.Option.{Option}
 use Rattle.kh_types.specs.Code.{Code}
 use Rattle.kh_types.specs.declared.limits.TheConstants.{INPUT_BYTES}
-use Rattle.kh_io.specs.Faults.{Rose}
 use Rattle.line_reader.proofs.Taken.{Consumes-none}
 use Rattle.word_line.specs.declared.command.WordStop.{WordStop}
 use Rattle.word_line.specs.declared.command.WordStop.TheVariants as word_stops
@@ -22,7 +21,7 @@ use Rattle.kh_replies.specs.Jones.{jones_line}
 use Rattle.kh_replies.specs.Replies.{Reply, reply_of}
 use Rattle.kh_replies.specs.Runs.{IsBlind, IsKnown, IsReplied, IsWritten, status_of}
 use Rattle.kh_replies.specs.Statuses.{IsReplyStatus, IsWhole}
-use Rattle.kh_replies.specs.Told.{Gives, IsReadOut, IsTaken, Seen}
+use Rattle.kh_replies.specs.Told.{Gives, IsReadOut, Seen}
 use Rattle.kh_replies.specs.declared.stop.ReplyStop.{ReplyStop}
 use Rattle.kh_replies.specs.declared.stop.ReplyStop.TheVariants as stops
 use Rattle.kh_replies.proofs.RunLemmas.{IsRun-written, whole-undisturbed}

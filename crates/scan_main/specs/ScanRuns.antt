@@ -1,6 +1,5 @@
 -- What a run of the program of scans promises. All of it is this project's rule.
-use Rattle.std.specs.Prelude.{◌≡◌, ◌≢◌, ◌⊎◌, ℕ, ℤ, ◌-◌, ◌^◌, ◌<◌, List, [], ◌++◌, length, Some, Result, Ok, Err, IfOk, OnOk}
-use Rattle.std.specs.declared.option.Option.{Option}
+use Rattle.std.specs.Prelude.{◌≡◌, ◌≢◌, ℕ, ℤ, ◌-◌, ◌^◌, ◌<◌, List, ◌++◌, length, Some, Result, Ok, Err, IfOk, OnOk}
 use Rattle.kh_io.specs.Faults.{Rose}
 use Rattle.kh_types.specs.Code.{Code}
 use Rattle.kh_types.specs.declared.limits.TheConstants.{INPUT_BYTES}
