@@ -163,13 +163,14 @@ UNKNOTS = "1\ta\t{0}\t{1}PD[Loop[1]]\n1\tc\t{0}\t{1}PD[Loop[2]]\n1\tmended\t{0}\
 TREFOILS = "2\tb\t2,3\t{0}trefoil\n2\td\t2,3\t{0}trefoil turned\n"
 OF_SCANS = "table 2\nfield {0}\nj 1 i 0 dim 1\nj 3 i 0 dim 1\nj 5 i 2 dim 1\n{1}j 9 i 3 dim 1\njones 1*q^1 1*q^3 1*q^5 -1*q^9\n"
 TABLE = OF_SCANS.format(3, "") + OF_SCANS.format(2, "j 7 i 2 dim 1\nj 7 i 3 dim 1\n")
-WITH = "name\ttable\tcode\nb\tsame\ttrefoil\nd\tsame\ttrefoil turned\n"
+NONE = "name\ttable\tcode\n"
+WITH = f"{NONE}b\tsame\ttrefoil\nd\tsame\ttrefoil turned\n"
 FRAMES = "answers 1\n" + "".join(f"code 1 field {it[14]} status 0 bytes {len(it)}\n{it}" for it in (TABLE[: TABLE.rindex("table")],))
 OVER_THREE = WITH + "e\tmirror\tmirrored\n"
 GIVEN = (
-    ("no table\n", (), "", "standard input has no tables"),
-    (TABLE + OF_SCANS.format(2, ""), (), "", "two tables over 2 elements"),
-    (TABLE, ("--fields", "5"), "", "tables over other fields: 3,2"),
+    ("no table\n", (), NONE, "standard input has no tables"),
+    (TABLE + OF_SCANS.format(2, ""), (), NONE, "two tables over 2 elements"),
+    (TABLE, ("--fields", "5"), NONE, "tables over other fields: 3,2"),
     (FRAMES, ("--mirror",), OVER_THREE, "links with this table: 3"),
     (TABLE, ("--mirror", "--fields", "3"), OVER_THREE, "links with this table: 3"),
 )
@@ -216,7 +217,7 @@ def questions(folder):
 def given_fault(folder, given, options, wrote, said):
     """What is wrong with what is written where these tables are given, if anything is."""
     status, found, errors = folder.run("query", "table", folder.at("results.db"), *options, given=given)
-    return None if status == (not wrote) and found == wrote and said in errors else f"{options}: {status}, {found}, {errors}"
+    return None if status == (wrote == NONE) and found == wrote and said in errors else f"{options}: {status}, {found}, {errors}"
 
 
 # As KnotInfo writes its file: a heading of names, one of titles, and fields between bars; links as LinkInfo has them.
