@@ -112,7 +112,7 @@ STATUSES_OF_LISTS = [
     (0, []),
     (3, ["kh: standard input can not be read on; the lines that had ended are answered"]),
     (4, ["kh: standard output did not take the whole answer"]),
-    (5, ["kh: out of memory for a line or for what is written of it; whole answers are written"]),
+    (5, ["kh: out of memory for some answer, whose status is 5, or from some line on; whole answers are written"]),
     (6, ["kh: a list has fewer than 2^64 - 2 bytes"]),
     (8, []),
 ]

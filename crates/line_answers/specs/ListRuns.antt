@@ -78,10 +78,10 @@ pub record IsListRun (Answers : ℕ → List ℕ → Reply → Type 0) (fields :
   pub consumed : Consumes source_before.bytes source_after.bytes taken
   pub lines : List (List ℕ)
   pub read : AreRead source_after.bytes taken lines
-  -- it ended as done at the end of the source, and all its lines are answered; on no other end are they
+  -- it ended as done at the end of the source, and all its lines are answered
   pub done : status ≡ Done → IsAtEnd source_after.bytes × CutsLines taken lines
       × WritesAnswers (IsAnswerTo Answers) (questions fields lines) sink_before.bytes sink_after.bytes
-  -- on a fault of reading all lines that a line feed ended before it have a frame, of an answer or for want of memory
+  -- on a fault of reading all lines that a line feed ended in what was taken have a frame, of an answer or for want of memory
   pub read_fault : status ≡ ReadFault → Rose source_before.faults source_after.faults × EndsLines taken lines
       × WritesAnswers (IsAnswerOrNone Answers) (questions fields lines) sink_before.bytes sink_after.bytes
   pub write_fault : status ≡ WriteFault → Rose sink_before.faults sink_after.faults
