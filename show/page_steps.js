@@ -34,8 +34,12 @@
     scans.forEach((it) => it.classList.toggle("off", it !== scan));
     steps.forEach((step, number) => step.classList.toggle("now", number === at));
     told.textContent = ` step ${at + 1} of ${steps.length} `;
+    const focused = document.activeElement;
     back.disabled = at === 0;
     forward.disabled = at === steps.length - 1;
+    // (a button that is switched off would lose the keys)
+    if (focused === forward && forward.disabled) back.focus();
+    if (focused === back && back.disabled) forward.focus();
   }
 
   scans[0].before(bar);

@@ -115,6 +115,8 @@ def scan_faults(tab):
     last = tab.value("document.querySelector('.scans li.now').innerText")
     rows = len(re.findall(r"^-?\d", last, re.M))
     yield "the count at the end", None if "each object counts one" in last and rows == 6 else last
+    # (behind a frame, in which a button that is switched off loses the focus)
+    tab.value("new Promise((done) => requestAnimationFrame(() => requestAnimationFrame(() => done(true))))")
     tab.press("ArrowLeft")
     tab.press("ArrowLeft")
     red = tab.value("document.querySelectorAll('.scans li.now .scan path.gone').length")
