@@ -107,29 +107,31 @@ module _ {A B : Type 0} (p : ℕ) (first : Factor A) (second : Factor B) (field 
 
   module _ (x : A) (y : B) (z : A) (w : B) (has_x : Contains xs x) (has_y : Contains ys y) (has_z : Contains xs z)
       (has_w : Contains ys w) where
-    abbrev T1 : A → B → ℕ
-    T1 u v = E y v * (t y * a x u * (E v w * (t v * a u z)))
+    -- the four terms of the square: edges of the first factor twice, of the first and then of the second, the other way round, and of the
+    -- second twice
+    abbrev aa : A → B → ℕ
+    aa u v = E y v * (t y * a x u * (E v w * (t v * a u z)))
 
-    abbrev T2 : A → B → ℕ
-    T2 u v = E y v * (t y * a x u * (D u z * (s u * b v w)))
+    abbrev ab : A → B → ℕ
+    ab u v = E y v * (t y * a x u * (D u z * (s u * b v w)))
 
-    abbrev T3 : A → B → ℕ
-    T3 u v = E v w * (D x u * (s x * b y v * (t v * a u z)))
+    abbrev ba : A → B → ℕ
+    ba u v = E v w * (D x u * (s x * b y v * (t v * a u z)))
 
-    abbrev T4 : A → B → ℕ
-    T4 u v = D x u * (s x * b y v * (D u z * (s u * b v w)))
+    abbrev bb : A → B → ℕ
+    bb u v = D x u * (s x * b y v * (D u z * (s u * b v w)))
 
-    parts : (u : A) (v : B) → both x y u v * both u v z w ≡ T1 u v + T2 u v + (T3 u v + T4 u v)
+    parts : (u : A) (v : B) → both x y u v * both u v z w ≡ aa u v + ab u v + (ba u v + bb u v)
     parts u v = spread (E y v) (t y * a x u) (D x u) (s x * b y v) (E v w) (t v * a u z) (D u z) (s u * b v w)
       where
         spread : (e m d n f k g l : ℕ) → (e * m + d * n) * (f * k + g * l)
             ≡ e * (m * (f * k)) + e * (m * (g * l)) + (f * (d * (n * k)) + d * (n * (g * l)))
         spread e m d n f k g l = omega arith
 
-    first-sum : Same p (sum_by (λ u. sum_by (T1 u) ys) xs) 0
+    first-sum : Same p (sum_by (λ u. sum_by (aa u) ys) xs) 0
     first-sum =
-        same-equal p (sum_by (λ u. sum_by (T1 u) ys) xs) (t y * t y * E y w * sum_by (λ u. a x u * a u z) xs)
-        (sum_by-alike (λ u. sum_by (T1 u) ys) (λ u. t y * t y * E y w * (a x u * a u z))
+        same-equal p (sum_by (λ u. sum_by (aa u) ys) xs) (t y * t y * E y w * sum_by (λ u. a x u * a u z) xs)
+        (sum_by-alike (λ u. sum_by (aa u) ys) (λ u. t y * t y * E y w * (a x u * a u z))
         (λ u.
         sum-front second.same ys y (λ v. t y * a x u * (E v w * (t v * a u z))) second_is.test second_is.once has_y
         ∙ regrouped (t y) (a x u) (E y w) (a u z))
@@ -144,9 +146,9 @@ module _ {A B : Type 0} (p : ℕ) (first : Factor A) (second : Factor B) (field 
         times_nothing : (n : ℕ) → n * 0 ≡ 0
         times_nothing n = omega arith
 
-    second-sum : sum_by (λ u. sum_by (T2 u) ys) xs ≡ t y * a x z * (s z * b y w)
+    second-sum : sum_by (λ u. sum_by (ab u) ys) xs ≡ t y * a x z * (s z * b y w)
     second-sum =
-        sum_by-alike (λ u. sum_by (T2 u) ys) (λ u. D u z * (t y * a x u * (s u * b y w)))
+        sum_by-alike (λ u. sum_by (ab u) ys) (λ u. D u z * (t y * a x u * (s u * b y w)))
         (λ u.
         sum-front second.same ys y (λ v. t y * a x u * (D u z * (s u * b v w))) second_is.test second_is.once has_y
         ∙ regrouped (t y * a x u) (D u z) (s u * b y w))
@@ -156,17 +158,17 @@ module _ {A B : Type 0} (p : ℕ) (first : Factor A) (second : Factor B) (field 
         regrouped : (m d n : ℕ) → m * (d * n) ≡ d * (m * n)
         regrouped m d n = omega arith
 
-    third-sum : sum_by (λ u. sum_by (T3 u) ys) xs ≡ s x * b y w * (t w * a x z)
+    third-sum : sum_by (λ u. sum_by (ba u) ys) xs ≡ s x * b y w * (t w * a x z)
     third-sum =
-        sum_by-alike (λ u. sum_by (T3 u) ys) (λ u. D x u * (s x * b y w * (t w * a u z)))
+        sum_by-alike (λ u. sum_by (ba u) ys) (λ u. D x u * (s x * b y w * (t w * a u z)))
         (λ u. sum-back second.same ys w (λ v. D x u * (s x * b y v * (t v * a u z))) second_is.test second_is.once has_w)
         xs
         ∙ sum-front first.same xs x (λ u. s x * b y w * (t w * a u z)) is.test is.once has_x
 
-    fourth-sum : Same p (sum_by (λ u. sum_by (T4 u) ys) xs) 0
+    fourth-sum : Same p (sum_by (λ u. sum_by (bb u) ys) xs) 0
     fourth-sum =
-        same-equal p (sum_by (λ u. sum_by (T4 u) ys) xs) (s x * s x * D x z * sum_by (λ v. b y v * b v w) ys)
-        (sum_by-alike (λ u. sum_by (T4 u) ys) (λ u. D x u * sum_by (λ v. s x * b y v * (D u z * (s u * b v w))) ys)
+        same-equal p (sum_by (λ u. sum_by (bb u) ys) xs) (s x * s x * D x z * sum_by (λ v. b y v * b v w) ys)
+        (sum_by-alike (λ u. sum_by (bb u) ys) (λ u. D x u * sum_by (λ v. s x * b y v * (D u z * (s u * b v w))) ys)
         (λ u. sum_by-times (λ v. s x * b y v * (D u z * (s u * b v w))) (D x u) ys) xs
         ∙ sum-front first.same xs x (λ u. sum_by (λ v. s x * b y v * (D u z * (s u * b v w))) ys) is.test is.once has_x
         ∙ sum_by-alike (λ v. s x * b y v * (D x z * (s x * b v w))) (λ v. s x * s x * D x z * (b y v * b v w))
@@ -216,28 +218,28 @@ module _ {A B : Type 0} (p : ℕ) (first : Factor A) (second : Factor B) (field 
 
     square : Same p (sum_by (λ m. c (x, y) m * c m (z, w)) (all_pairs xs ys)) 0
     square =
-        let S1 = sum_by (λ u. sum_by (T1 u) ys) xs in
-        let S2 = sum_by (λ u. sum_by (T2 u) ys) xs in
-        let S3 = sum_by (λ u. sum_by (T3 u) ys) xs in
-        let S4 = sum_by (λ u. sum_by (T4 u) ys) xs in
+        let sum_aa = sum_by (λ u. sum_by (aa u) ys) xs in
+        let sum_ab = sum_by (λ u. sum_by (ab u) ys) xs in
+        let sum_ba = sum_by (λ u. sum_by (ba u) ys) xs in
+        let sum_bb = sum_by (λ u. sum_by (bb u) ys) xs in
         sum_by-same p (λ m. c (x, y) m * c m (z, w)) (λ m. both x y m.0 m.1 * both m.0 m.1 z w) (all_pairs xs ys)
         (λ m has_m.
         let has = pairs-parts xs ys m has_m in
         same-mul p (c (x, y) m) (both x y m.0 m.1) (c m (z, w)) (both m.0 m.1 z w)
         (as-sum x y m.0 m.1 has_x has_y) (as-sum m.0 m.1 z w has.0 has.1))
-        ∙ same-equal p (sum_by (λ m. both x y m.0 m.1 * both m.0 m.1 z w) (all_pairs xs ys)) (S1 + S2 + (S3 + S4))
+        ∙ same-equal p (sum_by (λ m. both x y m.0 m.1 * both m.0 m.1 z w) (all_pairs xs ys)) (sum_aa + sum_ab + (sum_ba + sum_bb))
         (sum_by-pairs (λ m. both x y m.0 m.1 * both m.0 m.1 z w) xs ys
         ∙ sum_by-alike (λ u. sum_by (λ v. both x y u v * both u v z w) ys)
-        (λ u. sum_by (T1 u) ys + sum_by (T2 u) ys + (sum_by (T3 u) ys + sum_by (T4 u) ys))
+        (λ u. sum_by (aa u) ys + sum_by (ab u) ys + (sum_by (ba u) ys + sum_by (bb u) ys))
         (λ u.
-        sum_by-alike (λ v. both x y u v * both u v z w) (λ v. T1 u v + T2 u v + (T3 u v + T4 u v)) (parts u) ys
-        ∙ four (T1 u) (T2 u) (T3 u) (T4 u) ys)
+        sum_by-alike (λ v. both x y u v * both u v z w) (λ v. aa u v + ab u v + (ba u v + bb u v)) (parts u) ys
+        ∙ four (aa u) (ab u) (ba u) (bb u) ys)
         xs
-        ∙ four (λ u. sum_by (T1 u) ys) (λ u. sum_by (T2 u) ys) (λ u. sum_by (T3 u) ys) (λ u. sum_by (T4 u) ys) xs)
-        ∙ same-equal p (S1 + S2 + (S3 + S4)) (S1 + (S2 + S3) + S4) (regrouped S1 S2 S3 S4)
-        ∙ same-add p (S1 + (S2 + S3)) 0 S4 0
-        (same-add p S1 0 (S2 + S3) 0 first-sum
-        (same-equal p (S2 + S3) (t y * a x z * (s z * b y w) + s x * b y w * (t w * a x z)) (ap₂ (λ m n. m + n) second-sum third-sum)
+        ∙ four (λ u. sum_by (aa u) ys) (λ u. sum_by (ab u) ys) (λ u. sum_by (ba u) ys) (λ u. sum_by (bb u) ys) xs)
+        ∙ same-equal p (sum_aa + sum_ab + (sum_ba + sum_bb)) (sum_aa + (sum_ab + sum_ba) + sum_bb) (regrouped sum_aa sum_ab sum_ba sum_bb)
+        ∙ same-add p (sum_aa + (sum_ab + sum_ba)) 0 sum_bb 0
+        (same-add p sum_aa 0 (sum_ab + sum_ba) 0 first-sum
+        (same-equal p (sum_ab + sum_ba) (t y * a x z * (s z * b y w) + s x * b y w * (t w * a x z)) (ap₂ (λ m n. m + n) second-sum third-sum)
         ∙ middle-sums))
         fourth-sum
       where
