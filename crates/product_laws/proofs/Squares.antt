@@ -239,7 +239,8 @@ module _ {A B : Type 0} (p : ℕ) (first : Factor A) (second : Factor B) (field 
         ∙ same-equal p (sum_aa + sum_ab + (sum_ba + sum_bb)) (sum_aa + (sum_ab + sum_ba) + sum_bb) (regrouped sum_aa sum_ab sum_ba sum_bb)
         ∙ same-add p (sum_aa + (sum_ab + sum_ba)) 0 sum_bb 0
         (same-add p sum_aa 0 (sum_ab + sum_ba) 0 first-sum
-        (same-equal p (sum_ab + sum_ba) (t y * a x z * (s z * b y w) + s x * b y w * (t w * a x z)) (ap₂ (λ m n. m + n) second-sum third-sum)
+        (same-equal p (sum_ab + sum_ba) (t y * a x z * (s z * b y w) + s x * b y w * (t w * a x z))
+        (ap₂ (λ m n. m + n) second-sum third-sum)
         ∙ middle-sums))
         fourth-sum
       where
