@@ -26,10 +26,10 @@ pub length-signed : (z : ℤ) → unsigned_abs z < 1000 → length (signed_decim
 length-signed (pos n) small = omega (arith, length-decimal-le 3 n (omega arith) (omega (arith, small)) (omega (arith, small)))
 length-signed (negsuc n) small = omega (arith, length-decimal-le 3 (suc n) (omega arith) (omega (arith, small)) (omega (arith, small)))
 
--- an item in print
-record IsShortText (text : List ℕ) (most : ℕ) : Type 0 where
-  few : length text ≤ most
-  whole : AreNoFeeds text
+-- a text has no more than so many bytes, and none of them is a line feed
+pub record IsShortText (text : List ℕ) (most : ℕ) : Type 0 where
+  pub few : length text ≤ most
+  pub whole : AreNoFeeds text
 
 short-append : (xs ys : List ℕ) (m n : ℕ) → IsShortText xs m → IsShortText ys n → IsShortText (xs ++ ys) (m + n)
 short-append xs ys m n first second = record {
@@ -121,9 +121,10 @@ small-arcs code is few = λ k d below slot within.
     (record { crossing = record { positive = omega arith; within = omega (arith, below) }; slot = within }) in
     omega (arith, arc.within, few, ap (λ (slots : List ℕ). arc_in slots slot) same)
 
-pub short-diagram : (code : Code) → IsTrue (accepted code) → length code.crossings ≤ CROSSINGS → code.loops ≤ LOOPS
-    → (length (pd_text code) ≤ INPUT_BYTES) × HasNoLineFeed (pd_text code)
-short-diagram code is few loops =
+-- 27 bytes for each crossing and each loop, and 4 more
+pub short-text : (code : Code) → IsTrue (accepted code) → length code.crossings ≤ CROSSINGS → code.loops ≤ LOOPS
+    → IsShortText (pd_text code) (27 * (length code.crossings + code.loops) + 4)
+short-text code is few loops =
     let items = items_of_code code in
     let small = small-crossings code.crossings (map loop_item (loop_names code))
     (recursion_from_All AreSmall code.crossings (small-arcs code is few))
@@ -137,4 +138,10 @@ short-diagram code is few loops =
       length-range_with_len (arc_count code.crossings + 1) code.loops,
     ) in
     let text = short-items items small in
-    (omega (arith, text.few, count, few, loops), HasNoLineFeed-bytes (pd_text code) text.whole)
+    record { few = omega (arith, text.few, count); whole = text.whole }
+
+pub short-diagram : (code : Code) → IsTrue (accepted code) → length code.crossings ≤ CROSSINGS → code.loops ≤ LOOPS
+    → (length (pd_text code) ≤ INPUT_BYTES) × HasNoLineFeed (pd_text code)
+short-diagram code is few loops =
+    let text = short-text code is few loops in
+    (omega (arith, text.few, few, loops), HasNoLineFeed-bytes (pd_text code) text.whole)

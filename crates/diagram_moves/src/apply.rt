@@ -14,7 +14,8 @@ use crate::slide::slide;
 use crate::triangles::Corners;
 use kh_types::Diagram;
 
-/// The diagram after a Reidemeister move, or the least numbered fault. The state sum stays. Only a
+/// The diagram after a Reidemeister move, or the least numbered fault. The state sum stays, and so
+/// does homology over each field (the law `moves_keep_homology` of the crate `link_laws`). Only a
 /// finger that is added can leave the sphere, and one between two pieces never does. Source:
 /// Reidemeister 1927; the numbers of arcs and the order of faults are this project's rule.
 #[tactic(auto, using(crate::proofs::ApplyLemmas::moves_leave_the_sphere, crate::proofs::ApplyLemmas::joined_pieces_stay_on_the_sphere,))]

@@ -17,7 +17,7 @@ pub enum ListStop {
     WriteFault,
     /// The source has 2^64 - 2 bytes and more.
     Limit,
-    /// Out of memory for a line, or for a frame.
+    /// Out of memory for a line, for a reply, or for a frame.
     NoMemory,
 }
 

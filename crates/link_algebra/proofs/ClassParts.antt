@@ -3,7 +3,7 @@
 -- Numbers from a bound on are those of the second part, raised. A pair of the first part joins below the bound, a pair of the second from
 -- there on, and joining keeps the two stretches apart: so the list of classes is that of the first part and then that of the second,
 -- raised, and the numbers of classes add up.
-use Rattle.std.proofs.Common.{List, [], ap, ap₂, arith, cond, length, map, refl, subst, suc, sym, zero, ℕ, ◌++◌, ◌+◌, ◌<◌, ◌∙◌, ◌∷◌, ◌≡◌}
+use Rattle.std.proofs.Common.{List, [], ap, ap₂, arith, cond, length, map, refl, suc, sym, zero, ℕ, ◌++◌, ◌+◌, ◌<◌, ◌∙◌, ◌∷◌, ◌≡◌}
 use Rattle.std.proofs.lemmas.Bool.Decides.{nat_tests}
 use Rattle.std.proofs.lemmas.List.{length-append, length-map, map-append}
 use Rattle.std.proofs.lemmas.List.FromFn.{length-range_with_len}

@@ -1,12 +1,12 @@
 -- The generators of two degrees: which they are, and how many.
 use Rattle.std.proofs.lemmas.Bool.Decides.{nat_tests}
-use Rattle.std.proofs.Common.{◌≡◌, ◌≢◌, ℕ, zero, suc, ◌+◌, ◌^◌, ◌<◌, ◌∙◌, inl, inr, ℤ, List, length, get_or, arith, true, cond}
+use Rattle.std.proofs.Common.{◌≡◌, ◌≢◌, ℕ, zero, suc, ◌+◌, ◌^◌, ◌<◌, ℤ, List, length, get_or, arith, true, cond}
 use Rattle.std.specs.List.{AllByRecursion, Contains, flat_map, range_with_len, sum_by}
 use Rattle.std.proofs.lemmas.List.Elements.{All-filter, All-from_recursion, All-get_or, filter_passes}
 use Rattle.std.proofs.lemmas.List.Sums.{length-filter}
 use Rattle.kh_types.specs.Circles.{circle_count}
 use Rattle.kh_types.specs.Code.{Code, IsCrossing}
-use Rattle.kh_types.specs.Differential.{coefficient, coefficient_at}
+use Rattle.kh_types.specs.Differential.{coefficient}
 use Rattle.kh_types.specs.Generators.{Generator, generator_of, generators, generators_at, generators_of, has_degrees, states}
 use Rattle.kh_types.proofs.Lists.{AllByRecursion-append, Contains-filter, Contains-flat_map, Contains-map, Contains-range}
 use Rattle.kh_types.proofs.ListSums.{sum_by-alike, sum_by-flat_map, sum_by-map, sum_by-some}

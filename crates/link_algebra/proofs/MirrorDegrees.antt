@@ -3,13 +3,12 @@
 -- The mirror has the plus crossings as minus crossings, the zeros of a state as ones, and v- for v+. Put into the two degrees, all this
 -- changes their signs. As the star is one to one, as many generators have two degrees as stars have the opposite ones.
 use Rattle.std.proofs.lemmas.Bool.Decides.{nat_tests}
-use Rattle.std.proofs.Common.{IsTrue, ap, ap₂, arith, cond, length, pos, refl, suc, sym, zero, ℕ, ℤ, ◌*◌, ◌+ℤ◌, ◌+◌, ◌-ℤ◌, ◌-◌, ◌<◌, ◌^◌, ◌∙◌, ◌≡◌, ◌≤◌}
-use Rattle.std.proofs.lemmas.Bool.Decides.{Decides-and, Decides-int_eq, Decides-like, same_from_decides}
+use Rattle.std.proofs.Common.{IsTrue, ap, arith, cond, length, pos, refl, suc, sym, zero, ℕ, ℤ, ◌*◌, ◌+ℤ◌, ◌+◌, ◌-ℤ◌, ◌-◌, ◌<◌, ◌^◌, ◌∙◌, ◌≡◌, ◌≤◌}
+use Rattle.std.proofs.lemmas.Bool.Decides.{Decides-like, same_from_decides}
 use Rattle.std.proofs.lemmas.Int.{ints}
 use Rattle.std.proofs.lemmas.List.Sums.{sum_by-cons}
 use Rattle.std.specs.Bool.{Decides}
 use Rattle.std.specs.List.{range_with_len, sum_by}
-use Rattle.std.specs.Ordering.{int_eq}
 use Rattle.std.specs.Prelude.{neg_ℤ}
 use Rattle.kh_types.proofs.ListSums.{sum_by-range_alike, shifted}
 use Rattle.kh_types.proofs.QuantumDegrees.{plus_count-le}

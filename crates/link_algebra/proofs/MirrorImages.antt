@@ -4,12 +4,11 @@
 -- component of the code (`two-arcs`). The code begins a component of two over passes with the arc that enters the first listed of its
 -- crossings, since its labels need no turn. The mirror lies under at both, so that its passes begin the component with the code's least arc
 -- too, which gets the lesser number (`lesser-first`). So the first arc of the circle in the mirror is the code's lesser one.
-use Rattle.std.proofs.Common.{◌≡◌, ◌≢◌, ℕ, ◌⊎◌, inl, inr, ◌+◌, ◌%◌, ◌<◌, ◌≤◌, ◌∙◌, List, [], ◌∷◌, map, get_or, refl, sym, ap, ap₂, subst, arith, Bool, true, false, not, ◌&&◌, ◌||◌, pos, neg_ℤ, IsTrue}
-use Rattle.std.specs.Prelude.{nat_eq, if◌then◌else◌, int_lt, MatchBool}
+use Rattle.std.proofs.Common.{◌≡◌, ◌≢◌, ℕ, ◌⊎◌, inl, inr, ◌+◌, ◌%◌, ◌<◌, ◌≤◌, ◌∙◌, List, [], ◌∷◌, map, refl, sym, ap, ap₂, subst, arith, Bool, true, false, not, ◌||◌, pos, neg_ℤ, IsTrue}
+use Rattle.std.specs.Prelude.{nat_eq, if◌then◌else◌, MatchBool}
 use Rattle.std.specs.List.{range_with_len}
 use Rattle.std.proofs.lemmas.Bool.{cases_eq, cases_lt, ne_eqb}
 use Rattle.std.proofs.lemmas.Bool.Decides.{nat_tests}
-use Rattle.std.proofs.lemmas.Int.{ints}
 use Rattle.kh_types.specs.Acceptance.{accepted}
 use Rattle.kh_types.specs.Accepted.{IsDirected}
 use Rattle.kh_types.specs.Code.{Code, IsArc, IsCrossing}

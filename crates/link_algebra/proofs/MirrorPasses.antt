@@ -1,9 +1,8 @@
 -- The passes of the mirror over the arcs of the code: each goes from an arc to the next, over where it was under.
 use Rattle.std.proofs.lemmas.Bool.Decides.{nat_tests}
-use Rattle.std.proofs.Common.{◌≡◌, ℕ, zero, suc, ◌+◌, ◌<◌, ◌∙◌, List, [], ◌∷◌, length, refl, sym, ap, subst, arith, Bool, true, false, not, pos, neg_ℤ, IsTrue}
-use Rattle.std.specs.Prelude.{nat_eq, if◌then◌else◌, MatchBool}
+use Rattle.std.proofs.Common.{◌≡◌, ℕ, ◌+◌, ◌<◌, ◌∙◌, List, [], ◌∷◌, length, sym, ap, subst, arith, Bool, true, not, pos, neg_ℤ, IsTrue}
+use Rattle.std.specs.Prelude.{MatchBool}
 use Rattle.std.specs.List.{AllByRecursion}
-use Rattle.std.proofs.lemmas.Bool.{eqb-true}
 use Rattle.std.proofs.lemmas.Int.{ints}
 use Rattle.kh_types.specs.Acceptance.{accepted}
 use Rattle.kh_types.specs.Accepted.{IsDirected}

@@ -4,7 +4,7 @@
 -- at a circle's new number is the bit at its old one. This is one to one, since a name and its way back are, and the number of circles and
 -- of labels 1 stays, as counts over circles do not know their order.
 use Rattle.std.proofs.lemmas.Bool.Decides.{nat_tests}
-use Rattle.std.proofs.Common.{IsTrue, List, [], ap, arith, map, subst, sym, ℕ, ◌+◌, ◌<◌, ◌^◌, ◌∙◌, ◌∷◌, ◌≡◌, ◌≤◌}
+use Rattle.std.proofs.Common.{IsTrue, List, [], ap, arith, map, sym, ℕ, ◌<◌, ◌^◌, ◌∙◌, ◌∷◌, ◌≡◌, ◌≤◌}
 use Rattle.std.proofs.lemmas.Bool.Decides.{Decides-eqb, Decides-like, same_from_decides}
 use Rattle.std.proofs.lemmas.List.{length-map}
 use Rattle.std.proofs.lemmas.List.Elements.{All-cons, All-head, All-nil, All-tail}
@@ -19,7 +19,7 @@ use Rattle.kh_types.specs.Acceptance.{accepted}
 use Rattle.kh_types.specs.Bits.{bit, ones, one_if}
 use Rattle.kh_types.specs.CircleNumbers.{IsName}
 use Rattle.kh_types.specs.Circles.{circle_count}
-use Rattle.kh_types.specs.Code.{Code, arc_count}
+use Rattle.kh_types.specs.Code.{Code}
 use Rattle.kh_types.specs.Differential.{label_of}
 use Rattle.kh_types.specs.Generators.{generator_of}
 use Rattle.cube_squares.proofs.EdgeMarks.{IsMarked, label_of-circle, label_of-le}
@@ -28,7 +28,6 @@ use Rattle.cube_squares.proofs.MarkedLabels.{IsMarked-marked_by, IsName-marked_b
 use Rattle.cube_squares.proofs.Marks.{hits, hits-cons, hits-sum}
 use Rattle.cube_squares.proofs.Merges.{circle_in}
 use Rattle.link_algebra.proofs.Flips.{flipped, ones-flipped}
-use Rattle.link_algebra.proofs.Renamings.{IsRenaming, IsRenaming-back}
 use Rattle.link_algebra.proofs.TurnedCircles.{Corresponds, IsName-moved}
 
 -- a name back home

@@ -4,17 +4,15 @@
 -- and the sum of the numbers of circles: the last because coefficients of (q + q^-1)^c are made by c steps, and a product is made by the
 -- steps of both.
 use Rattle.std.proofs.lemmas.Bool.Decides.{nat_tests}
-use Rattle.std.proofs.Common.{Bool, List, [], ap, ap₂, arith, cond, false, inl, inr, neg_ℤ, pos, refl, suc, sym, true, zero, ℕ, ℤ, ◌%◌, ◌*ℤ◌, ◌*◌, ◌+ℤ◌, ◌+◌, ◌-ℤ◌, ◌∙◌, ◌∷◌, ◌≡◌, ◌≢◌, ◌≤◌, ◌⊎◌}
+use Rattle.std.proofs.Common.{Bool, List, [], ap, ap₂, arith, cond, false, neg_ℤ, pos, refl, suc, sym, true, zero, ℕ, ℤ, ◌%◌, ◌*ℤ◌, ◌*◌, ◌+ℤ◌, ◌+◌, ◌-ℤ◌, ◌∙◌, ◌∷◌, ◌≡◌, ◌≢◌, ◌≤◌, ◌⊎◌}
 use Rattle.std.proofs.Math.IntN.{+ℤ_idl, suc_ℤ-*ℤ, zero-*ℤ}
-use Rattle.std.proofs.lemmas.Bool.{false_from_ne_true}
 use Rattle.std.proofs.lemmas.Bool.Decides.{Decides-int_eq}
 use Rattle.std.proofs.lemmas.Int.{ints}
 use Rattle.std.specs.List.{range_with_len}
-use Rattle.std.specs.Ordering.{int_eq}
 use Rattle.std.specs.Prelude.{nat_eq}
 use Rattle.kh_types.specs.StateSum.{circle_coefficient, signed_by, term_of}
 use Rattle.kh_types.specs.Table.{from_minus}
-use Rattle.link_algebra.proofs.IntSums.{neg-times, spread_right, sum-alike, sum-map, sum-plus, sum-single, sum_over, times-neg}
+use Rattle.link_algebra.proofs.IntSums.{spread_right, sum-alike, sum-map, sum-plus, sum-single, sum_over}
 use Rattle.kh_types.proofs.AlternatingSums.{signed_by-less}
 
 -- a number with a sign

@@ -4,12 +4,11 @@
 -- state of the one code and the state with all bits exchanged of the other join corresponding darts, hence arcs under their names, and
 -- their circles correspond; turning back gives the other direction.
 use Rattle.std.proofs.lemmas.Bool.Decides.{nat_tests}
-use Rattle.std.proofs.Common.{IsTrue, [], ap, arith, inl, inr, length, subst, suc, sym, zero, ℕ, ◌%◌, ◌*◌, ◌+◌, ◌-◌, ◌/◌, ◌<◌, ◌^◌, ◌∙◌, ◌≡◌, ◌⊎◌}
-use Rattle.std.specs.Prelude.{slice_index_or}
+use Rattle.std.proofs.Common.{IsTrue, ap, arith, inl, inr, length, subst, sym, ℕ, ◌%◌, ◌*◌, ◌+◌, ◌-◌, ◌/◌, ◌<◌, ◌^◌, ◌∙◌, ◌≡◌, ◌⊎◌}
 use Rattle.kh_types.proofs.CircleCycles.{circles-across, smoothings-below}
 use Rattle.kh_types.proofs.ClassLemmas.{classes-finest}
 use Rattle.kh_types.proofs.EdgeNames.{IsArc-slot}
-use Rattle.kh_types.proofs.JoinedSlots.{across-slot, arc_at-slot, respects-across, joined_slot-below}
+use Rattle.kh_types.proofs.JoinedSlots.{across-slot, respects-across, joined_slot-below}
 use Rattle.kh_types.proofs.QuantumDegrees.{plus_count-le}
 use Rattle.kh_types.specs.Acceptance.{accepted}
 use Rattle.kh_types.specs.Bits.{bit}
@@ -17,7 +16,7 @@ use Rattle.kh_types.specs.CircleNumbers.{IsName}
 use Rattle.kh_types.specs.CircleSteps.{across, arc_at, joined_slot}
 use Rattle.kh_types.specs.Circles.{smoothings_of}
 use Rattle.kh_types.specs.Classes.{Respects}
-use Rattle.kh_types.specs.Code.{Code, IsCrossing, arc_count, arc_in}
+use Rattle.kh_types.specs.Code.{Code, IsCrossing, arc_count}
 use Rattle.kh_types.specs.Directions.{minus_count, plus_count}
 use Rattle.kh_types.specs.Edges.{arc_at_slot}
 use Rattle.cube_squares.proofs.Merges.{circle_in}

@@ -4,7 +4,7 @@
 -- passes are directed: they are accepted. The mirror is dual to the code, by TurnedCircles and Duality; the reversal is dual to the mirror
 -- in the same way, a turn by one slot more, so it has the homology of the code.
 use Rattle.std.proofs.lemmas.Bool.Decides.{nat_tests}
-use Rattle.std.proofs.Common.{◌≡◌, ℕ, zero, suc, ◌⊎◌, inl, inr, ◌+◌, ◌-◌, ◌%◌, ◌^◌, ◌<◌, ◌≤◌, ◌∙◌, ℤ, neg_ℤ, length, refl, sym, ap, ap₂, subst, arith, cond, not, Bool, true, false, IsTrue}
+use Rattle.std.proofs.Common.{◌≡◌, ℕ, zero, suc, ◌⊎◌, inl, inr, ◌+◌, ◌-◌, ◌%◌, ◌^◌, ◌<◌, ◌≤◌, ◌∙◌, ℤ, neg_ℤ, length, refl, sym, ap, ap₂, subst, arith, cond, not, Bool, IsTrue}
 use Rattle.std.specs.List.{count_by, range_with_len}
 use Rattle.std.proofs.lemmas.Int.{ints}
 use Rattle.std.proofs.lemmas.List.Sums.{sum_by-cons}
@@ -12,9 +12,8 @@ use Rattle.kh_types.proofs.AcceptedLemmas.{HasArcsTwice-accepted}
 use Rattle.kh_types.specs.Acceptance.{accepted}
 use Rattle.kh_types.specs.Bits.{ones}
 use Rattle.kh_types.specs.Circles.{circle_count}
-use Rattle.kh_types.specs.Code.{Code, IsCrossing, arc_count}
+use Rattle.kh_types.specs.Code.{Code, IsCrossing}
 use Rattle.kh_types.specs.Directions.{is_positive, minus_count, plus_count}
-use Rattle.kh_types.specs.Edges.{arc_at_slot}
 use Rattle.kh_types.specs.Generators.{one_count}
 use Rattle.kh_types.specs.StateSum.{state_sum, state_term}
 use Rattle.kh_types.specs.Table.{dimension}

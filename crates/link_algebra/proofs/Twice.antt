@@ -1,13 +1,11 @@
 -- The mirror of the mirror, and the reversal of the reversal, up to the numbers of arcs.
 use Rattle.std.proofs.lemmas.Bool.Decides.{nat_tests}
-use Rattle.std.proofs.Common.{◌≡◌, ℕ, ◌+◌, ◌*◌, ◌/◌, ◌%◌, ◌<◌, ◌∙◌, ℤ, neg_ℤ, length, not, refl, sym, ap, ap₂, arith, Bool, true, false, IsTrue}
+use Rattle.std.proofs.Common.{◌≡◌, ℕ, ◌+◌, ◌%◌, ◌∙◌, ℤ, neg_ℤ, not, refl, sym, ap, ap₂, arith, Bool, true, false, IsTrue}
 use Rattle.std.proofs.lemmas.Int.{ints}
 use Rattle.kh_types.specs.Acceptance.{accepted}
-use Rattle.kh_types.specs.Code.{Code, IsArc, IsCrossing}
+use Rattle.kh_types.specs.Code.{Code, IsCrossing}
 use Rattle.kh_types.specs.Components.{component_count}
-use Rattle.kh_types.specs.Darts.{arc_of, dart_at}
 use Rattle.kh_types.specs.Directions.{is_positive}
-use Rattle.kh_types.specs.Edges.{arc_at_slot}
 use Rattle.kh_types.specs.Residues.{HasInverses}
 use Rattle.kh_types.specs.StateSum.{state_sum}
 use Rattle.kh_types.specs.Table.{dimension}

@@ -10,7 +10,7 @@ use Rattle.std.proofs.lemmas.Bool.{eq-eqb}
 use Rattle.std.proofs.lemmas.List.{map-append}
 use Rattle.std.proofs.lemmas.Nat.{pow-add}
 use Rattle.std.specs.List.{flat_map, range_with_len}
-use Rattle.kh_types.proofs.AcceptedLemmas.{HasArcsTwice-accepted, HasArcsTwice-directed, IsAccepted-is}
+use Rattle.kh_types.proofs.AcceptedLemmas.{HasArcsTwice-directed, IsAccepted-is}
 use Rattle.kh_types.proofs.CircleBound.{ArcsBelow-slots, passes_of-below}
 use Rattle.kh_types.proofs.ClassCounts.{class_count-components}
 use Rattle.kh_types.proofs.CountedClasses.{below-range}
@@ -31,7 +31,7 @@ use Rattle.kh_types.specs.Faces.{face_count, face_pair, piece_count, piece_pair}
 use Rattle.kh_types.specs.declared.dart.Dart.{Dart}
 use Rattle.kh_types.specs.declared.limits.TheConstants.{COMPONENTS}
 use Rattle.link_algebra.proofs.ClassParts.{class_count-append_lists, classes-parts, length-classes, lifted_pairs}
-use Rattle.link_algebra.proofs.UnitedCircles.{HoldsNames-accepted, bit-first, bit-second, length-both}
+use Rattle.link_algebra.proofs.UnitedCircles.{HoldsNames-twice, bit-first, bit-second, length-both}
 use Rattle.link_algebra.proofs.UnitedComponents.{IsPart, components-both, components-own, inner_components, length-components, passes-small}
 use Rattle.link_algebra.proofs.UnitedSigns.{part-arc}
 use Rattle.link_algebra.specs.Unions.{union_of}
@@ -102,14 +102,14 @@ pieces-below crossings twice =
     let other = IsOtherPlace-partner_at crossings q twice (omega (arith, below)) in
     (omega (arith, below), omega (arith, other.below)))
 
-face_count-both : (first second : Code) → AreUnited first second → HasArcsTwice (union_of first second).crossings
+pub face_count-both : (first second : Code) → AreUnited first second → HasArcsTwice (union_of first second).crossings
     → face_count (union_of first second).crossings ≡ face_count first.crossings + face_count second.crossings
 face_count-both first second are whole_twice =
     let n = length first.crossings in
     let k = length second.crossings in
     let whole = (union_of first second).crossings in
-    let first_twice = HasArcsTwice-accepted first are.first_is in
-    let second_twice = HasArcsTwice-accepted second are.second_is in
+    let first_twice = HasArcsTwice-directed first.crossings are.first_is in
+    let second_twice = HasArcsTwice-directed second.crossings are.second_is in
     let size : 4 * length whole ≡ 4 * n + 4 * k = omega (arith, length-both first second) in
     ap (λ c. class_count (classes_of c (map (face_pair (partner_at whole)) (range_with_len 0 (4 * length whole))))) size
     ∙ classes-blocks (face_pair (partner_at whole)) (face_pair (partner_at first.crossings)) (face_pair (partner_at second.crossings))
@@ -127,14 +127,14 @@ face_count-both first second are whole_twice =
     turned_block : (n x : ℕ) → turned (4 * n + x) ≡ 4 * n + turned x
     turned_block n x = omega arith
 
-piece_count-both : (first second : Code) → AreUnited first second → HasArcsTwice (union_of first second).crossings
+pub piece_count-both : (first second : Code) → AreUnited first second → HasArcsTwice (union_of first second).crossings
     → piece_count (union_of first second).crossings ≡ piece_count first.crossings + piece_count second.crossings
 piece_count-both first second are whole_twice =
     let n = length first.crossings in
     let k = length second.crossings in
     let whole = (union_of first second).crossings in
-    let first_twice = HasArcsTwice-accepted first are.first_is in
-    let second_twice = HasArcsTwice-accepted second are.second_is in
+    let first_twice = HasArcsTwice-directed first.crossings are.first_is in
+    let second_twice = HasArcsTwice-directed second.crossings are.second_is in
     let size : 4 * length whole ≡ 4 * n + 4 * k = omega (arith, length-both first second) in
     ap (λ c. class_count (classes_of c (map (piece_pair (partner_at whole)) (range_with_len 0 (4 * length whole))))) (length-both first second)
     ∙ classes-blocks (piece_pair (partner_at whole)) (piece_pair (partner_at first.crossings)) (piece_pair (partner_at second.crossings))
@@ -152,13 +152,15 @@ piece_count-both first second are whole_twice =
     block : (n x : ℕ) → (4 * n + x) / 4 ≡ n + x / 4
     block n x = omega arith
 
-pub component_count-both : (first second : Code) → IsTrue (accepted first) → IsTrue (accepted second)
+pub component_count-both : (first second : Code) → IsDirected first.crossings → IsDirected second.crossings
     → component_count (union_of first second).crossings ≡ component_count first.crossings + component_count second.crossings
 component_count-both first second first_is second_is =
     let whole = (union_of first second).crossings in
     let directed = IsDirected-both first second (AreUnited-from first second first_is second_is) in
-    let hold = HoldsNames-accepted first first_is in
-    let second_hold = HoldsNames-accepted second second_is in
+    let first_twice = HasArcsTwice-directed first.crossings first_is in
+    let second_twice = HasArcsTwice-directed second.crossings second_is in
+    let hold = HoldsNames-twice first.crossings first_twice in
+    let second_hold = HoldsNames-twice second.crossings second_twice in
     let m = arc_count first.crossings + 1 in
     let whole_small : AreBelow (arc_count whole + 1) (flat_map passes_of whole) =
     passes_of-below (arc_count whole + 1) whole (ArcsBelow-slots (arc_count whole + 1) whole directed.slots (omega arith)) in
@@ -167,7 +169,7 @@ component_count-both first second first_is second_is =
     let two = class_count-components second.crossings (passes-small (arc_count second.crossings + 1) second.crossings second_hold) in
     let inner = class_count (inner_components second.crossings) in
     let parts : class_count (components_of whole) ≡ class_count (components_of first.crossings) + inner =
-    ap class_count (components-both first second first_is second_is)
+    ap class_count (components-both first second first_twice second_twice)
     ∙ class_count-append_lists m (components_of first.crossings) (inner_components second.crossings)
     (length-components first.crossings hold).0 in
     let own : class_count (components_of second.crossings) ≡ 1 + inner =
@@ -218,27 +220,25 @@ solves-of before part whole own choice arc is coloured whole_twice whole_is bits
     odd_sum x y s t differ = omega (arith, differ)
 
 IsCheckerboard-both : (first second : Code) → AreUnited first second → IsDirected (union_of first second).crossings
-    → IsCheckerboard (union_of first second).crossings
-IsCheckerboard-both first second are directed =
+    → IsCheckerboard first.crossings → IsCheckerboard second.crossings → IsCheckerboard (union_of first second).crossings
+IsCheckerboard-both first second are directed one two =
     let n = length first.crossings in
     let k = length second.crossings in
     let whole = (union_of first second).crossings in
     let whole_twice = HasArcsTwice-directed whole directed in
-    let one_is = (IsAccepted-is first).0 are.first_is in
-    let two_is = (IsAccepted-is second).0 are.second_is in
-    let a = one_is.checkerboard.choice in
-    let b = two_is.checkerboard.choice in
+    let a = one.choice in
+    let b = two.choice in
     let choice = a + 2 ^ n * b in
     record {
       choice = choice;
       below = subst (λ (m : ℕ). choice < 2 ^ m) (sym (length-both first second))
-          (both-below n k a b one_is.checkerboard.below two_is.checkerboard.below);
+          (both-below n k a b one.below two.below);
       solves = list_all-each (solves_at whole choice) 1 (arc_count whole)
           (λ arc from below.
           each-arc (λ x. IsArc whole x → solves_at whole choice x ≡ true) first second
           (λ x x_is whole_is.
           solves-of 0 first.crossings whole a choice x are.one
-          (IsColoured-checkerboard first.crossings one_is.checkerboard (HasArcsTwice-accepted first are.first_is)) whole_twice whole_is
+          (IsColoured-checkerboard first.crossings one (HasArcsTwice-directed first.crossings are.first_is)) whole_twice whole_is
           (λ c is. (let f : 0 + c ≡ c = omega arith in ap (λ m. bit choice (place_of m)) f)
           ∙ bit-first n a b (place_of c) (omega (arith, is.positive, is.within)))
           (each-crossing (λ c. (slot : ℕ) → slot < 4 → arc_in (slots_of whole c) slot ≡ x + 2 * 0 → IsOf 0 first.crossings c) first second
@@ -252,9 +252,9 @@ IsCheckerboard-both first second are directed =
           )))))
           (λ x x_is whole_is.
           solves-of n second.crossings whole b choice x are.two
-          (IsColoured-checkerboard second.crossings two_is.checkerboard (HasArcsTwice-accepted second are.second_is)) whole_twice whole_is
+          (IsColoured-checkerboard second.crossings two (HasArcsTwice-directed second.crossings are.second_is)) whole_twice whole_is
           (λ c is. (let f : n + c - 1 ≡ n + place_of c = omega (arith, is.positive) in ap (bit choice) f)
-          ∙ bit-second n a b (place_of c) one_is.checkerboard.below)
+          ∙ bit-second n a b (place_of c) one.below)
           (each-crossing (λ c. (slot : ℕ) → slot < 4 → arc_in (slots_of whole c) slot ≡ x + 2 * n → IsOf n second.crossings c) first second
           (λ c is slot slot_below on. absurd (omega (
             arith,
@@ -280,14 +280,14 @@ pub accepted-both : (first second : Code) → IsTrue (accepted first) → IsTrue
     → component_count first.crossings + component_count second.crossings + (first.loops + second.loops) ≤ COMPONENTS
     → IsTrue (accepted (union_of first second))
 accepted-both first second first_is second_is few =
-    let are = AreUnited-from first second first_is second_is in
-    let directed = IsDirected-both first second are in
-    let whole_twice = HasArcsTwice-directed (union_of first second).crossings directed in
     let one_is = (IsAccepted-is first).0 first_is in
     let two_is = (IsAccepted-is second).0 second_is in
+    let are = AreUnited-from first second one_is.directed two_is.directed in
+    let directed = IsDirected-both first second are in
+    let whole_twice = HasArcsTwice-directed (union_of first second).crossings directed in
     (IsAccepted-is (union_of first second)).1 (record {
       directed = directed;
-      checkerboard = IsCheckerboard-both first second are directed;
+      checkerboard = IsCheckerboard-both first second are directed one_is.checkerboard two_is.checkerboard;
       faces = omega (
         arith,
         face_count-both first second are whole_twice,
@@ -296,5 +296,5 @@ accepted-both first second first_is second_is few =
         two_is.faces,
         length-both first second,
       );
-      components = omega (arith, few, component_count-both first second first_is second_is);
+      components = omega (arith, few, component_count-both first second one_is.directed two_is.directed);
     })

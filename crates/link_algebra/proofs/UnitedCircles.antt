@@ -4,19 +4,20 @@
 -- of the first; each less one, without the number 0, they are two parts side by side (ClassParts). So the numbers of circles add up, and
 -- loops with them.
 use Rattle.std.proofs.lemmas.Bool.Decides.{nat_tests}
-use Rattle.std.proofs.Common.{Bool, IsTrue, List, [], ap, ap₂, arith, cond, false, length, map, refl, subst, suc, sym, true, zero, ℕ, ◌*◌, ◌++◌, ◌+◌, ◌-◌, ◌<◌, ◌^◌, ◌∙◌, ◌∷◌, ◌≡◌, ◌≤◌}
+use Rattle.std.proofs.Common.{IsTrue, List, [], ap, ap₂, arith, length, map, refl, subst, suc, sym, ℕ, ◌*◌, ◌++◌, ◌+◌, ◌-◌, ◌<◌, ◌^◌, ◌∙◌, ◌∷◌, ◌≡◌, ◌≤◌}
 use Rattle.std.proofs.lemmas.List.{append_assoc, length-append, length-map, map-append, map-id}
 use Rattle.std.proofs.lemmas.Nat.Bits.{bit_at_cat_high, bit_at_cat_low}
-use Rattle.std.specs.Prelude.{nat_eq, slice_index_or}
+use Rattle.std.specs.Prelude.{slice_index_or}
+use Rattle.kh_types.proofs.AcceptedLemmas.{HasArcsTwice-accepted}
 use Rattle.kh_types.proofs.ClassCounts.{AreBelow-wider, class_count-circles, class_count-wider}
-use Rattle.kh_types.proofs.EdgeNames.{IsArc-slot}
 use Rattle.kh_types.proofs.ListSums.{sum_by-range_alike}
 use Rattle.kh_types.proofs.Lists.{AllByRecursion-append}
 use Rattle.kh_types.specs.Acceptance.{accepted}
 use Rattle.kh_types.specs.Bits.{bit, ones}
 use Rattle.kh_types.specs.Circles.{circle_count, smoothing_of, smoothings_of}
 use Rattle.kh_types.specs.Classes.{AreBelow, class_count, classes_of}
-use Rattle.kh_types.specs.Code.{Code, IsArc, arc_count, arc_in}
+use Rattle.kh_types.specs.Code.{Code, IsArc, IsCrossing, arc_count, arc_in}
+use Rattle.kh_types.specs.Darts.{HasArcsTwice}
 use Rattle.link_algebra.proofs.ClassParts.{class_count-append_lists, classes-parts, length-classes, lifted_pairs, sum_by-parts}
 use Rattle.link_algebra.specs.Unions.{raised_slots, union_of}
 use Rattle.kh_types.proofs.JoinedSlots.{smoothings_from}
@@ -28,15 +29,19 @@ SlotsHold below slots = (slot : ℕ) → slot < 4 → (1 ≤ arc_in slots slot) 
 pub record HoldsNames (below : ℕ) (crossings : List (List ℕ)) : Type 0 where
   pub at : (k : ℕ) → k < length crossings → SlotsHold below (slice_index_or crossings k [])
 
-pub HoldsNames-accepted : (code : Code) → IsTrue (accepted code) → HoldsNames (arc_count code.crossings + 1) code.crossings
-HoldsNames-accepted code is =
+pub HoldsNames-twice : (crossings : List (List ℕ)) → HasArcsTwice crossings → HoldsNames (arc_count crossings + 1) crossings
+HoldsNames-twice crossings twice =
     record {
       at = λ k below slot slot_below.
           let e : k + 1 - 1 ≡ k = omega arith in
-          let arc = subst (λ (m : ℕ). IsArc code.crossings (arc_in (slice_index_or code.crossings m []) slot)) e
-          (IsArc-slot code (k + 1) slot is (record { positive = omega arith; within = omega (arith, below) }) slot_below) in
+          let is : IsCrossing crossings (k + 1) = record { positive = omega arith; within = omega (arith, below) } in
+          let arc = subst (λ (m : ℕ). IsArc crossings (arc_in (slice_index_or crossings m []) slot)) e
+          (twice.slots (record { crossing = k + 1; slot = slot }) (record { crossing = is; slot = slot_below })) in
           (arc.positive, omega (arith, arc.within));
     }
+
+pub HoldsNames-accepted : (code : Code) → IsTrue (accepted code) → HoldsNames (arc_count code.crossings + 1) code.crossings
+HoldsNames-accepted code is = HoldsNames-twice code.crossings (HasArcsTwice-accepted code is)
 
 pub HoldsNames-first : (below : ℕ) (slots : List ℕ) (crossings : List (List ℕ)) → HoldsNames below (slots ∷ crossings)
     → SlotsHold below slots

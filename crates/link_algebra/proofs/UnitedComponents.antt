@@ -2,7 +2,7 @@
 --
 -- Components are classes under passes, and the passes of the second code join arcs behind those of the first. So the list of components is
 -- that of the first and then that of the second, raised; sizes, least arcs and next arcs of a part (`IsPart`) are its own.
-use Rattle.std.proofs.Common.{IsTrue, List, [], ap, ap₂, arith, cond, inl, inr, length, map, refl, suc, sym, zero, ℕ, ◌*◌, ◌++◌, ◌+◌, ◌-◌, ◌<◌, ◌∙◌, ◌∷◌, ◌≡◌, ◌≢◌, ◌≤◌, ◌⊎◌}
+use Rattle.std.proofs.Common.{List, [], ap, ap₂, arith, cond, inl, inr, length, map, refl, suc, sym, zero, ℕ, ◌*◌, ◌++◌, ◌+◌, ◌-◌, ◌<◌, ◌∙◌, ◌∷◌, ◌≡◌, ◌≢◌, ◌≤◌, ◌⊎◌}
 use Rattle.std.proofs.lemmas.Bool.{ne_eqb}
 use Rattle.std.proofs.lemmas.Bool.Decides.{nat_tests}
 use Rattle.std.proofs.lemmas.List.{append_assoc, get_or-append-add, get_or-map, get_or_append_left, length-append, length-map, map-id}
@@ -10,13 +10,13 @@ use Rattle.std.proofs.lemmas.List.Sums.{sum_by-append, sum_by-cons}
 use Rattle.std.specs.List.{count_by, flat_map}
 use Rattle.std.specs.Prelude.{nat_eq, slice_index, slice_index_or}
 use Rattle.kh_types.proofs.ListSums.{sum_by-alike, sum_by-map}
-use Rattle.kh_types.specs.Acceptance.{accepted}
 use Rattle.kh_types.specs.Classes.{AreBelow, classes_of}
 use Rattle.kh_types.specs.Code.{Code, IsArc, IsCrossing, arc_count, arc_in, place_of, slots_of}
 use Rattle.kh_types.specs.Components.{arcs_in, component_of, components_of, passes_of}
 use Rattle.kh_types.specs.Bits.{one_if}
+use Rattle.kh_types.specs.Darts.{HasArcsTwice}
 use Rattle.link_algebra.proofs.ClassParts.{classes-parts, index-back, index-front, index-lifted, length-classes, lifted, lifted_pairs}
-use Rattle.link_algebra.proofs.UnitedCircles.{AreMoved, AreMoved-own, AreMoved-raised, HoldsNames, HoldsNames-accepted, HoldsNames-first, HoldsNames-rest, SlotsHold, length-both, lowered, lowered-below, moved-append, pairs-moved, slot-raised}
+use Rattle.link_algebra.proofs.UnitedCircles.{AreMoved, AreMoved-own, AreMoved-raised, HoldsNames, HoldsNames-first, HoldsNames-rest, HoldsNames-twice, SlotsHold, length-both, lowered, lowered-below, moved-append, pairs-moved, slot-raised}
 use Rattle.link_algebra.specs.Unions.{raised_slots, union_of}
 
 all-moved : (g : List ℕ → List ℕ) (start below : ℕ) (crossings : List (List ℕ))
@@ -59,14 +59,14 @@ components-own crossings hold =
     ap₂ classes_of e (all-own (arc_count crossings + 1) crossings hold)
     ∙ classes-parts 1 (arc_count crossings) [] (lowered (flat_map passes_of crossings)) tt (lowered_passes-below crossings hold)
 
-pub components-both : (first second : Code) → IsTrue (accepted first) → IsTrue (accepted second)
+pub components-both : (first second : Code) → HasArcsTwice first.crossings → HasArcsTwice second.crossings
     → components_of (union_of first second).crossings
     ≡ components_of first.crossings ++ lifted (arc_count first.crossings + 1) (inner_components second.crossings)
-components-both first second first_is second_is =
+components-both first second first_twice second_twice =
     let m = arc_count first.crossings + 1 in
     let both = (union_of first second).crossings in
     let more = map (raised_slots (arc_count first.crossings)) second.crossings in
-    let hold = HoldsNames-accepted second second_is in
+    let hold = HoldsNames-twice second.crossings second_twice in
     let size : arc_count both + 1 ≡ m + arc_count second.crossings = omega (arith, length-both first second) in
     ap₂ classes_of size
     (passes-append first.crossings more
@@ -74,7 +74,7 @@ components-both first second first_is second_is =
     (all-moved (raised_slots (arc_count first.crossings)) m (arc_count second.crossings + 1) second.crossings
     (AreMoved-raised (arc_count first.crossings) (arc_count second.crossings + 1)) hold))
     ∙ classes-parts m (arc_count second.crossings) (flat_map passes_of first.crossings) (lowered (flat_map passes_of second.crossings))
-    (passes-small m first.crossings (HoldsNames-accepted first first_is)) (lowered_passes-below second.crossings hold)
+    (passes-small m first.crossings (HoldsNames-twice first.crossings first_twice)) (lowered_passes-below second.crossings hold)
 
 -- the sizes of these lists, and their entries
 pub length-components : (crossings : List (List ℕ)) → HoldsNames (arc_count crossings + 1) crossings
@@ -164,15 +164,15 @@ slots-second first second crossing is =
     ∙ get_or-map (raised_slots (arc_count first.crossings)) second.crossings (place_of crossing) [] []
     (omega (arith, is.positive, is.within))
 
-pub IsPart-first : (first second : Code) → IsTrue (accepted first) → IsTrue (accepted second)
+pub IsPart-first : (first second : Code) → HasArcsTwice first.crossings → HasArcsTwice second.crossings
     → IsPart 0 first.crossings (union_of first second).crossings
-IsPart-first first second first_is second_is =
-    let hold = HoldsNames-accepted first first_is in
-    let second_hold = HoldsNames-accepted second second_is in
+IsPart-first first second first_twice second_twice =
+    let hold = HoldsNames-twice first.crossings first_twice in
+    let second_hold = HoldsNames-twice second.crossings second_twice in
     let m = arc_count first.crossings + 1 in
     let front = components_of first.crossings in
     let back = inner_components second.crossings in
-    let all = components-both first second first_is second_is in
+    let all = components-both first second first_twice second_twice in
     let sizes = length-components first.crossings hold in
     record {
       fits = omega (arith, length-both first second);
@@ -214,16 +214,16 @@ IsPart-first first second first_is second_is =
     start [] m at is = inl at
     start (x ∷ back) m at is = inr (omega (arith, at, is))
 
-pub IsPart-second : (first second : Code) → IsTrue (accepted first) → IsTrue (accepted second)
+pub IsPart-second : (first second : Code) → HasArcsTwice first.crossings → HasArcsTwice second.crossings
     → IsPart (length first.crossings) second.crossings (union_of first second).crossings
-IsPart-second first second first_is second_is =
+IsPart-second first second first_twice second_twice =
     let n = length first.crossings in
-    let hold = HoldsNames-accepted first first_is in
-    let second_hold = HoldsNames-accepted second second_is in
+    let hold = HoldsNames-twice first.crossings first_twice in
+    let second_hold = HoldsNames-twice second.crossings second_twice in
     let m = arc_count first.crossings + 1 in
     let front = components_of first.crossings in
     let back = inner_components second.crossings in
-    let all = components-both first second first_is second_is in
+    let all = components-both first second first_twice second_twice in
     let sizes = length-components first.crossings hold in
     let back_sizes = length-inner second.crossings second_hold in
     record {

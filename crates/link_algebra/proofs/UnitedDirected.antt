@@ -3,14 +3,13 @@
 -- Each crossing and each arc of the union is one of a code's, raised (`IsPart`). Every rule of a directed code is about one crossing, or
 -- about one component and the crossings that it passes, which are of the same part. So each is read off the part, and holds there.
 use Rattle.std.proofs.lemmas.Bool.Decides.{nat_tests}
-use Rattle.std.proofs.Common.{IsTrue, List, ap, ap₂, arith, cond, inl, inr, length, subst, sym, ℕ, ◌%◌, ◌*◌, ◌+◌, ◌-◌, ◌/◌, ◌<◌, ◌∙◌, ◌≡◌, ◌≢◌, ◌≤◌, ◌⊎◌}
+use Rattle.std.proofs.Common.{List, ap, arith, cond, inl, inr, length, subst, sym, ℕ, ◌*◌, ◌+◌, ◌-◌, ◌<◌, ◌∙◌, ◌≡◌, ◌≢◌, ◌≤◌, ◌⊎◌}
 use Rattle.std.proofs.lemmas.Bool.{cases_lt, ne_eqb}
 use Rattle.std.specs.List.{range_with_len, sum_by}
 use Rattle.std.specs.Prelude.{nat_eq}
-use Rattle.kh_types.proofs.AcceptedLemmas.{HasArcsTwice-accepted, IsAccepted-is}
+use Rattle.kh_types.proofs.AcceptedLemmas.{HasArcsTwice-directed}
 use Rattle.kh_types.proofs.ListSums.{sum_by-none, sum_by-range_alike}
 use Rattle.kh_types.proofs.Lists.{count_by-map}
-use Rattle.kh_types.specs.Acceptance.{accepted}
 use Rattle.kh_types.specs.Accepted.{IsDirected, IsInterval}
 use Rattle.kh_types.specs.Code.{Code, IsArc, IsCrossing, arc_count, arc_in, slots_of}
 use Rattle.kh_types.specs.Components.{arcs_in, component_of, components_of, next}
@@ -21,20 +20,22 @@ use Rattle.link_algebra.proofs.ClassParts.{sum_by-parts}
 use Rattle.link_algebra.proofs.UnitedCircles.{length-both}
 use Rattle.link_algebra.specs.Unions.{union_of}
 
--- what is known of two codes and their union
+-- what is known of two directed codes and their union
 pub record AreUnited (first second : Code) : Type 0 where
-  pub first_is : IsTrue (accepted first)
-  pub second_is : IsTrue (accepted second)
+  pub first_is : IsDirected first.crossings
+  pub second_is : IsDirected second.crossings
   pub one : IsPart 0 first.crossings (union_of first second).crossings
   pub two : IsPart (length first.crossings) second.crossings (union_of first second).crossings
 
-pub AreUnited-from : (first second : Code) → IsTrue (accepted first) → IsTrue (accepted second) → AreUnited first second
+pub AreUnited-from : (first second : Code) → IsDirected first.crossings → IsDirected second.crossings → AreUnited first second
 AreUnited-from first second first_is second_is =
+    let first_twice = HasArcsTwice-directed first.crossings first_is in
+    let second_twice = HasArcsTwice-directed second.crossings second_is in
     record {
       first_is = first_is;
       second_is = second_is;
-      one = IsPart-first first second first_is second_is;
-      two = IsPart-second first second first_is second_is;
+      one = IsPart-first first second first_twice second_twice;
+      two = IsPart-second first second first_twice second_twice;
     }
 
 -- whether a test of arcs passes at the dart at a place
@@ -173,22 +174,20 @@ twice-both first second are =
       times-blocks first second (arc + 2 * 0),
       times-own 0 first.crossings whole are.one arc,
       times-none n second.crossings whole are.two (arc + 2 * 0) (inl (omega (arith, is.within))),
-      (HasArcsTwice-accepted first are.first_is).twice arc is,
+      are.first_is.twice arc is,
     ))
     (λ arc is. omega (
       arith,
       times-blocks first second (arc + 2 * n),
       times-own n second.crossings whole are.two arc,
       times-none 0 first.crossings whole are.one (arc + 2 * n) (inr (omega (arith, is.positive))),
-      (HasArcsTwice-accepted second are.second_is).twice arc is,
+      are.second_is.twice arc is,
     ))
 
 pub IsDirected-both : (first second : Code) → AreUnited first second → IsDirected (union_of first second).crossings
 IsDirected-both first second are =
     let n = length first.crossings in
     let whole = (union_of first second).crossings in
-    let one_directed = ((IsAccepted-is first).0 are.first_is).directed in
-    let two_directed = ((IsAccepted-is second).0 are.second_is).directed in
     let name = λ (c : ℕ). component_of (components_of whole) (arc_in (slots_of whole c) 0) in
     record {
       slots = λ dart is.
@@ -197,21 +196,21 @@ IsDirected-both first second are =
           (λ c is_c. slots-of n second.crossings whole are.two c dart.slot is_c is.slot) dart.crossing is.crossing;
       twice = twice-both first second are;
       intervals = each-arc (λ arc. component_of (components_of whole) arc ≡ arc → IsInterval (components_of whole) arc) first second
-          (interval-of 0 first.crossings whole are.one one_directed) (interval-of n second.crossings whole are.two two_directed);
+          (interval-of 0 first.crossings whole are.one are.first_is) (interval-of n second.crossings whole are.two are.second_is);
       under = each-crossing (λ c. arc_in (slots_of whole c) 2 ≡ next whole (arc_in (slots_of whole c) 0)) first second
-          (λ c is. follows-of 0 first.crossings whole are.one c 2 0 is (omega arith) (omega arith) (one_directed.under c is))
-          (λ c is. follows-of n second.crossings whole are.two c 2 0 is (omega arith) (omega arith) (two_directed.under c is));
+          (λ c is. follows-of 0 first.crossings whole are.one c 2 0 is (omega arith) (omega arith) (are.first_is.under c is))
+          (λ c is. follows-of n second.crossings whole are.two c 2 0 is (omega arith) (omega arith) (are.second_is.under c is));
       over = each-crossing
           (λ c. (arc_in (slots_of whole c) 3 ≡ next whole (arc_in (slots_of whole c) 1))
           ⊎ (arc_in (slots_of whole c) 1 ≡ next whole (arc_in (slots_of whole c) 3))) first second
-          (over-of 0 first.crossings whole are.one one_directed) (over-of n second.crossings whole are.two two_directed);
+          (over-of 0 first.crossings whole are.one are.first_is) (over-of n second.crossings whole are.two are.second_is);
       two_arcs = λ earlier later earlier_is later_is.
           each-crossing (λ e. e < later → arc_in (slots_of whole e) 0 ≡ arc_in (slots_of whole later) 0
           → arcs_in (components_of whole) (name later) ≢ 2) first second
           (λ e e_is.
           each-crossing (λ l. 0 + e < l → arc_in (slots_of whole (0 + e)) 0 ≡ arc_in (slots_of whole l) 0
           → arcs_in (components_of whole) (name l) ≢ 2) first second
-          (λ l l_is. two_arcs-of 0 first.crossings whole are.one one_directed e l e_is l_is)
+          (λ l l_is. two_arcs-of 0 first.crossings whole are.one are.first_is e l e_is l_is)
           (λ l l_is order same two. omega (
             arith,
             same,
@@ -224,6 +223,6 @@ IsDirected-both first second are =
           each-crossing (λ l. n + e < l → arc_in (slots_of whole (n + e)) 0 ≡ arc_in (slots_of whole l) 0
           → arcs_in (components_of whole) (name l) ≢ 2) first second
           (λ l l_is order same two. omega (arith, order, l_is.within, e_is.positive))
-          (λ l l_is. two_arcs-of n second.crossings whole are.two two_directed e l e_is l_is) later later_is)
+          (λ l l_is. two_arcs-of n second.crossings whole are.two are.second_is e l e_is l_is) later later_is)
           earlier earlier_is;
     }

@@ -3,18 +3,20 @@
 -- The sign of a crossing is read off its component, and where that has two arcs, off the first crossing that it passes. A search over all
 -- crossings of the union finds nothing before the part and behind it (`IsAlone`), and within it what the search in the part finds, moved
 -- (`slot-part`).
-use Rattle.std.proofs.Common.{Bool, IsTrue, List, None, Option, Some, ap, ap₂, arith, cond, false, inl, inr, length, refl, subst, suc, sym, true, zero, ℕ, ◌*◌, ◌+◌, ◌-◌, ◌<◌, ◌∙◌, ◌≡◌, ◌≢◌, ◌≤◌, ◌⊎◌}
+use Rattle.std.proofs.Common.{Bool, IsTrue, List, None, Option, Some, ap, ap₂, arith, cond, false, inl, inr, length, refl, subst, suc, sym, zero, ℕ, ◌*◌, ◌+◌, ◌-◌, ◌<◌, ◌∙◌, ◌≡◌, ◌≢◌, ◌≤◌, ◌⊎◌}
 use Rattle.std.proofs.lemmas.Bool.{ne_eqb}
 use Rattle.std.proofs.lemmas.Bool.Decides.{nat_tests}
 use Rattle.std.proofs.lemmas.List.Folds.{find-append}
 use Rattle.std.specs.List.{find, range_with_len, sum_by}
 use Rattle.std.specs.Option.{option_map, option_or}
-use Rattle.std.specs.Prelude.{is_some, nat_eq, nat_le, nat_lt, unwrap_or}
+use Rattle.std.specs.Prelude.{is_some, nat_eq, nat_le, unwrap_or}
+use Rattle.kh_types.proofs.AcceptedLemmas.{HasArcsTwice-accepted}
 use Rattle.kh_types.proofs.ListSums.{sum_by-range_alike}
 use Rattle.kh_types.proofs.Ranges.{range-append}
 use Rattle.kh_types.specs.Acceptance.{accepted}
-use Rattle.kh_types.specs.Code.{Code, IsArc, IsCrossing, arc_count, arc_in, place_of, slots_of}
+use Rattle.kh_types.specs.Code.{Code, IsArc, IsCrossing, arc_count, arc_in, slots_of}
 use Rattle.kh_types.specs.Components.{arcs_in, component_of, components_of, next}
+use Rattle.kh_types.specs.Darts.{HasArcsTwice}
 use Rattle.kh_types.specs.Directions.{first_over, first_under, is_positive_by_next, is_positive_by_order, is_positive_by_under, is_positive_in, is_positive_of_two, passes_under, plus_count}
 use Rattle.kh_types.proofs.Lists.{find-none}
 use Rattle.code_passes.proofs.SignRules.{find-first}
@@ -184,11 +186,11 @@ IsAlone-from before after part other whole is apart inside =
           ];
     }
 
-IsAlone-first : (first second : Code) → IsTrue (accepted first) → IsTrue (accepted second)
+pub IsAlone-first : (first second : Code) → HasArcsTwice first.crossings → HasArcsTwice second.crossings
     → IsAlone 0 first.crossings (union_of first second).crossings
-IsAlone-first first second first_is second_is =
+IsAlone-first first second first_twice second_twice =
     IsAlone-from 0 (length first.crossings) first.crossings second.crossings (union_of first second).crossings
-    (IsPart-second first second first_is second_is) (inl (omega arith))
+    (IsPart-second first second first_twice second_twice) (inl (omega arith))
     (λ crossing is outside. elim outside [
       | inl none ↦ absurd (omega (arith, is.positive, none))
       | inr later ↦ (
@@ -197,11 +199,11 @@ IsAlone-first first second first_is second_is =
       )
     ])
 
-IsAlone-second : (first second : Code) → IsTrue (accepted first) → IsTrue (accepted second)
+pub IsAlone-second : (first second : Code) → HasArcsTwice first.crossings → HasArcsTwice second.crossings
     → IsAlone (length first.crossings) second.crossings (union_of first second).crossings
-IsAlone-second first second first_is second_is =
+IsAlone-second first second first_twice second_twice =
     IsAlone-from (length first.crossings) 0 second.crossings first.crossings (union_of first second).crossings
-    (IsPart-first first second first_is second_is) (inr (omega arith))
+    (IsPart-first first second first_twice second_twice) (inr (omega arith))
     (λ crossing is outside. elim outside [
       | inl earlier ↦ (record { positive = omega (arith, is.positive); within = omega (arith, earlier) }, omega arith)
       | inr later ↦ absurd (omega (arith, is.within, later, length-both first second))
@@ -214,6 +216,8 @@ plus-both first second first_is second_is =
     let n = length first.crossings in
     let k = length second.crossings in
     let whole = (union_of first second).crossings in
+    let first_twice = HasArcsTwice-accepted first first_is in
+    let second_twice = HasArcsTwice-accepted second second_is in
     let test : List (List ℕ) → ℕ → ℕ = λ crossings c. cond (is_positive_in crossings (components_of crossings) c) 1 0 in
     ap (λ c. sum_by (test whole) (range_with_len 1 c)) (length-both first second) ∙ sum_by-parts (test whole) 1 n k
     ∙ ap₂ (λ x y. x + y)
@@ -222,10 +226,10 @@ plus-both first second first_is second_is =
     let e : c ≡ 0 + c = omega arith in
     ap (λ b. cond b 1 0)
     (ap (is_positive_in whole (components_of whole)) e
-    ∙ positive-part 0 first.crossings whole (IsPart-first first second first_is second_is) c
-    (IsAlone-first first second first_is second_is) (record { positive = from; within = omega (arith, below) }))))
+    ∙ positive-part 0 first.crossings whole (IsPart-first first second first_twice second_twice) c
+    (IsAlone-first first second first_twice second_twice) (record { positive = from; within = omega (arith, below) }))))
     (sum_by-range_alike (λ c. test whole (n + c)) (test second.crossings) 1 k
     (λ c from below.
     ap (λ b. cond b 1 0)
-    (positive-part n second.crossings whole (IsPart-second first second first_is second_is) c
-    (IsAlone-second first second first_is second_is) (record { positive = from; within = omega (arith, below) }))))
+    (positive-part n second.crossings whole (IsPart-second first second first_twice second_twice) c
+    (IsAlone-second first second first_twice second_twice) (record { positive = from; within = omega (arith, below) }))))

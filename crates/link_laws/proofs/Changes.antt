@@ -20,7 +20,7 @@ use Rattle.diagram_moves.specs.declared.fault.MoveFault.{MoveFault}
 use Rattle.diagram_moves.proofs.ApplyLemmas.{moves_keep_the_state_sum}
 use Rattle.link_algebra.proofs.TurnedCodes.{reversal-dimension, reversal-sum}
 use Rattle.view_laws.proofs.Renumbered.{dimension-renumbered_code}
-use Rattle.move_laws.proofs.AllMoves.{dimension-move}
+use Rattle.link_laws.proofs.AllMoves.{dimension-move}
 use Rattle.link_laws.specs.Links.{HasOtherNumbers, HasOtherOrder, IsLinkChange, all_reversed, arcs_renumbered, bigon_dropped, crossings_reordered, kink_dropped, strand_slid}
 use Rattle.link_laws.proofs.ExchangedSums.{sum-reordered}
 use Rattle.link_laws.proofs.SignedCrossings.{order-minus, order-plus, order-slots}

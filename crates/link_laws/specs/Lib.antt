@@ -1,2 +1,3 @@
+pub mod SeenBy
 pub mod Links
 pub mod WorkedLinks

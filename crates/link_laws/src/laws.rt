@@ -1,6 +1,6 @@
 //! Diagrams of one link, and what they have in common.
 
-ghost use Rattle.std.specs.Prelude.{◌≡◌, ℕ, ℤ, IsTrue, Ok};
+ghost use Rattle.std.specs.Prelude.{◌≡◌, ◌+◌, ℕ, ℤ, Bool, IsTrue, Ok, not};
 ghost use Rattle.kh_types.specs.Acceptance.{accepted};
 ghost use Rattle.kh_types.specs.Code.{Code};
 ghost use Rattle.kh_types.specs.Residues.{HasInverses};
@@ -9,6 +9,8 @@ ghost use Rattle.kh_types.specs.Table.{dimension, table};
 ghost use Rattle.prime_field.specs.Residues.{IsSmallPrime};
 ghost use Rattle.diagram_moves.specs.Moved.{moved};
 ghost use Rattle.diagram_moves.specs.declared.change.Move.{Move};
+ghost use Rattle.link_algebra.specs.Unions.{union_of};
+ghost use Rattle.union_laws.specs.Pieces.{IsCut, first_piece, other_pieces, part_of};
 ghost use Rattle.link_laws.specs.Links.{AreOneLink};
 
 /// That two codes are diagrams of one link is an equivalence of accepted codes.
@@ -42,4 +44,15 @@ pub fn links_have_one_table()
 pub fn links_have_one_polynomial()
     ensures { (first last : Code) (exponent : ℤ) → AreOneLink first last
         → state_sum last exponent ≡ state_sum first exponent }
+{}
+
+/// A diagram in several pieces, or in any parts that share no arc, is one of the same link as the
+/// disjoint union of these.
+pub fn pieces_are_one_link()
+    ensures parts { (keep : ℕ → Bool) (code : Code) (loops others : ℕ) → IsTrue (accepted code)
+        → IsCut keep code.crossings → loops + others ≡ code.loops
+        → AreOneLink code (union_of (part_of keep code loops)
+        (part_of (λ place. not (keep place)) code others)) }
+    ensures pieces { (code : Code) → IsTrue (accepted code)
+        → AreOneLink code (union_of (first_piece code) (other_pieces code)) }
 {}

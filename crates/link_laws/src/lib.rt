@@ -1,6 +1,7 @@
-//! What all diagrams of a link have in common: homology, and the Jones polynomial. It has laws, and
-//! no code.
+//! The Reidemeister moves keep homology, and so all diagrams of a link share it, with the Jones
+//! polynomial. It has laws, and no code.
 #![tactic(auto)]
 
 pub mod laws;
+pub mod moves;
 pub mod worked;

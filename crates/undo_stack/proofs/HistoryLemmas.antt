@@ -79,12 +79,12 @@ module _ (P : Code → Type 0) where
       (EachOf-redone_by (slice_get history.future 0) history each (All-slice_get P history.future 0 each.future))
 
   -- what each move keeps, all diagrams of all histories have
-  EachOf-lines : ((change : Move) (code : Code) → P code → IfOk (moved code change) P)
+  pub EachOf-lines : ((change : Move) (code : Code) → P code → IfOk (moved code change) P)
       → (lines : List EditLine) (history : History) → EachOf P history → EachOf P (edited lines history).history
   EachOf-lines keeps = edited_from-keep (EachOf P) (EachOf-line keeps) 0
 
   -- at first
-  EachOf-opening : (code : Code) → P code → EachOf P (opening_history code)
+  pub EachOf-opening : (code : Code) → P code → EachOf P (opening_history code)
   EachOf-opening code holds = record { past = All-nil P; diagram = holds; future = All-nil P }
 
 HasSumOf-next : (first code : Code) (r : Result Code MoveFault) → HasSumOf first code → IfOk r (HasSumOf code) → IfOk r (HasSumOf first)

@@ -10,3 +10,15 @@ pub mod UnitedCubes
 pub mod Unions
 pub mod UnitedTables
 pub mod Loops
+pub mod RenumberedAccepted
+pub mod PartsAccepted
+pub mod KeptPlaces
+pub mod KeptParts
+pub mod PieceCuts
+pub mod CutNumbers
+pub mod CutCodes
+pub mod KeptSearches
+pub mod CutComponents
+pub mod CutSigns
+pub mod PieceTables
+pub mod PieceCounts

@@ -15,7 +15,7 @@ use Rattle.union_laws.specs.Loops.{beside_loops, with_loops}
 use Rattle.product_laws.specs.Products.{product_dimension}
 use Rattle.union_laws.proofs.Unions.{dimension-union_turned}
 
-fewer-loops : (code : Code) (k : ℕ) → IsTrue (accepted code) → k ≤ code.loops → IsTrue (accepted (with_loops code k))
+pub fewer-loops : (code : Code) (k : ℕ) → IsTrue (accepted code) → k ≤ code.loops → IsTrue (accepted (with_loops code k))
 fewer-loops code k is few =
     let holds = (IsAccepted-is code).0 is in
     (IsAccepted-is (with_loops code k)).1

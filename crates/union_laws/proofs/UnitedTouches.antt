@@ -10,7 +10,9 @@ use Rattle.kh_types.specs.CircleNumbers.{names_to}
 use Rattle.kh_types.specs.Circles.{circle_names, circle_of, circles_of}
 use Rattle.kh_types.specs.Code.{Code, IsCrossing, arc_count, arc_in, slots_of}
 use Rattle.kh_types.specs.Classes.{is_least}
+use Rattle.kh_types.specs.Darts.{HasArcsTwice}
 use Rattle.kh_types.specs.Differential.{is_touched, touched}
+use Rattle.kh_types.proofs.AcceptedLemmas.{HasArcsTwice-accepted}
 use Rattle.kh_types.proofs.EdgeNames.{IsArc-slot}
 use Rattle.kh_types.proofs.Lists.{filter-map}
 use Rattle.cell_complexes.proofs.Members.{Contains-kept, Contains-made}
@@ -58,19 +60,25 @@ module _ (first second : Code) (first_is : IsTrue (accepted first)) (second_is :
   abbrev n : ℕ
   n = length first.crossings
 
+  first_twice : HasArcsTwice first.crossings
+  first_twice = HasArcsTwice-accepted first first_is
+
+  second_twice : HasArcsTwice second.crossings
+  second_twice = HasArcsTwice-accepted second second_is
+
   -- the arcs at the slots
   slot-first : (crossing slot : ℕ) → IsCrossing first.crossings crossing → slot < 4
       → arc_in (slots_of both.crossings crossing) slot ≡ arc_in (slots_of first.crossings crossing) slot
   slot-first crossing slot is below =
       let e : crossing ≡ 0 + crossing = omega arith in
       ap (λ c. arc_in (slots_of both.crossings c) slot) e
-      ∙ (IsPart-first first second first_is second_is).arcs crossing slot is below
+      ∙ (IsPart-first first second first_twice second_twice).arcs crossing slot is below
       ∙ omega arith
 
   slot-second : (crossing slot : ℕ) → IsCrossing second.crossings crossing → slot < 4
       → arc_in (slots_of both.crossings (n + crossing)) slot ≡ m + arc_in (slots_of second.crossings crossing) slot
   slot-second crossing slot is below =
-      (IsPart-second first second first_is second_is).arcs crossing slot is below
+      (IsPart-second first second first_twice second_twice).arcs crossing slot is below
       ∙ turned (arc_in (slots_of second.crossings crossing) slot) (2 * n)
     where
       turned : (c d : ℕ) → c + d ≡ d + c

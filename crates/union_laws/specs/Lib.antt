@@ -1,3 +1,5 @@
 pub mod Cubes
 pub mod Loops
+pub mod Pieces
 pub mod UnitedRows
+pub mod WorkedPieces

@@ -1,4 +1,5 @@
 //! Disjoint unions.
 
+pub mod pieces;
 pub mod unions;
 pub mod worked;

@@ -1,7 +1,5 @@
 use Rattle.std.proofs.lemmas.Bool.Decides.{nat_tests}
-use Rattle.std.proofs.Common.{arith, IsTrue, subst, sym}
-use Rattle.kh_types.specs.Acceptance.{accepted}
-use Rattle.kh_types.specs.Code.{Code}
+use Rattle.std.proofs.Common.{arith}
 use Rattle.link_algebra.proofs.UnionLemmas.{union-accepted}
 use Rattle.link_algebra.proofs.unions.united.Goals as goal
 

@@ -1,6 +1,6 @@
 use Rattle.prime_field.specs.SmallFields.{field-small_prime}
 use Rattle.plain_matrix.proofs.FieldInverses.{inverses-field}
-use Rattle.move_laws.proofs.Tables.{table-same}
+use Rattle.link_laws.proofs.Tables.{table-same}
 use Rattle.link_laws.proofs.Paths.{dimension-link}
 use Rattle.link_laws.proofs.laws.links_have_one_table.Goals as goal
 

@@ -1,5 +1,5 @@
 use Rattle.std.proofs.lemmas.Bool.Decides.{nat_tests}
-use Rattle.std.proofs.Common.{arith, List, length, subst, ℕ, ◌≡◌}
+use Rattle.std.proofs.Common.{arith, subst}
 use Rattle.std.proofs.lemmas.List.Elements.{recursion_from_All}
 use Rattle.kh_types.specs.Code.{Code}
 use Rattle.link_algebra.specs.Mirrors.{EntersInOrder, mirror_of}

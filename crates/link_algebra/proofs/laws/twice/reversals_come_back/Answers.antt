@@ -1,5 +1,5 @@
 use Rattle.std.proofs.lemmas.Bool.Decides.{nat_tests}
-use Rattle.std.proofs.Common.{arith, List, length, refl, ℕ, ◌≡◌}
+use Rattle.std.proofs.Common.{arith, refl}
 use Rattle.std.proofs.lemmas.List.Elements.{recursion_from_All}
 use Rattle.link_algebra.proofs.ReversedNumbers.{reversal-twice}
 use Rattle.link_algebra.proofs.Twice.{reversal-alike, reversal-twice_signs}

@@ -14,7 +14,7 @@ ghost use Rattle.layer_laws.specs.Cuts.{IsCut};
 ghost use Rattle.view_laws.specs.Partitions.{saddle_number, seen_count};
 ghost use Rattle.view_laws.specs.Views.{HasCircles, View};
 ghost use Rattle.view_laws.specs.ViewLayers.{view_layers};
-ghost use Rattle.move_laws.specs.SeenBy.{IsSeenBy};
+ghost use Rattle.link_laws.specs.SeenBy.{IsSeenBy};
 
 /// The layers of a view by which one circle closes at one inner state, and whose inner states have
 /// kinds, are cut.

@@ -27,9 +27,9 @@ use Rattle.drop_laws.specs.DropSigns.{AreBigonSigns, AreKinkSigns}
 use Rattle.drop_laws.proofs.BigonCuts.{IsBigonCut-dropped}
 use Rattle.drop_laws.proofs.KinkCuts.{IsKinkCut-dropped}
 use Rattle.drop_laws.proofs.Signs.{AreBigonSigns-dropped, AreKinkSigns-dropped}
-use Rattle.move_laws.proofs.DroppedBigons.{dimension-dropped_bigon}
-use Rattle.move_laws.proofs.DroppedKinks.{dimension-dropped_kink}
-use Rattle.move_laws.proofs.Restored.{restored}
+use Rattle.link_laws.proofs.DroppedBigons.{dimension-dropped_bigon}
+use Rattle.link_laws.proofs.DroppedKinks.{dimension-dropped_kink}
+use Rattle.link_laws.proofs.Restored.{restored}
 
 -- the smoothing that goes through an added kink tells its sign
 through-sign : (over positive : Bool) → through_at (inner_slot over positive) ≡ one_where positive

@@ -19,9 +19,9 @@ use Rattle.view_laws.specs.Views.{HasCircles, View, joint_state, together}
 use Rattle.view_laws.specs.ViewLayers.{degree_of_labels, outer_count, view_layers}
 use Rattle.view_laws.proofs.CircleNames.{HasCircles-accepted}
 use Rattle.view_laws.proofs.InnerEdges.{complex-cut, dimension-cut}
-use Rattle.move_laws.specs.SeenBy.{IsSeenBy}
-use Rattle.move_laws.proofs.CutViews.{count_by, cut-view, saddle_by}
-use Rattle.move_laws.proofs.OneObject.{like-one}
+use Rattle.link_laws.specs.SeenBy.{IsSeenBy}
+use Rattle.link_laws.proofs.CutViews.{count_by, cut-view, saddle_by}
+use Rattle.link_laws.proofs.OneObject.{like-one}
 use Rattle.drop_laws.specs.DropSigns.{AreKinkSigns}
 use Rattle.drop_laws.specs.DroppedCubes.{IsKinkCut, kink_first, kink_left, kink_view}
 use Rattle.drop_laws.specs.NamesLeft.{number_left}

@@ -21,9 +21,9 @@ use Rattle.view_laws.specs.Views.{HasCircles, IsView, View, together}
 use Rattle.view_laws.specs.ViewLayers.{outer_count, view_layers}
 use Rattle.view_laws.proofs.CircleNames.{HasCircles-accepted}
 use Rattle.view_laws.proofs.InnerEdges.{complex-cut, dimension-cut}
-use Rattle.move_laws.specs.SeenBy.{IsSeenBy}
-use Rattle.move_laws.proofs.CutViews.{count_by, cut-view, saddle_by}
-use Rattle.move_laws.proofs.Measured.{between_by, height_by, measured-view, weight_by}
+use Rattle.link_laws.specs.SeenBy.{IsSeenBy}
+use Rattle.link_laws.proofs.CutViews.{count_by, cut-view, saddle_by}
+use Rattle.link_laws.proofs.Measured.{between_by, height_by, measured-view, weight_by}
 use Rattle.slide_view_laws.specs.SeenSlides.{HasSeenSlide, IsSeenSlide}
 
 -- a view of three inner crossings, of which one state closes a circle, is seen by kinds

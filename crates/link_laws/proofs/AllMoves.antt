@@ -16,10 +16,10 @@ use Rattle.diagram_moves.proofs.BackAgain.{answered-ok}
 use Rattle.diagram_moves.proofs.FaultLemmas.{both-none}
 use Rattle.drop_laws.proofs.DroppedMoves.{IsFingerDrop-moved, IsKinkDrop-moved}
 use Rattle.slide_view_laws.proofs.SeenSlides.{HasSeenSlide-moved}
-use Rattle.move_laws.proofs.Added.{dimension-fingered, dimension-kinked}
-use Rattle.move_laws.proofs.DroppedBigons.{dimension-dropped_bigon}
-use Rattle.move_laws.proofs.DroppedKinks.{dimension-dropped_kink}
-use Rattle.move_laws.proofs.SlidMoves.{dimension-slid}
+use Rattle.link_laws.proofs.Added.{dimension-fingered, dimension-kinked}
+use Rattle.link_laws.proofs.DroppedBigons.{dimension-dropped_bigon}
+use Rattle.link_laws.proofs.DroppedKinks.{dimension-dropped_kink}
+use Rattle.link_laws.proofs.SlidMoves.{dimension-slid}
 
 -- one code has the dimensions of another
 abbrev pub HasDimensions : ℕ → Code → Code → Type 0

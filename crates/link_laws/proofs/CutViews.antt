@@ -19,8 +19,8 @@ use Rattle.view_laws.specs.ViewLayers.{closed_of, inside_of, object_of, objects_
 use Rattle.view_laws.proofs.InnerEdges.{inner-none, inner-saddle, merge-identity, split-identity}
 use Rattle.view_laws.proofs.Cells.{object-closed, object-inside}
 use Rattle.view_laws.proofs.Seen.{saddle-alike, seen-alike}
-use Rattle.move_laws.specs.SeenBy.{IsSeenBy}
-use Rattle.move_laws.proofs.Steps.{IsStepFound, no-step, step-found}
+use Rattle.link_laws.specs.SeenBy.{IsSeenBy}
+use Rattle.link_laws.proofs.Steps.{IsStepFound, no-step, step-found}
 
 pub none-of : {A : Type 0} (xs : List A) → length xs ≡ 0 → xs ≡ []
 none-of [] none = refl

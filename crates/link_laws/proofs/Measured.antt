@@ -10,8 +10,8 @@ use Rattle.view_laws.specs.Partitions.{seen_count}
 use Rattle.view_laws.specs.Views.{HasCircles, View}
 use Rattle.view_laws.specs.ViewLayers.{degree_of_labels, inside_of, outer_count, outer_number, relation_of, seen_at, view_layers}
 use Rattle.view_laws.proofs.PlainViews.{outer-alike}
-use Rattle.move_laws.specs.SeenBy.{IsSeenBy}
-use Rattle.move_laws.proofs.CutViews.{closed-open, count-inside, inside-open, seen-inside}
+use Rattle.link_laws.specs.SeenBy.{IsSeenBy}
+use Rattle.link_laws.proofs.CutViews.{closed-open, count-inside, inside-open, seen-inside}
 
 -- a homological degree, by the number of outer crossings, the ones inside and the outer state
 abbrev pub height_by : ℕ → ℕ → ℕ → ℕ → ℤ

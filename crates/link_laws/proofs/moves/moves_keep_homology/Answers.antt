@@ -1,8 +1,8 @@
 use Rattle.prime_field.specs.SmallFields.{field-small_prime}
 use Rattle.plain_matrix.proofs.FieldInverses.{inverses-field}
-use Rattle.move_laws.proofs.AllMoves.{dimension-move}
-use Rattle.move_laws.proofs.Tables.{table-same}
-use Rattle.move_laws.proofs.laws.moves_keep_homology.Goals as goal
+use Rattle.link_laws.proofs.AllMoves.{dimension-move}
+use Rattle.link_laws.proofs.Tables.{table-same}
+use Rattle.link_laws.proofs.moves.moves_keep_homology.Goals as goal
 
 pub returns : goal.returns
 returns c =

@@ -1,0 +1,5 @@
+use Rattle.link_laws.proofs.CutViews.{cut-view}
+use Rattle.link_laws.proofs.moves.views_are_cut.Goals as goal
+
+pub returns : goal.returns
+returns c = cut-view
