@@ -25,3 +25,5 @@ pub mod PivotLemmas
 pub mod Passes
 pub mod Cancels
 pub mod NotedRows
+pub mod GridLemmas
+pub mod PieceLemmas

@@ -5,3 +5,5 @@ pub mod CountedRows
 pub mod Additions
 pub mod AddedBridges
 pub mod Eliminations
+pub mod Grids
+pub mod Sides

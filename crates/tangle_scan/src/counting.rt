@@ -1,6 +1,6 @@
-//! The rows of what the objects of a complex count.
+//! The rows of dimensions: what the objects of a complex count, or anything else that has them.
 
-ghost use Rattle.std.specs.Prelude.{◌≡◌, ◌+◌, ◌*◌, ◌<◌, ◌≤◌, ◌^◌, ◌++◌, [], ◌∷◌, pos, ◌-ℤ◌, IfOk, OnOk};
+ghost use Rattle.std.specs.Prelude.{◌≡◌, ℤ, ◌+◌, ◌*◌, ◌<◌, ◌≤◌, ◌^◌, ◌++◌, [], ◌∷◌, pos, ◌-ℤ◌, IfOk, OnOk};
 ghost use Rattle.std.specs.List.{filter};
 ghost use Rattle.kh_types.specs.Table.{is_shown};
 ghost use Rattle.kh_types.specs.declared.limits.TheConstants.{CIRCLES};
@@ -8,42 +8,41 @@ ghost use Rattle.tangle_scan.specs.CountedRows.{all_rows_by, dims_of, row_by, ro
 
 use crate::circle_numbers::{Asked, value_of};
 use crate::counted::Counted;
+use crate::dimensions::Dimensions;
 use crate::table::ScanRow;
-use circle_smoothing::Triangle;
 use jones_sum::{COEFFICIENTS, exponent_at};
 use kh_types::NoMemory;
 use std::alloc::Global;
 
-/// The rows of all quantum degrees.
+/// The rows of all quantum degrees, for a diagram with so many crossings.
 #[tactic(auto, using(crate::proofs::RowLemmas::all_steps))]
-pub(crate) fn all_rows(
+pub(crate) fn all_rows<D: Dimensions>(
     alloc: Global,
-    counted: &Counted,
-    triangle: &Triangle,
+    dims: &D,
+    crossings: u8,
 ) -> Result<Vec<ScanRow>, NoMemory>
-    ensures { IfOk result (λ rows.
-        rows.items ≡ all_rows_by (dims_of counted.now) counted.now.crossings) }
+    ensures { IfOk result (λ rows. rows.items ≡ all_rows_by (D.dims dims.now) crossings) }
 {
     let mut rows = Vec::new(alloc);
     'places: for place in 0..COEFFICIENTS {
-        push_rows(&mut rows, counted, triangle, exponent_at(place))?;
+        push_rows(&mut rows, dims, crossings, exponent_at(place))?;
     }
     Ok(rows)
 }
 
 /// Adds the rows of a quantum degree, ascending by homological degree.
 #[tactic(auto, using(crate::proofs::RowLemmas::steps))]
-fn push_rows(
+fn push_rows<D: Dimensions>(
     rows: &mut Vec<ScanRow>,
-    counted: &Counted,
-    triangle: &Triangle,
+    dims: &D,
+    crossings: u8,
     j: i16,
 ) -> Result<(), NoMemory>
     ensures { OnOk result (rows.new.items
-        ≡ rows.old.items ++ rows_by (dims_of counted.now) counted.now.crossings j) }
+        ≡ rows.old.items ++ rows_by (D.dims dims.now) crossings j) }
 {
-    'degrees: for k in 0..2 * usize::from(counted.crossings) + 1 {
-        push_row(rows, row_of(counted, triangle, k, j))?;
+    'degrees: for k in 0..2 * usize::from(crossings) + 1 {
+        push_row(rows, row_of(dims, crossings, k, j))?;
     }
     Ok(())
 }
@@ -59,34 +58,35 @@ fn push_row(rows: &mut Vec<ScanRow>, row: ScanRow) -> Result<(), NoMemory>
 }
 
 /// The row of a homological degree, counted from the least that a diagram of so many crossings has.
-fn row_of(counted: &Counted, triangle: &Triangle, k: usize, j: i16) -> ScanRow
-    requires { k < 2 * counted.now.crossings + 1 }
-    ensures { result ≡ row_by (dims_of counted.now) j (pos k -ℤ pos counted.now.crossings) }
+fn row_of<D: Dimensions>(dims: &D, crossings: u8, k: usize, j: i16) -> ScanRow
+    requires { k < 2 * crossings + 1 }
+    ensures { result ≡ row_by (D.dims dims.now) j (pos k -ℤ pos crossings) }
 {
-    let i = k as i16 - i16::from(counted.crossings);
+    let i = k as i16 - i16::from(crossings);
     ScanRow {
         j,
         i,
-        dim: dimension(counted, triangle, i, j),
+        dim: dims.dimension(i, j),
     }
 }
 
-/// What the objects count at two degrees.
-fn dimension(counted: &Counted, triangle: &Triangle, i: i16, j: i16) -> u128
-    ensures { result ≡ dims_of counted.now i j }
-{
-    let asked = Asked {
-        loops: counted.loops,
-        plus: counted.plus,
-        minus: counted.minus,
-        i,
-        j,
-    };
-    let mut total = 0u128;
-    'tallies: for tally in &counted.tallies {
-        total += times(tally.count, value_of(triangle, asked, tally));
+impl Dimensions for Counted {
+    ghost dims = { dims_of };
+
+    fn dimension(&self, i: i16, j: i16) -> u128 {
+        let asked = Asked {
+            loops: self.loops,
+            plus: self.plus,
+            minus: self.minus,
+            i,
+            j,
+        };
+        let mut total = 0u128;
+        'tallies: for tally in &self.tallies {
+            total += times(tally.count, value_of(&self.triangle, asked, tally));
+        }
+        total
     }
-    total
 }
 
 /// A value, as often as it is counted.

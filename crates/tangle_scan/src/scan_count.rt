@@ -40,7 +40,7 @@ fn counted_rows(
     ensures { IfOk result (λ rows. AreCountedRows diagram.now objects.now rows.items) }
 {
     let counted = counted_objects(alloc, diagram, objects)?;
-    all_rows(alloc, &counted, &Triangle::new())
+    all_rows(alloc, &counted, counted.crossings)
 }
 
 /// Counts objects for the table of a diagram.
@@ -58,5 +58,6 @@ fn counted_objects(
         crossings: diagram.count(),
         plus: diagram.plus(),
         minus: diagram.minus(),
+        triangle: Triangle::new(),
     })
 }

@@ -1,9 +1,8 @@
-use Rattle.std.proofs.Common.{◌≤◌, ◌∙◌, ℤ, List, ap, length, subst, sym}
+use Rattle.std.proofs.Common.{◌≤◌, ◌∙◌, ℤ, List, ap, subst, sym}
 use Rattle.std.specs.List.{All}
 use Rattle.prime_field.specs.Residues.{IsSmallPrime}
 use Rattle.kh_types.specs.StateSum.{euler, polynomial_text}
 use Rattle.kh_types.specs.Table.{Row, Table}
-use Rattle.kh_types.specs.declared.limits.TheConstants.{CROSSINGS}
 use Rattle.kh_types.proofs.AcceptedLemmas.{IsAccepted-is}
 use Rattle.circle_smoothing.specs.declared.limits.TheConstants.{GENERATORS}
 use Rattle.jones_sum.specs.Coefficients.{coefficient_in, coefficients_of}

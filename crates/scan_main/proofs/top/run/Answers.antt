@@ -1,4 +1,4 @@
-use Rattle.std.proofs.Common.{◌≡◌, ap, refl, Err, ◌∙◌}
+use Rattle.std.proofs.Common.{◌≡◌, ap, refl, Err}
 use Rattle.kh_replies.specs.Told.{seen}
 use Rattle.scan_main.proofs.ListRuns.{headline-list}
 use Rattle.scan_main.proofs.ScanRuns.{IsScanRun-command, IsScanRun-none, headline-run}
