@@ -14,3 +14,6 @@ pub mod LogAnswers
 pub mod ReducedHeadlines
 pub mod TextAnswers
 pub mod CaseAnswers
+pub mod CircleRows
+pub mod BareCodes
+pub mod BesideCircles

@@ -11,3 +11,4 @@ pub mod Answer
 pub mod Drafts
 pub mod Told
 pub mod Runs
+pub mod Circles

@@ -4,6 +4,7 @@
 
 mod answer;
 mod byte_limits;
+mod circles;
 mod commands;
 mod completion;
 mod draft;
