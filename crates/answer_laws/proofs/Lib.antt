@@ -1,0 +1,9 @@
+mod DualTables
+mod SmallCodes
+mod GaussTexts
+mod MovedCodes
+mod PrintedCodes
+mod EditedCodes
+mod TurnedAnswers
+mod AlikeAnswers
+mod EditAnswers
