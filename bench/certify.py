@@ -3,7 +3,7 @@
 
     bench/certify.py [RUNS] [--program PATH]
 
-On the ten largest diagrams of `braids.txt` runs of `homology`, of `certify`, and of `verify` on the log that `certify` wrote, over two
+On the ten largest diagrams of `braids.txt` runs of `homology`, of `certify`, and of `verify` on the log that `certify` wrote, over three
 elements by one worker, take turns, so that whatever else the machine does falls on all three. It prints for each diagram the size of the
 log, and the ratios of the least user and system times and of the most memory; then the user and system time of `verify` on 64 MiB of
 several kinds, the worst of its runs; and that of `show/verify.py` on the log of a diagram of 11 crossings. The last lines are rows of
@@ -15,7 +15,7 @@ import sys
 
 from braids import braids, planar_diagram
 from homology import PROGRAM, TOP, run
-from reduced import largest
+from reduced import THREE, largest
 
 LOG_BYTES = 67_108_864
 ELEVEN = 11
@@ -41,18 +41,18 @@ class Figures:
 
 def turns(program, text, log, runs):
     """The least times and the most memory of each command, in turns."""
-    commands = {"homology": text, "certify": text, "verify": log}
+    commands = {"homology": text, "certify": text, "verify": log}  # (a log tells its field)
     seen = {command: [] for command in commands}
     for _ in range(runs):
         for command, given in commands.items():
-            seen[command].append(run([program, command], given))
+            seen[command].append(run([program, command, *(() if command == "verify" else THREE)], given))
     return {command: (min(it[1] for it in them), max(it[3] for it in them)) for command, them in seen.items()}
 
 
 def against_homology(program, runs, figures):
     worst = {(command, at): 0 for command in ("certify", "verify") for at in (0, 1)}
     for name, text in largest():
-        log = run([program, "certify"], text)[0]
+        log = run([program, "certify", *THREE], text)[0]
         found = turns(program, text, log, runs)
         for command, at in worst:
             worst[command, at] = max(worst[command, at], found[command][at] / found["homology"][at])

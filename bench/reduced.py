@@ -3,8 +3,8 @@
 
     bench/reduced.py [RUNS] [--program PATH]
 
-On the ten largest diagrams of `braids.txt` runs of `reduced --mark 1` and of `homology`, over two elements by one worker, take turns, so
-that whatever else the machine does falls on both. It prints for each the ratio of the least user and system times and of the most
+On the ten largest diagrams of `braids.txt` runs of `reduced --mark 1` and of `homology`, over three elements by one worker, take turns, so
+that whatever else the machine does falls on both. (Over two elements `homology` takes the reduced cube itself.) It prints for each the ratio of the least user and system times and of the most
 memory, then the worst of both; at the end the medians of wall times of whole runs on a braid of 20 crossings, as ratios to `true`.
 Build the program first, by `./build`. The gate does not run it.
 """
@@ -16,6 +16,7 @@ from braids import braids, planar_diagram
 from homology import PROGRAM, TOP, run
 
 LARGEST = 10
+THREE = ("--field", "3")
 
 
 def largest():
@@ -33,7 +34,7 @@ def least(words, text, runs):
 def against_homology(program, runs):
     times, memories = [], []
     for name, text in largest():
-        turns = [(least([program, "reduced", "--mark", "1"], text, 1), least([program, "homology"], text, 1)) for _ in range(runs)]
+        turns = [[least([program, *words, *THREE], text, 1) for words in (("reduced", "--mark", "1"), ("homology",))] for _ in range(runs)]
         mine, others = ([min(it[k][0] for it in turns), max(it[k][1] for it in turns)] for k in (0, 1))
         times.append(mine[0] / others[0])
         memories.append(mine[1] / others[1])

@@ -4,8 +4,8 @@
     tests/link_algebra.py PROGRAM
 
 Over four fields the table of a mirror image is the table turned round, and the polynomial has q and q^-1 exchanged; a reversal keeps both;
-the polynomial of a union is the product, and its homology over two elements is that of the tensor product (Künneth). `tests/program` runs
-these cases behind its rows. The last line is 'N passed, M failed'.
+the polynomial of a union is the product, and so is its table over each field (Künneth). `tests/program` runs these cases behind its rows.
+The last line is 'N passed, M failed'.
 """
 import re
 import sys
@@ -18,6 +18,7 @@ from plain.codes import Ended
 from shared import known_diagrams
 from shared.pool import tell_parts
 from shared.running import Child, fault_of, told
+from shared.tables import table_of, wrong
 
 COMMANDS = ("mirror", "reverse", "union")
 DRAWN = 300
@@ -92,20 +93,14 @@ def new_codes(child):
             yield f"{command}, twice", fault_of(child, [command], known_diagrams.text_of(once), 0, algebra.text_of(changed(once)))
 
 
-def table_of(child, text, field):
-    """The dimensions by both degrees, and the Jones line, that the program finds."""
-    wrote = child.run(["homology", "--field", field], text.encode()).wrote.decode()
-    rows_found = re.findall(r"j (-?\d+) i (-?\d+) dim (\d+)\n", wrote)
-    return {(int(j), int(i)): int(dim) for j, i, dim in rows_found}, wrote.splitlines()[-1:]
+def homology(child, text, field):
+    """The dimensions by both degrees, and the Jones line."""
+    return table_of(child, ["homology", "--field", field], text)
 
 
 def terms_of(line):
     """The coefficients of a Jones line, by exponents."""
     return {int(at): int(value) for value, at in re.findall(r"(-?\d+)\*q\^(-?\d+)", "".join(line))}
-
-
-def wrong(came, wanted):
-    return None if came == wanted else f"{str(came)[:300]} and not {str(wanted)[:300]}"
 
 
 def invariants(child):
@@ -117,28 +112,28 @@ def invariants(child):
         image = child.run(["mirror"], text.encode()).wrote.decode()
         back = child.run(["reverse"], text.encode()).wrote.decode()
         for field in FIELDS:
-            table, jones = table_of(child, text, field)
-            turned, turned_jones = table_of(child, image, field)
+            table, jones = homology(child, text, field)
+            turned, turned_jones = homology(child, image, field)
             yield f"mirror, its table over {field}", wrong(turned, algebra.turned(table))
             mirrored = dict(sorted((-at, value) for at, value in terms_of(jones).items()))
             yield f"mirror, its polynomial over {field}", wrong(terms_of(turned_jones), mirrored)
-            yield f"reverse, its table over {field}", wrong(table_of(child, back, field), (table, jones))
+            yield f"reverse, its table over {field}", wrong(homology(child, back, field), (table, jones))
 
 
 def pairs(child):
-    """Unions of each pair of ten diagrams: the code, the polynomial, and over two elements the table of small ones."""
+    """Unions of each pair of ten diagrams: the code, the polynomial, and of small ones the table over each field."""
     names = ("no crossings", "two loops", "a curl", "a Hopf link", "a trefoil", "the other trefoil", "a figure eight")
     texts = [text for name, text in known_diagrams.begun() if name in names] + [text for _, text in known_diagrams.stored()[:3]]
-    tables = {text: table_of(child, text, "2") for text in texts}
+    found = {(text, field): homology(child, text, field) for text in texts for field in FIELDS}
     for first in texts:
         for second in texts:
             both = algebra.united(codes.read(first), codes.read(second))
             yield "union, a pair", fault_of(child, ["union"], f"{first};{second}", 0, codes.printed(both) + "\n")
-            line = plain.cube.polynomial_line(algebra.product(*(terms_of(tables[text][1]) for text in (first, second))))
+            line = plain.cube.polynomial_line(algebra.product(*(terms_of(found[text, "2"][1]) for text in (first, second))))
             yield "union, its polynomial", fault_of(child, ["jones"], codes.printed(both), 0, line)
-            if plain.cube.generator_count(both) <= 100_000:
-                table = table_of(child, codes.printed(both), "2")[0]
-                yield "union, its table", wrong(table, algebra.product(tables[first][0], tables[second][0]))
+            for field in FIELDS if plain.cube.generator_count(both) <= 100_000 else "":
+                table = homology(child, codes.printed(both), field)[0]
+                yield f"union, its table over {field}", wrong(table, algebra.product(found[first, field][0], found[second, field][0]))
 
 
 def refused_pairs(child):

@@ -18,6 +18,7 @@ import plain.diagrams as codes
 from shared import known_diagrams
 from shared.pool import tell_parts
 from shared.running import Child, fault_of, told
+from shared.tables import wrong
 
 FIELDS = "2357"
 WHOLE = 1_000
@@ -99,15 +100,15 @@ def table_faults(child, name, diagram, mark, field, whole_table):
     text, jones = known_diagrams.text_of(diagram), plain.cube.jones_line(diagram)
     status, table, others = reduced(child, text, mark, field)
     head = [f"mark {mark}", "table 2", f"field {field}"]
-    yield f"{name}, its lines", link_algebra.wrong((status, others), (0, [*head, *jones.splitlines()]))
+    yield f"{name}, its lines", wrong((status, others), (0, [*head, *jones.splitlines()]))
     circle = plain.cube.with_circle(Counter(plain.cube.characteristic(table)))
     polynomial = {at: circle[at] for at in sorted(circle) if circle[at]}
-    yield f"{name}, its Euler characteristic", link_algebra.wrong(polynomial, plain.cube.state_sum(diagram))
+    yield f"{name}, its Euler characteristic", wrong(polynomial, plain.cube.state_sum(diagram))
     if is_alternating_knot(diagram):
         diagonals = {j - 2 * i for j, i in table}
         yield f"{name}, one diagonal", None if len(diagonals) == 1 else f"{text}: {diagonals}"
     if field == "2":
-        yield f"{name}, twice is the table", link_algebra.wrong(doubled(table), whole_table)
+        yield f"{name}, twice is the table", wrong(doubled(table), whole_table)
     if plain.cube.generator_count(codes.code_of(diagram)) <= WHOLE:
         wanted = "".join(line + "\n" for line in head[:1]) + plain.cube.table(diagram, int(field), mark) + jones
         yield f"{name}, by the definition", fault_of(child, ["reduced", "--mark", str(mark), "--field", field], text, 0, wanted)
@@ -152,7 +153,7 @@ def all_faults(child, diagrams):
 
 def marked_faults(child, name, diagram, fields):
     """What is wrong with the reduced tables of a diagram, at marks over the fields of each."""
-    table = link_algebra.table_of(child, known_diagrams.text_of(diagram), "2")[0]
+    table = link_algebra.homology(child, known_diagrams.text_of(diagram), "2")[0]
     for mark in fields:
         for field in fields[mark]:
             yield from table_faults(child, f"reduced, {name}", diagram, mark, field, table)

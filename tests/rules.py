@@ -25,7 +25,7 @@ from shared.places import TOP
 from tools.version import version
 
 LONGEST = 7
-HEADINGS = "foundations diagrams cube moves texts cancellation invariance scan unions threads program tests".split()
+HEADINGS = "foundations diagrams cube moves texts cancellation invariance links scan threads program tests".split()
 COLUMNS = 135
 CHANGES = "## To change something"
 NAMED = re.compile(r"`(\w+)`")

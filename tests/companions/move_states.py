@@ -23,6 +23,9 @@ MOVES = ("kink", "bigon", "slide")
 APART, SAME = 0.1, 1e-6
 # How many objects are left of each row with something cancelled.
 LEFT = {"kink": 1, "bigon": 1, "slide": 5}
+# How far apart the texts of two arrows are at least, and the texts that have digits.
+BETWEEN = 30
+DIGITS = "r = [0-3]|[01]{1,3}(, v[+\u2212])?|the circle at [01]"
 
 
 def rows(move):
@@ -160,6 +163,22 @@ def picture_fault(move):
     return contrast_fault(wrote)
 
 
+def colours_fault(move):
+    """Strands have one colour exactly where they join the same ends, in all rows of a picture."""
+    shown = {(it.pairs, row.colours[number]) for row in STATES.rows_of(move) for number, it in row.local.scan.objects.items()}
+    return None if len({pairs for pairs, _ in shown}) == len(shown) == len({colour for _, colour in shown}) else f"{shown}"
+
+
+def texts_fault(move):
+    """Digits are smoothings and numbers of ones alone, and the texts of arrows keep their distance."""
+    root = xml.etree.ElementTree.fromstring(STATES.picture_of(move))
+    found = [*root.iter("{http://www.w3.org/2000/svg}text")]
+    digits = [it.text for it in found if re.search("[0-9]", it.text) and not re.fullmatch(DIGITS, it.text)]
+    places = [(it.text, (float(it.get("x")), float(it.get("y")))) for it in found if "over" in it.get("class").split()]
+    near = [(one, other) for (one, p), (other, q) in itertools.combinations(places, 2) if math.dist(p, q) < BETWEEN]
+    return f"{digits}, {near}" if digits or near else None
+
+
 def contrast_fault(wrote):
     """On a light and on a dark screen strands and texts stand out from the ground."""
     for colours in ("".join(part) for part in re.findall(r"<style>(.*)@media\(prefers-color-scheme:dark\){([^@]*)}</style>", wrote)[0]):
@@ -199,6 +218,8 @@ def faults():
             if move != "slide":
                 yield f"{name}: the strands alone are left", straight_fault(row)
         yield f"show/move_states {move}: the picture", picture_fault(move)
+        yield f"show/move_states {move}: colours", colours_fault(move)
+        yield f"show/move_states {move}: texts", texts_fault(move)
         yield f"show/move_states {move}: in words", told_fault(move, WORDS[move])
     yield "show/move_states slide: both sides leave the same", sides_fault(*rows("slide"))
 

@@ -299,6 +299,8 @@ SCAN = """\
 #!/bin/sh
 echo "$*" >> "$0.words"
 [ ! -e "$0.slow" ] || exec sleep 1000
+for _ in $(seq 200); do [ $(($(wc -l < "$0.words") % 4)) -ne 0 ] || break; sleep 0.05; done
+[ $(($(wc -l < "$0.words") % 4)) -eq 0 ] || exit 1
 printf 'table 2\\nfield %s\\nj 0 i 0 dim 1\\njones 1*q^0\\n' "$2"
 """
 
@@ -321,7 +323,9 @@ def scan_fault(program):
         return f"{status}, {said}"
     right = without == late == ([], BEYOND) and ([it.field for it in tables], limit) == (list(FIELDS), "")
     right = right and first == (tables, "") and len(alone[0][0].dimensions) == 6
-    return None if right and words == 2 * [f"--field {field}" for field in FIELDS] else f"{without}, {tables}, {limit}, {words}, {late}"
+    # (each of them waits until all four have begun)
+    right = right and sorted(words) == sorted(2 * [f"--field {field}" for field in FIELDS])
+    return None if right else f"{without}, {tables}, {limit}, {words}, {late}"
 
 
 def stored_fault(program):

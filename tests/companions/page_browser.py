@@ -8,7 +8,7 @@ import os
 import re
 import subprocess
 
-from companions import page_lessons
+from companions import page_lessons, page_screens
 from rows.texts import TREFOIL
 from shared import browser
 from shared.places import TOP
@@ -226,9 +226,12 @@ def served_faults(tab, program):
 
 
 def plain_move_fault(tab, serving):
-    """Without a script a kink is taken out by its button."""
+    """Without a script a kink is taken out by its button, and nothing is said of what only a script does."""
     tab.screen(1300, 900, script=False)
     tab.load(serving.address(serving.step("PD[X[1,1,2,2]]")))
+    note = tab.value("document.querySelector('#moves > .note').innerText")
+    if "kh edit" not in note or "Point" in note:
+        return note
     press(tab, 'button[value="r1 drop 1"]')
     tab.screen(1300, 900)
     told = tab.text("#unchanged")
@@ -316,4 +319,5 @@ def faults(program):
         yield from colour_faults(tab)
         yield from served_faults(tab, program)
         yield from page_lessons.faults(tab, program)
+        yield from page_screens.faults(tab)
         yield "the lessons", lessons_fault(tab, program)

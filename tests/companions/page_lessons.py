@@ -57,12 +57,24 @@ def kink_faults(tab, serving):
     tables = tab.value("document.querySelectorAll('#unchanged table').length")
     right = "The table stays: proved" in told and tables == 2 and typed == tab.text(".code code") and typed.count("X[") == 4
     yield "what stands beside a move", None if right else f"{told}, {tables}, {typed}"
+    tab.click("#quiz button:nth-of-type(3)")
+    hidden = tab.value("document.querySelector('#unchanged').innerText")
+    tab.click("#quiz button:nth-of-type(6)")
+    yield "the polynomial, asked behind a move", None if "jones" in told and "jones" not in hidden else hidden
     tab.value("document.querySelector('.move[data-line=\"r1 drop 4\"]').focus()")
     _, rests = pressed(tab, lambda: tab.press("Enter"))
     yield "a mark that Enter presses", None if are_kept(first, tab.value(PLACES)) and not rests else f"{tab.value(PLACES)}"
-    theorem = serving.get("theorem")
-    right = theorem.status == 200 and theorem.text.startswith("#") and theorem.heads["content-type"].startswith("text/plain")
-    yield "the link to the theorem", None if right else f"{theorem.status}"
+    yield "the link to the theorem", theorem_fault(tab)
+
+
+def theorem_fault(tab):
+    """The link beside a move leads to the page of the theorem, which has its three pictures, and nothing of Markdown's signs."""
+    tab.loaded(lambda: tab.click("#unchanged li a"))
+    found = tab.value("[document.querySelector('h1').textContent, Array.from(document.images).filter((it) => it.naturalWidth > 100).length]")
+    left = re.search(r"\]\(|\*\*|^[#|-]|`", tab.value("document.body.innerText"), re.M)
+    linked = tab.value("Array.from(document.querySelectorAll('.theorem a')).every((it) => document.querySelector(it.getAttribute('href')))")
+    right = found == ["Invariance: moves keep the table", 3] and linked and not tab.faults()
+    return None if right and not left else f"{found}, {left}, {tab.faults()}"
 
 
 def slide_faults(tab, serving):
@@ -78,7 +90,11 @@ def slide_faults(tab, serving):
         "return a.left >= b.left - 1 && a.right <= b.right + 1 && a.top >= b.top - 1 && a.bottom <= b.bottom + 1 && b.bottom < 900})()"
     )
     yield "the picture of a move stands in the drawing's frame", None if inside else "elsewhere"
+    picture = tab.value("document.querySelector('#preview image').getAttribute('href')")
+    shown = re.findall(r'<path class="strand[^>]* d="([^"]*)"', serving.get(picture.split("/", 2)[2]).text)
     begun, rests = pressed(tab, lambda: tab.click(mark + " circle"))
+    same = ",".join(shown) == tab.value(STRANDS)
+    yield "the picture that was shown is that of the move", None if shown and same else f"{shown} and not {tab.value(STRANDS)}"
     moved = strands != tab.value(STRANDS) and not are_kept(first, tab.value(PLACES))
     yield "a slide changes the picture", None if moved and not rests else f"{begun}, {rests}"
     tab.screen(1300, 900, still=True)
@@ -86,6 +102,42 @@ def slide_faults(tab, serving):
     right = not begun and are_kept(first, tab.value(PLACES))
     tab.screen(1300, 900)
     yield "undo without motion, where none is wanted", None if right else f"{begun}"
+
+
+SLOW = """\
+#!/bin/sh
+[ "$1" != draw ] || [ ! -e "$0.slow" ] || { echo >> "$0.drawn"; sleep 2; }
+exec "%s" "$@"
+"""
+POINT = "document.querySelectorAll('button[value^=\"r2 add\"]')[%d].dispatchEvent(new MouseEvent('mouseover', {bubbles: true}));"
+SEEN = """new Promise((done) => {
+  const look = () => {
+    const it = document.querySelector('#preview image');
+    if (it) it.addEventListener('load', () => done('seen'));
+    else setTimeout(look, 20);
+  };
+  look();
+  setTimeout(() => done('nothing'), 60000);
+})"""
+
+
+def pointed_fault(tab, program):
+    """Where the mouse goes over moves faster than their pictures come, those of the moves between are not made."""
+    with tempfile.TemporaryDirectory() as folder:
+        path = os.path.join(folder, "kh")
+        with open(path, "w", encoding="utf-8") as file:
+            file.write(SLOW % program)
+        os.chmod(path, 0o755)
+        with Serving(path) as serving:
+            tab.load(serving.address(serving.step(TREFOIL)))
+            open(path + ".slow", "w", encoding="utf-8").close()
+            for number in range(3):
+                tab.value(POINT % number)
+                tab.value(WAIT % 400)
+            seen = tab.value(POINT % 3 + SEEN)
+        with open(path + ".drawn", encoding="utf-8") as file:
+            drawn = len(file.readlines())
+    return None if (seen, drawn) == ("seen", 2) else f"{seen}, {drawn} pictures"
 
 
 def cell_faults(tab):
@@ -127,6 +179,11 @@ def scan_faults(tab):
 
 def quiz_faults(tab):
     """Exercises say what is right and what is wrong, show the way, and leave the page as it was."""
+    tab.load(page_of("trefoil") + "#cell_-7_-2")
+    # (the page may still scroll to the cell)
+    tab.value("document.querySelector('#quiz button:nth-of-type(1)').click()")
+    told = tab.text("#told")
+    yield "exercises, behind a cell that was chosen", None if told.startswith("Choose") and not tab.faults() else told
     tab.load(page_of("trefoil"))
     grid = "document.querySelector('#table .grid')"
     before = tab.value(f"{grid}.innerHTML")
@@ -226,6 +283,7 @@ def faults(tab, program):
         yield from kink_faults(tab, serving)
         yield from slide_faults(tab, serving)
         yield from drawing_faults(tab, serving)
+    yield "moves that the mouse goes over", pointed_fault(tab, os.path.abspath(program))
     yield from cell_faults(tab)
     yield from scan_faults(tab)
     yield from quiz_faults(tab)

@@ -70,6 +70,10 @@ def slides(draw, diagram):
     return ["r3 {} {} {}".format(*dict(face)) for face in faces]
 
 
+# All kinds of moves: each gives lines that are likely to be possible.
+KINDS = (kink_adds, kink_drops, finger_adds, finger_drops, slides)
+
+
 def faces_as_they_are(draw, diagram):
     """Lines that name the crossings of faces of two and of three darts, whatever lies over."""
     forms = ((2, "r2 drop {} {}"), (3, "r3 {} {} {}"))

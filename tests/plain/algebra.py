@@ -1,8 +1,8 @@
-"""A plain second reading of mirror images, reversals and disjoint unions of diagrams, and what they do to tables and polynomials."""
+"""A plain second reading of mirror images, reversals, unions and pieces of diagrams, and what they do to tables and polynomials."""
 from collections import Counter
 
 from plain.codes import need_room
-from plain.diagrams import CROSSINGS, LOOPS_OF_A_TEXT, Code, Crossing, Diagram, Pass, code_of, printed, renumbered
+from plain.diagrams import CROSSINGS, LOOPS_OF_A_TEXT, Code, Crossing, Diagram, Pass, code_of, pieces, printed, renumbered
 
 
 def mirrored(diagram):
@@ -26,12 +26,18 @@ def united(first, second):
     return Code(crossings, first.loops + second.loops)
 
 
+def split(diagram):
+    """The pieces of a diagram, each a diagram of its own; its loops are in none of them."""
+    for numbers in pieces(code_of(diagram)):
+        yield renumbered(Diagram(tuple(diagram.crossings[number - 1] for number in numbers), 0))
+
+
 def text_of(diagram):
     return printed(code_of(diagram)) + "\n"
 
 
 def product(first, second):
-    """The product of polynomials, or of tables of dimensions over one field: degrees are added."""
+    """The product of two polynomials, or of two tables of dimensions over one field: degrees are added."""
     whole = Counter()
     for one, value in first.items():
         for other, far in second.items():

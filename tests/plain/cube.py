@@ -136,7 +136,7 @@ def characteristic(found):
     """The Euler characteristic of dimensions: a sum for each quantum degree."""
     sums = Counter()
     for (j, i), dimension in found.items():
-        sums[j] += (-1) ** i * dimension
+        sums[j] += -dimension if i % 2 else dimension
     return {j: value for j, value in sums.items() if value}
 
 
