@@ -7,6 +7,7 @@ import os
 import signal
 import subprocess
 import tempfile
+from concurrent.futures import ThreadPoolExecutor
 from typing import NamedTuple
 
 from answers import Unreadable
@@ -109,10 +110,15 @@ class Kh:
             return None
         return answer if answer.status == ANSWERED else None
 
-    def table(self, field, given):
+    def all_scanned(self, given):
+        """What `kh-scan` answers over each field, all of them at work side by side."""
+        with ThreadPoolExecutor(len(FIELDS)) as pool:
+            return list(pool.map(lambda field: self.scanned(field, given), FIELDS))
+
+    def table(self, field, given, scanned):
         """The table over a field as text: that of `kh-scan`, or where this has none that of `kh`, or else the line of the limit; and
         whether it is a table."""
-        answer = self.scanned(field, given) or self.ask(HOMOLOGY[field], given)
+        answer = scanned or self.ask(HOMOLOGY[field], given)
         if answer.status not in (ANSWERED, TOO_LARGE):
             raise Refusal(answer)
         return answer.wrote, answer.status == ANSWERED

@@ -103,8 +103,10 @@ class Threads:
         """Whether strands meet at crossings alone, and there in their order."""
         xs, ys = place[: self.count], place[self.count :]
         for a, b, c, d in self.sides:
-            if (turn(a, b, c, xs, ys) > 0) != (turn(a, b, d, xs, ys) > 0) and (turn(c, d, a, xs, ys) > 0) != (turn(c, d, b, xs, ys) > 0):
-                return False
+            x, y, far, deep = xs[a], ys[a], xs[b] - xs[a], ys[b] - ys[a]  # (two times `turn`, which is called too often for a call)
+            if (far * (ys[c] - y) - deep * (xs[c] - x) > 0) != (far * (ys[d] - y) - deep * (xs[d] - x) > 0):
+                if (turn(c, d, a, xs, ys) > 0) != (turn(c, d, b, xs, ys) > 0):
+                    return False
         return all(is_around(middle, ring, xs, ys) for middle, *ring in self.crosses)
 
 

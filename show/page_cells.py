@@ -11,6 +11,8 @@ from page_texts import counted, fields_told, listed, signed
 MOST_PICTURES, MOST_NAMED, MOST_SHOWN = 12, 40, 12
 # How broad the picture of a generator is.
 PICTURE = 64
+# What the entries of a matrix are.
+MADE = '<p>A column of a matrix has what the <a href="#edges">edges of the cube</a> make of its generator.</p>'
 
 
 def labels_told(it):
@@ -116,7 +118,8 @@ class Cells:
         j, i = pair
         into = self.matrix((j, i - 1), f"The matrix into it, from i = {signed(i - 1)}")
         out = self.matrix(pair, f"The matrix out of it, to i = {signed(i + 1)}")
-        return f'<div class="work">{self.generators(pair)}{into}{out}{self.ranks_table(pair)}{self.torsion(pair)}</div>'
+        how = MADE if pair in self.matrices or (j, i - 1) in self.matrices else ""
+        return f'<div class="work">{self.generators(pair)}{how}{into}{out}{self.ranks_table(pair)}{self.torsion(pair)}</div>'
 
 
 def ranks_told(sheet, generators):

@@ -13,7 +13,7 @@ from page_cube import cube_of
 from page_figure import SIGNS, Figure, crossing_view, drawing_of, smoothing_view
 from page_scan import scan_section
 from page_texts import (
-    circles_told, counts_told, fields_told, generators_told, jones_html, knot_atlas_html, listed, poincare_html, power, signed,
+    EDGES, circles_told, counts_told, fields_told, generators_told, jones_html, knot_atlas_html, listed, poincare_html, power, signed,
     state_link,
 )
 from sheet import alike, divided
@@ -176,7 +176,7 @@ def cube_section(figure, states):
         f"where n+ = {degrees.plus} and n− = {degrees.minus} count the positive and the negative crossings."
     )
     scroll = f'<div class="scroll" tabindex="0" role="region" aria-label="the cube, which scrolls">{cube_of(figure, states)}</div>'
-    return f'{scroll}<p class="note">{legend if figure.count else ""} {note}</p>'
+    return f'{scroll}<p class="note">{legend if figure.count else ""} {note}</p>{EDGES if figure.count else ""}'
 
 
 def undrawn_section(count):
@@ -243,7 +243,7 @@ def section(name, title, inside):
 
 
 # Where what a chosen cell has stands beside the table.
-CELL = '<section id="cell" class="screen" aria-live="polite" aria-label="the cell that is chosen" hidden></section>'
+CELL = '<section id="cell" class="screen" tabindex="-1" aria-label="the cell that is chosen" hidden></section>'
 CHOSEN = (
     '<section id="chosen" aria-live="polite" aria-label="what is chosen"><div id="told"><p>Choose a crossing of the drawing, a cell of the '
     "table or a state.</p></div></section>"

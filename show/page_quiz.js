@@ -23,6 +23,7 @@
   // Puts an empty field in the place of each of these cells.
   function hide(cells, words) {
     end();
+    forget();
     root.classList.add("quiz");
     asked = cells.map((cell) => {
       const row = find("th", cell.parentNode).textContent, at = heads()[cell.cellIndex - 1];
@@ -37,6 +38,13 @@
     });
     told.innerHTML = `<p>${words} A number for each field; 0 may stay empty.</p>`;
     find("input", grid).focus();
+  }
+
+  // What is chosen is told no longer, since it may be what is asked.
+  function forget() {
+    if (!location.hash) return;
+    history.pushState(null, "", location.pathname + location.search);
+    window.dispatchEvent(new Event("hashchange"));
   }
 
   function end() {

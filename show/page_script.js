@@ -97,6 +97,7 @@
     told.innerHTML = head + all(".brief", cell).map((it) => it.outerHTML).join("");
     panel.hidden = !work;
     panel.innerHTML = work ? head + work.innerHTML : "";
+    if (work) told.innerHTML += '<p><a href="#cell">Its matrices and ranks</a></p>';
     all(`.grid a[href="#${name}"]`).forEach((link) => link.classList.add("on"));
     const states = (cell.dataset.states || "none").split(" ");
     all(".cube .state").forEach((state) => state.classList.toggle("has", states.includes(state.dataset.state)));
@@ -126,6 +127,14 @@
     else if (name.startsWith("cell_")) showCell(name);
     else showCrossing(name);
     return Boolean(isShown);
+  }
+
+  // Leads to a part of the page, while what is chosen stays so, and covers nothing of it on a small screen.
+  function lead(part) {
+    find("#chosen").classList.remove("active");
+    part.tabIndex = -1;
+    part.scrollIntoView();
+    part.focus({ preventScroll: true });
   }
 
   const chosen = () => location.hash.slice(1);
@@ -187,6 +196,8 @@
   // Marks the arcs and crossings of a move on the drawing, and shows in its frame what the move would make, where a server answers.
   function mark(move) {
     marks.replaceChildren();
+    // (what is no longer waited for is not to be made)
+    find("#preview image")?.setAttribute("href", "data:,");
     find("#preview").replaceChildren();
     clearTimeout(waiting);
     if (!move) return;
@@ -250,9 +261,9 @@
     const link = event.target.closest('a[href^="#"]');
     if (!link || event.ctrlKey || event.metaKey || event.shiftKey) return;
     const name = link.getAttribute("href").slice(1);
-    if (!/^(state-|cell_|crossing-)/.test(name)) return;
     event.preventDefault();
-    go(name);
+    if (/^(state-|cell_|crossing-)/.test(name)) go(name);
+    else lead(document.getElementById(name));
   });
   for (const [begun, ended] of [["mouseover", "mouseout"], ["focusin", "focusout"]]) {
     document.addEventListener(begun, (event) => mark(event.target.closest("[data-arcs], [data-crossings]")));

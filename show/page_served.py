@@ -112,10 +112,10 @@ def moves_section(session, step, base, action, fault):
     )
     form_of = f'<form class="screen" method="post" action="{action}/move"><p class="steps">{steps}</p>{lists(moves, action)}</form>'
     told_of = (
-        "each tried by <code>kh edit</code>. Point at one to see on the drawing where it is and what it makes; press it to make it. Those "
-        "that are marked on the drawing can be pressed there."
+        ', each tried by <code>kh edit</code>. <span class="scripted">Point at one to see on the drawing where it is and what it makes; '
+        "press it to make it. Those that are marked on the drawing can be pressed there.</span>"
     )
-    note = f'<p class="note">{counted(len(moves), "move")}, {told_of}</p>'
+    note = f'<p class="note">{counted(len(moves), "move")}{told_of if moves else "."}</p>'
     script = script_told(step) if step.lines else ""
     return section("moves", "Moves", f"{told}{changed}{note}{form_of}{script}{turns}")
 

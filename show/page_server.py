@@ -1,13 +1,15 @@
 """Serves pages on this machine alone, to one who has the token of the session.
 
 A request is refused unless it names this server as its host, comes from no other page, and has the token in its path. All of it is
-bounded: its bytes, the seconds in which it has to come, how many there are at a time, and one run of `kh` after another.
+bounded: its bytes, the seconds in which it has to come, how many there are at a time, and one run of `kh` after another. (`kh-scan` is
+asked over all four fields at once.)
 """
 import contextlib
 import hmac
 import http.server
 import os
 import re
+import select
 import socket
 import sys
 import threading
@@ -15,8 +17,9 @@ import urllib.parse
 from typing import NamedTuple
 
 import page_served
+import page_theorem
 from answers import Unreadable, given
-from asking import MOST_BYTES, TOP
+from asking import MOST_BYTES
 from page_html import policy
 from page_session import TURNS, Busy
 
@@ -70,6 +73,11 @@ class Handler(http.server.BaseHTTPRequestHandler):
     def cut(self):
         with contextlib.suppress(OSError):
             self.connection.shutdown(socket.SHUT_RDWR)
+
+    def is_gone(self):
+        """Whether who asked has gone away, as a browser does where the mouse points at another move before the picture of one is there."""
+        ready, _, _ = select.select([self.connection], [], [], 0)
+        return bool(ready) and self.connection.recv(1, socket.MSG_PEEK) == b""
 
     def log_message(self, *_):
         """Nothing is told of requests."""
@@ -145,7 +153,9 @@ class Handler(http.server.BaseHTTPRequestHandler):
         if path == "/example.svg":
             return Reply(200, SVG, session.picture(page_served.TREFOIL))
         if path == "/theorem":
-            return Reply(200, TEXT, given([os.path.join(TOP, "docs", "INVARIANCE.md")]))
+            return Reply(200, HTML, page_theorem.theorem_page(base, HEAD))
+        if path[1:] in page_theorem.pictures():
+            return Reply(200, SVG, given([os.path.join(page_theorem.DOCS, path[1:])]))
         number, what, move = self.step(session, path)
         if what == "":
             return Reply(200, HTML, page_served.step_page(session, base, number, HEAD))
@@ -154,6 +164,8 @@ class Handler(http.server.BaseHTTPRequestHandler):
         moves = session.moves_of(session.steps[number].code) if move else []
         if not move or int(move) >= len(moves):
             raise Refused(404, "there is nothing here")
+        if self.is_gone():
+            raise Refused(410, "nobody waits for this picture")
         return Reply(200, SVG, session.preview(number, moves[int(move)]))
 
     def post(self, session, path, form):

@@ -74,6 +74,8 @@ class Session:
     def __init__(self, kh):
         self.kh, self.lock = kh, threading.Lock()
         self.steps, self.sheets, self.moves, self.figures, self.count = OrderedDict(), OrderedDict(), OrderedDict(), OrderedDict(), 0
+        # (by the number of a step and the line of a move, how the diagram behind it is drawn)
+        self.shapes = OrderedDict()
 
     def __enter__(self):
         if not self.lock.acquire(timeout=WAIT):
@@ -96,7 +98,7 @@ class Session:
 
     def figure(self, number):
         """The picture of a step. It begins with that of the step before, where this is kept, and is that of a step of the same code
-        before, where there is one that is kept."""
+        before, where there is one that is kept, or that which was shown before the move was made."""
         if number not in self.figures:
             step, drawn = self.steps[number], None
             change = Change(self.figures[step.before], *last_move(step.lines)) if step.before in self.figures else None
@@ -104,6 +106,7 @@ class Session:
             while at.before in self.steps and drawn is None:
                 drawn = self.figures[at.before].drawn if self.steps[at.before].code == step.code and at.before in self.figures else None
                 at = self.steps[at.before]
+            drawn = drawn or self.shapes.get((step.before, *step.lines[-1:]))
             self.figures[number] = Figure(self.sheet(step.code), change, drawn)
         return kept(self.figures, number, self.figures[number], MOST_SHEETS)
 
@@ -166,7 +169,9 @@ class Session:
         figure, sheet = self.figure(number), self.sheet(self.steps[number].code)
         slices, crossings = read_drawing(self.kh.answer(DRAW, move.code)), crossings_of(move.code, "the code")
         loops = len(self.kh.answer(CONVERT, move.code).split("Loop[")) - 1
-        behind = Figure(sheet._replace(slices=slices, crossings=crossings, loops=loops), Change(figure, move.line))
+        drawn = self.shapes.get((number, move.line))
+        behind = Figure(sheet._replace(slices=slices, crossings=crossings, loops=loops), Change(figure, move.line), drawn)
+        kept(self.shapes, (number, move.line), behind.drawn, MOST_SHEETS)
         return preview_of(figure, behind)
 
     def is_ready(self):

@@ -2,6 +2,12 @@
 from generators import MOST_LISTED
 
 MINUS = "\u2212"
+# What edges make of labels.
+EDGES = (
+    '<p class="note" id="edges">An edge makes of a generator a sum of others. Where two circles merge, v+ and v+ become v+; v+ and v− become '
+    "v−; v− and v− become 0. Where one splits, v+ becomes v+ v− and also v− v+, and these two are added; v− becomes v− v−. The other circles "
+    "keep their labels. The sum has the sign − where an odd number of ones stands before the crossing of the edge.</p>"
+)
 
 
 def signed(value):

@@ -54,7 +54,11 @@ def split(points, at):
 
 
 def point_at(points, at):
-    return split(points, at)[1][0]
+    """Where a cut of the curve there lies."""
+    number = min(int(at), len(points) // 3 - 1)
+    part, places = at - number, points[3 * number : 3 * number + 4]
+    one, two, three = map(along, places, places[1:], (part, part, part))
+    return along(along(one, two, part), along(two, three, part), part)
 
 
 def sampled(points, parts=8):
@@ -149,7 +153,9 @@ def nearest(points, x, y):
             far, deep = points[at]
             if (far - x) * (far - x) >= best:
                 break
-            best = min(best, (far - x) * (far - x) + (deep - y) * (deep - y))
+            square = (far - x) * (far - x) + (deep - y) * (deep - y)
+            if square < best:
+                best = square
     return best
 
 

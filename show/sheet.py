@@ -61,8 +61,8 @@ def sheet_of(kh, text, name=""):
 def tables_of(kh, code):
     """The tables over all fields; where the first is too large none, and the line of the limit."""
     tables = []
-    for field in FIELDS:
-        text, is_table = kh.table(field, code)
+    for field, scanned in zip(FIELDS, kh.all_scanned(code)):
+        text, is_table = kh.table(field, code, scanned)
         if not is_table:
             return [], text.strip()
         tables += read_tables(text)
