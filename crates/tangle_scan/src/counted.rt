@@ -5,11 +5,9 @@ ghost use Rattle.kh_types.specs.declared.limits.TheConstants.{CIRCLES, CROSSINGS
 ghost use Rattle.tangle_scan.specs.Tallies.{once, tallied};
 
 use crate::tally::Tally;
-use circle_smoothing::Triangle;
 
 /// The objects of a complex, counted by degree and shift, and what a table reads of its diagram: its
-/// numbers of loops, of crossings, and of positive and negative ones. The triangle says in how many
-/// ways labels of the loops have a degree.
+/// numbers of loops, of crossings, and of positive and negative ones.
 #[derive(Drop)]
 pub struct Counted {
     pub tallies: Vec<Tally>,
@@ -17,7 +15,6 @@ pub struct Counted {
     pub crossings: u8,
     pub plus: u8,
     pub minus: u8,
-    pub triangle: Triangle,
     ghost few: { tallied once tallies.items < 2 ^ 64 },
     ghost few_loops: { loops ≤ CIRCLES },
     ghost few_crossings: { crossings ≤ CROSSINGS },

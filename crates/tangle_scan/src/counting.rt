@@ -10,6 +10,7 @@ use crate::circle_numbers::{Asked, value_of};
 use crate::counted::Counted;
 use crate::dimensions::Dimensions;
 use crate::table::ScanRow;
+use circle_smoothing::Triangle;
 use jones_sum::{COEFFICIENTS, exponent_at};
 use kh_types::NoMemory;
 use std::alloc::Global;
@@ -19,13 +20,14 @@ use std::alloc::Global;
 pub(crate) fn all_rows<D: Dimensions>(
     alloc: Global,
     dims: &D,
+    triangle: &Triangle,
     crossings: u8,
 ) -> Result<Vec<ScanRow>, NoMemory>
     ensures { IfOk result (λ rows. rows.items ≡ all_rows_by (D.dims dims.now) crossings) }
 {
     let mut rows = Vec::new(alloc);
     'places: for place in 0..COEFFICIENTS {
-        push_rows(&mut rows, dims, crossings, exponent_at(place))?;
+        push_rows(&mut rows, dims, triangle, crossings, exponent_at(place))?;
     }
     Ok(rows)
 }
@@ -35,6 +37,7 @@ pub(crate) fn all_rows<D: Dimensions>(
 fn push_rows<D: Dimensions>(
     rows: &mut Vec<ScanRow>,
     dims: &D,
+    triangle: &Triangle,
     crossings: u8,
     j: i16,
 ) -> Result<(), NoMemory>
@@ -42,7 +45,7 @@ fn push_rows<D: Dimensions>(
         ≡ rows.old.items ++ rows_by (D.dims dims.now) crossings j) }
 {
     'degrees: for k in 0..2 * usize::from(crossings) + 1 {
-        push_row(rows, row_of(dims, crossings, k, j))?;
+        push_row(rows, row_of(dims, triangle, crossings, k, j))?;
     }
     Ok(())
 }
@@ -58,7 +61,7 @@ fn push_row(rows: &mut Vec<ScanRow>, row: ScanRow) -> Result<(), NoMemory>
 }
 
 /// The row of a homological degree, counted from the least that a diagram of so many crossings has.
-fn row_of<D: Dimensions>(dims: &D, crossings: u8, k: usize, j: i16) -> ScanRow
+fn row_of<D: Dimensions>(dims: &D, triangle: &Triangle, crossings: u8, k: usize, j: i16) -> ScanRow
     requires { k < 2 * crossings + 1 }
     ensures { result ≡ row_by (D.dims dims.now) j (pos k -ℤ pos crossings) }
 {
@@ -66,14 +69,14 @@ fn row_of<D: Dimensions>(dims: &D, crossings: u8, k: usize, j: i16) -> ScanRow
     ScanRow {
         j,
         i,
-        dim: dims.dimension(i, j),
+        dim: dims.dimension(triangle, i, j),
     }
 }
 
 impl Dimensions for Counted {
     ghost dims = { dims_of };
 
-    fn dimension(&self, i: i16, j: i16) -> u128 {
+    fn dimension(&self, triangle: &Triangle, i: i16, j: i16) -> u128 {
         let asked = Asked {
             loops: self.loops,
             plus: self.plus,
@@ -83,7 +86,7 @@ impl Dimensions for Counted {
         };
         let mut total = 0u128;
         'tallies: for tally in &self.tallies {
-            total += times(tally.count, value_of(&self.triangle, asked, tally));
+            total += times(tally.count, value_of(triangle, asked, tally));
         }
         total
     }

@@ -6,6 +6,7 @@ ghost use Rattle.tangle_scan.specs.Grids.{AreRaised, dims_in, is_in, number_at, 
 
 use crate::dimensions::Dimensions;
 use crate::grid::Grid;
+use circle_smoothing::Triangle;
 use jones_sum::COEFFICIENTS;
 use kh_types::{EXPONENT, NoMemory};
 use std::alloc::Global;
@@ -36,7 +37,7 @@ impl Grid {
 impl Dimensions for Grid {
     ghost dims = { dims_in };
 
-    fn dimension(&self, i: i16, j: i16) -> u128 {
+    fn dimension(&self, _triangle: &Triangle, i: i16, j: i16) -> u128 {
         let (i, j) = (i32::from(i), i32::from(j));
         if is_in(self.crossings, i, j) {
             self.numbers[place_in(self.crossings, i, j)]

@@ -8,6 +8,7 @@ ghost use Rattle.tangle_scan.specs.Grids.{AreRaised, HasRoom, pair_dims, row_dim
 use crate::counting::all_rows;
 use crate::grid::Grid;
 use crate::table::ScanRow;
+use circle_smoothing::Triangle;
 use kh_types::NoMemory;
 use std::alloc::Global;
 
@@ -26,7 +27,7 @@ pub(crate) fn product_rows(
 {
     let mut grid = Grid::new(alloc, crossings)?;
     add_products(&mut grid, first, second);
-    all_rows(alloc, &grid, crossings)
+    all_rows(alloc, &grid, &Triangle::new(), crossings)
 }
 
 /// Adds the product of each row of the first table with each of the second.

@@ -1,16 +1,19 @@
 //! The table that a scan counts.
 
-ghost use Rattle.std.specs.Prelude.{◌≡◌, length, IfOk};
+ghost use Rattle.std.specs.Prelude.{◌≡◌, ◌<◌, ◌^◌, length, IfOk};
 ghost use Rattle.kh_types.specs.Code.{Code};
+ghost use Rattle.kh_types.specs.Directions.{minus_count, plus_count};
 ghost use Rattle.scan_laws.specs.Counts.{counted_table};
-ghost use Rattle.tangle_scan.specs.CountedRows.{AreCountedRows, IsCountedFor};
+ghost use Rattle.tangle_scan.specs.CountedRows.{AreCountedRows};
 ghost use Rattle.tangle_scan.specs.Scanned.{scan_of};
+ghost use Rattle.tangle_scan.specs.Tallies.{once, tallied};
 
 use crate::counted::Counted;
 use crate::counting::all_rows;
 use crate::object::Object;
 use crate::scan::Scan;
 use crate::table::{ScanRow, ScanTable};
+use crate::tally::Tally;
 use crate::tallying::tallies_of;
 use circle_smoothing::Triangle;
 use kh_types::{Diagram, NoMemory};
@@ -39,25 +42,25 @@ fn counted_rows(
 ) -> Result<Vec<ScanRow>, NoMemory>
     ensures { IfOk result (λ rows. AreCountedRows diagram.now objects.now rows.items) }
 {
-    let counted = counted_objects(alloc, diagram, objects)?;
-    all_rows(alloc, &counted, counted.crossings)
+    let tallies = tallies_of(alloc, objects)?;
+    let counted = counted_with(diagram, tallies);
+    all_rows(alloc, &counted, &Triangle::new(), counted.crossings)
 }
 
-/// Counts objects for the table of a diagram.
-fn counted_objects(
-    alloc: Global,
-    diagram: &Diagram,
-    objects: &[Object],
-) -> Result<Counted, NoMemory>
-    ensures { IfOk result (IsCountedFor diagram.now objects.now) }
+/// What is counted, with what a table reads of a diagram.
+fn counted_with(diagram: &Diagram, tallies: Vec<Tally>) -> Counted
+    requires { tallied once tallies.items < 2 ^ 64 }
+    ensures tallies { result.tallies.items ≡ tallies.items }
+    ensures loops { result.loops ≡ diagram.now.loops }
+    ensures crossings { result.crossings ≡ length diagram.now.crossings }
+    ensures plus { result.plus ≡ plus_count diagram.now.crossings }
+    ensures minus { result.minus ≡ minus_count diagram.now.crossings }
 {
-    let tallies = tallies_of(alloc, objects)?;
-    Ok(Counted {
+    Counted {
         tallies,
         loops: diagram.loops(),
         crossings: diagram.count(),
         plus: diagram.plus(),
         minus: diagram.minus(),
-        triangle: Triangle::new(),
-    })
+    }
 }
