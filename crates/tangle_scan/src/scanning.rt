@@ -59,7 +59,9 @@ pub fn scan_table_by<F: PrimeField>(
     table_of_finished(alloc, diagram, &scan)
 }
 
-/// The table of a diagram, by that of its first piece and that of the others.
+/// The table of a diagram, by that of its first piece and that of the others. (Diagrams of one piece
+/// are not to have its stack.)
+#[inline(never)]
 fn multiplied<F: PrimeField>(
     alloc: Global,
     diagram: &Diagram,
