@@ -20,6 +20,7 @@ type Places = ArrayVec<u8, CROSSINGS>;
 
 /// The first piece of a diagram, that of its first crossing, without loops; and the others, with
 /// all loops.
+#[inline(never)]
 pub(crate) fn pieces_apart(diagram: &Diagram) -> (Diagram, Diagram)
     requires { 0 < piece_count diagram.now.crossings }
     ensures first { result.0 ≡ first_piece diagram.now }
