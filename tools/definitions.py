@@ -85,26 +85,28 @@ def resolved(words, imports, own):
 
 
 def free_words(text, bound=()):
-    """The words of a term or a type that nothing binds in it."""
-    tokens, scopes, at = TOKEN.findall(QUOTED.sub("", text)), [set(bound)], 0
+    """The words of a term or a type that nothing binds in it. What a bracket binds is bound behind it, and a field behind its type."""
+    tokens, scopes, groups, fields, at = TOKEN.findall(QUOTED.sub("", text)), [set(bound)], [], [[]], 0
     while at < len(tokens):
-        token, behind = tokens[at], tokens[at + 1 : at + 2]
+        token, before, behind = tokens[at], tokens[at - 1 : at], tokens[at + 1 : at + 2]
         if token in OPEN:
-            group = bound_by_bracket(tokens, at)
-            scopes[-1].update(group)
+            groups.append(bound_by_bracket(tokens, at))
             scopes.append(set())
-            at += len(group)
-        elif token in CLOSED:
-            scopes[1:] = scopes[1:-1]
+            fields.append([])
+            at += len(groups[-1])
+        elif token in CLOSED and groups:
+            scopes.pop()
+            fields.pop()
+            scopes[-1].update(groups.pop())
         elif token == "λ":
             at = bind_arguments(tokens, at, scopes[-1])
+        elif before == ["let"]:
+            scopes[-1].add(token)
         elif behind == [":"]:
-            scopes[-1].add(token)
-        elif behind == ["="] and tokens[at - 1] not in "{;let" or behind != ["="]:
-            if not any(token.split(".")[0] in it for it in scopes):
-                yield token.strip(".")
-        elif tokens[at - 1] == "let":
-            scopes[-1].add(token)
+            scopes[-1].update(fields[-1])
+            fields[-1] = [token]
+        elif not (behind == ["="] and before in (["{"], [";"])) and not any(token.split(".")[0] in it for it in scopes):
+            yield token.strip(".")
         at += 1
 
 
@@ -261,10 +263,11 @@ def names_in(name):
 
 @dataclass(frozen=True)
 class Clause:
-    """A clause of a contract: its function, its label, its text, and the whole names in it."""
+    """A clause of a contract: its function with what is said of it, its label, its text, and the whole names in it."""
 
     crate: str
     function: str
+    said: str
     label: str
     text: str
     path: str
@@ -295,7 +298,7 @@ def clauses(crate):
 
 def clauses_of(crate, path, text, function):
     """The clauses of one function: their words are those of definitions, and its parameters stand for their types."""
-    head, imports = function[3], imports_of(text)
+    head, imports, said = function[3], imports_of(text), comment_above(text, function.start())
     signature = head.partition("requires")[0].partition("ensures")[0]
     types = dict(PARAMETER.findall(signature))
     for found in ENSURES.finditer(head):
@@ -304,7 +307,18 @@ def clauses_of(crate, path, text, function):
         named = {whole_name(it) for it in resolved(words, imports, {})} - {None}
         spoken = " ".join(types.get(it.split(".")[0], "") for it in words)
         named |= code_names(crate, text, with_bounds(spoken, types))
-        yield Clause(crate, function[2], found[1] or "", term.strip(), path, text.count("\n", 0, function.start(3) + found.start()) + 1, frozenset(named))
+        yield Clause(crate, function[2], said, found[1] or "", term.strip(), path, text.count("\n", 0, function.start(3) + found.start()) + 1, frozenset(named))
+
+
+def comment_above(text, start):
+    """The doc comment that ends where a function begins, as one line."""
+    lines = text[:start].rstrip("\n").split("\n")
+    while lines and lines[-1].startswith("#["):
+        lines.pop()
+    kept = len(lines)
+    while kept and lines[kept - 1].lstrip().startswith("///"):
+        kept -= 1
+    return " ".join(it.lstrip().removeprefix("///").strip() for it in lines[kept:])
 
 
 def with_bounds(spoken, types):
