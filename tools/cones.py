@@ -2,7 +2,7 @@
 import functools
 import re
 
-import definitions as sources
+from tools import definitions as sources
 
 COMMENT = re.compile(r"^\s*(--|//)")
 USE = re.compile(r"^ *(?:ghost )?use Rattle\.(\w+)\.specs\.([\w.]+)", re.M)

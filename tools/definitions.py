@@ -56,6 +56,7 @@ def files(crate, folder, ending):
         yield from (os.path.relpath(os.path.join(where, it), TOP) for it in sorted(names) if it.endswith(ending))
 
 
+@functools.cache
 def crates():
     return sorted(os.listdir(os.path.join(TOP, "crates")))
 
@@ -212,6 +213,7 @@ def item_files(crate):
     return {path: read(path) for path in files(crate, "src", ".rt") if "tests" not in path}
 
 
+@functools.cache
 def item_name(crate, word):
     """The whole name of the type, trait or constant of a crate, where it is one of the repository's."""
     path = next((path for path, text in item_files(crate).items() if item_place(text, word)), None) if crate in crates() else None
@@ -242,6 +244,7 @@ def ghost_names(text, block):
     return {whole_name(it) for member in members for it in resolved(free_words(member), imports_of(text + "\n" + block), {})} - {None}
 
 
+@functools.cache
 def whole_name(name):
     """The name of the definition or of the item that a name of the toolchain belongs to, where it is one of the repository's."""
     declared = DECLARED.search(name)
@@ -256,6 +259,7 @@ def definition(name):
     return definitions()[name] if name in definitions() else code_item(name)
 
 
+@functools.cache
 def names_in(name):
     """The whole names that a definition or an item of the code rests on by its own words."""
     return {it for it in map(whole_name, definition(name).names) if it} if name in definitions() else definition(name).names

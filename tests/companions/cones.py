@@ -2,17 +2,36 @@
 
 A library has a file for each module, in which each declaration stands with the whole names of all that it rests on. Compared is what a
 definition rests on in all; of lemmas, which are kept without their proofs, only that nothing is missing. Files that have changed since
-their library was built are passed over, and so are crates without one. `tests/program` runs this behind its rows.
+their library was built are passed over, and so are crates without one. Then come the answers of `tools/cone`. `tests/program` runs this
+behind its rows.
 """
 import json
 import os
 import re
+import subprocess
 
 from shared.places import TOP
+from shared.running import PATIENCE
 from tools import cones, definitions
 
 WHOLE = re.compile(r"Rattle-(\w+)-specs\.(.*)")
 TABLE, DECLARED, INTERFACE = b"ATB2", b"APT2", re.compile(rb'"uses":\[[^\]]*\]\}')
+
+
+SMALL = """\
+crates/kh_types/specs/Bits.antt:5: bit
+crates/kh_types/specs/Bits.antt:9: ones
+2 definitions, 4 lines in 1 files
+"""
+UNKNOWN = "tools/cone: nothing is called {}\n"
+# the words, and what is written to standard output and to standard error
+ASKED = (
+    (["ones"], SMALL, ""),
+    (["kh_types.specs.Bits.bit", "ones"], SMALL, ""),
+    (["no_such_name"], "", UNKNOWN.format("no_such_name")),
+    (["kh_work::run no_such_label"], "", UNKNOWN.format("kh_work::run no_such_label")),
+    (["no_such_crate::run"], "", UNKNOWN.format("no_such_crate::run")),
+)
 
 
 def library(crate):
@@ -110,8 +129,17 @@ def difference(name, kept):
     return f"missing {sorted(missing)[:3]}, too many {sorted(more)[:3]}" if missing or more else None
 
 
+def answer_faults():
+    """The words of each call of `tools/cone`, and what is wrong with its answer."""
+    for words, *wanted in ASKED:
+        ran = subprocess.run([os.path.join(TOP, "tools/cone"), *words], capture_output=True, text=True, timeout=PATIENCE)
+        got = [ran.stdout, ran.stderr]
+        yield f"tools/cone {' '.join(words)}", f"wanted {wanted}, got {got}" if got != wanted else None
+
+
 def faults(program):
-    """The name of each file of definitions, and what is wrong with the names that are read in it."""
+    """The name of each file of definitions, and what is wrong with the names that are read in it; then the answers of the script."""
+    yield from answer_faults()
     built = [it for it in definitions.crates() if os.path.isfile(os.path.join(library(it), "toolchain", "checked.json"))]
     kept = kept_names(built)
     by_file = {}
