@@ -1,0 +1,31 @@
+//! Gauss's elimination modulo a prime, on rows of small numbers.
+
+ghost use Rattle.std.specs.Prelude.{◌≡◌, [], ◌∷◌, true, false};
+ghost use Rattle.kh_types.specs.Rank.{has_entry, lead_of, inverse, minus_mod, less_multiple, cleared, reduced_by, rank_within, rank};
+
+/// Modulo 5: 3 times 2 is 1, and 1 - 3 is 3. The row 4 3 2 less 4 times the row 0 2 1 is 4 0 3.
+pub fn worked_rows_of_numbers()
+    ensures has_entry { has_entry (0 ∷ 2 ∷ []) ≡ true }
+    ensures has_entry_not { has_entry (0 ∷ 0 ∷ []) ≡ false }
+    ensures lead_of { lead_of (0 ∷ 0 ∷ 2 ∷ 1 ∷ []) ≡ 2 }
+    ensures inverse { inverse 5 2 ≡ 3 }
+    ensures inverse_seven { inverse 7 4 ≡ 2 }
+    ensures minus_mod { minus_mod 5 1 3 ≡ 3 }
+    ensures less_multiple { less_multiple 5 (1 ∷ 2 ∷ 3 ∷ []) (1 ∷ 4 ∷ 2 ∷ []) 3 ≡ 3 ∷ 0 ∷ 2 ∷ [] }
+    ensures cleared { cleared 5 (0 ∷ 2 ∷ 1 ∷ []) 1 (4 ∷ 3 ∷ 2 ∷ []) ≡ 4 ∷ 0 ∷ 3 ∷ [] }
+    ensures reduced_by { reduced_by 5 (0 ∷ 2 ∷ 1 ∷ []) ((4 ∷ 3 ∷ 2 ∷ []) ∷ (1 ∷ 0 ∷ 3 ∷ []) ∷ [])
+        ≡ (4 ∷ 3 ∷ []) ∷ (1 ∷ 3 ∷ []) ∷ [] }
+{}
+
+/// Ranks of the matrix of the trefoil's differential from degree -3 at -7, whose determinant is 2:
+/// modulo 3 its rank is 3, and modulo 2 it is 2. One step finds one pivot.
+pub fn worked_ranks()
+    ensures rank_within { rank_within 1 3
+        ((0 ∷ 1 ∷ 1 ∷ []) ∷ (1 ∷ 0 ∷ 1 ∷ []) ∷ (1 ∷ 1 ∷ 0 ∷ []) ∷ [])
+        ≡ 1 }
+    ensures rank_within_enough { rank_within 3 3
+        ((0 ∷ 1 ∷ 1 ∷ []) ∷ (1 ∷ 0 ∷ 1 ∷ []) ∷ (1 ∷ 1 ∷ 0 ∷ []) ∷ [])
+        ≡ 3 }
+    ensures rank { rank 3 ((0 ∷ 1 ∷ 1 ∷ []) ∷ (1 ∷ 0 ∷ 1 ∷ []) ∷ (1 ∷ 1 ∷ 0 ∷ []) ∷ []) ≡ 3 }
+    ensures rank_two { rank 2 ((0 ∷ 1 ∷ 1 ∷ []) ∷ (1 ∷ 0 ∷ 1 ∷ []) ∷ (1 ∷ 1 ∷ 0 ∷ []) ∷ []) ≡ 2 }
+{}
