@@ -41,9 +41,8 @@ of a surface or of a scan is among the {scan_definitions} that the contract rest
 - A value of type `Type 0` is a statement; a record of statements holds where all its parts do. `a ≡ b` says that a and b are equal, `a ≢ b`
   that they are not, `A × B` that both hold, `A ⊎ B` that one does, `A → B` that B follows from A, `A ↔ B` both ways, `¬ A` that A does not
   hold; `(x : ℕ) → B` that B holds for every x, `(x : ℕ) × B` that there is an x for which it does.
-- *Worked* values are laws of the crate `worked_tables`, computed by the checker. There `trefoil` is the left-handed trefoil,
-  `PD[X[1,4,2,5], X[3,6,4,1], X[5,2,6,3]]`, `hopf_link` is `PD[X[4,1,3,2], X[2,3,1,4]]`, `curl` is `PD[X[1,1,2,2]]`, and `over_circle`
-  two circles, one over the other, `PD[X[1,4,2,3], X[2,4,1,3]]`.
+- *Worked* values are laws of the crate `worked_tables`: the checker computes them from these definitions, and they were first computed by
+  another reading of the sentences, in another language.
 - *Shown by* names laws that are printed behind the definitions of a section, in the code's words: facts that would fail if the definition
   were another. They are proved too, but nothing of the claim rests on them.
 
@@ -64,6 +63,8 @@ END = """\
 The law by which every scan counts this table, `scans_count_dimensions`, needs {more} definitions more, of surfaces and of scans, which no
 contract of a program cites: {more_names}.
 """
+
+CODES = "The worked values speak of these codes:"
 
 LAWS_OF_A_FILE = "Laws that show what these mean:"
 
