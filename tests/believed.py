@@ -4,10 +4,12 @@
 too many and none too few, and each in or below the row of every other that it rests on. `docs/STATEMENT.md` is what `tools/statement`
 writes. Where README.md and `docs/THEOREM.md` tell sizes of cones, they are these.
 """
+import functools
 import importlib.machinery
 import importlib.util
 import os
 import re
+from collections import Counter
 
 from shared.places import TOP
 from tools import cones, definitions
@@ -31,8 +33,12 @@ SIZE = re.compile(r"^(\| `([^`|]*)` \|[^|\n]*\| )\d+ \| \d+ \|", re.M)
 LINES = re.compile(r"\[\d+ lines( to believe)?\]\((docs/)?STATEMENT\.md\)")
 
 
+@functools.cache
 def cone():
-    return cones.cone({name for it in STATEMENTS for name in cones.roots(it)})
+    """The definitions that the statements rest on. A type that contracts see as a record of the same name is one with it."""
+    found = cones.cone({name for it in STATEMENTS for name in cones.roots(it)})
+    seen = {definitions.definition(it).word for it in found if ".specs." in it}
+    return {it for it in found if ".specs." in it or definitions.definition(it).word not in seen}
 
 
 def rows_of(page):
@@ -41,20 +47,30 @@ def rows_of(page):
 
 
 def wrong_names(page):
-    """The names that a page has too many or too few, beside the cone."""
-    wanted, found = {definitions.definition(it).word for it in cone()}, [name for name, _ in rows_of(page)]
-    yield from (f"{name} too few" for name in sorted(wanted - {*found}))
-    yield from (f"{name} too many" for name in sorted({it for it in found if it not in wanted or found.count(it) > 1}))
+    """The words that a page has too often or too seldom, beside the cone."""
+    wanted, found = Counter(definitions.definition(it).word for it in cone()), Counter(name for name, _ in rows_of(page))
+    yield from (f"{name} too few" for name in sorted(wanted - found))
+    yield from (f"{name} too many" for name in sorted(found - wanted))
+
+
+def places(page):
+    """The row of each definition of the cone. Of two with one word the one that is read first has the first row."""
+    rows, found = {}, {}
+    for word, row in rows_of(page):
+        rows.setdefault(word, []).append(row)
+    for name in cones.in_order(cone()):
+        here = rows.get(definitions.definition(name).word, [0])
+        found[name] = here.pop(0) if len(here) > 1 else here[0]
+    return found
 
 
 def early_names(page):
-    """The names of a page that stand above one that they rest on, unless this rests on them as well."""
-    place, whole = dict(rows_of(page)), cone()
-    for name in whole:
+    """The definitions of a page that stand above one that they rest on, unless this rests on them as well."""
+    place = places(page)
+    for name in place:
         for other in definitions.names_in(name):
-            word, needed = definitions.definition(name).word, definitions.definition(other).word
-            if place.get(word, 0) < place.get(needed, 0) and name not in cones.cone([other]):
-                yield f"{word} stands above {needed}"
+            if place[name] < place.get(other, 0) and name not in cones.cone([other]):
+                yield f"{definitions.definition(name).word} stands above {definitions.definition(other).word}"
 
 
 def size_of(statement):
