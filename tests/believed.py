@@ -37,8 +37,12 @@ LINES = re.compile(r"\[\d+ lines( to believe)?\]\((docs/)?STATEMENT\.md\)")
 def cone():
     """The definitions that the statements rest on. A type that contracts see as a record of the same name is one with it."""
     found = cones.cone({name for it in STATEMENTS for name in cones.roots(it)})
-    seen = {definitions.definition(it).word for it in found if ".specs." in it}
-    return {it for it in found if ".specs." in it or definitions.definition(it).word not in seen}
+    return {it for it in found if not any(is_seen_as(it, other) for other in definitions.names_in(it))}
+
+
+def is_seen_as(name, other):
+    """Whether contracts see a type of the code as this record."""
+    return ".src." in name and ".specs." in other and definitions.definition(name).word == definitions.definition(other).word
 
 
 def rows_of(page):
