@@ -4,65 +4,101 @@ HEAD = """\
 # What one has to believe
 
 This page is written by `tools/statement`. It has all that the heart of `kh`'s theorem rests on: {definitions} definitions, types and
-constants, {lines} lines, as they stand in the sources, each behind those that it names. Who has read them knows what is claimed; that it
-holds is checked by a machine. An hour does.
+constants, {lines} lines, as they stand in the sources, each behind those that it names; and then the premises. That the claim holds is
+checked by a machine; that it says what you want is for you to see. An hour does.
 
 ## The claim
 
-*If* the words of a command line mean `homology` over a field of p elements (p is 2, 3, 5 or 7), the input is the text of the code of an
-accepted diagram within the limits, nothing disturbed the run, and it comes back, *then* it has written the homology table of that code
-modulo p and its Jones line, and nothing else. In the code's own words, a clause of the contract of `run`, the one call that does all the
-program does:
+*If*
+
+- the words of a command line mean `homology` over the field of p elements, where p is 2, 3, 5 or 7,
+- the bytes that the source has left are known, and are the text of the code of an accepted diagram within the limits,
+- neither reading nor writing failed, and the run does not end for want of memory, and
+- the call comes back,
+
+*then* it ends as done, and what the sink has gained, where its bytes are known, is the text of the homology table of the code modulo p, then
+the line of its Jones polynomial, unnormalised, and nothing else. In the code's own words, a clause of the contract of `run`, the one call
+that does all the program does:
 
 {headline}
-`seen` sources and sinks are a list of bytes, where it is known (`Some`), and a count of faults; `before` and `after` are before and after
-the call. `IsCommand words command` says that the words of the command line mean a command, `command.task` what it asks for and
-`command.field` the number p. `IsAcceptedText bytes code`: the bytes are read as this code, which breaks none of nine rules (each arc stands
-twice, arcs are numbered along the components, under passes go from an arc to the next, the diagram is planar, ..), of at most 65,536
-bytes, 20 crossings, 8 loops, and 4,194,304 generators. `IsUndisturbed`: neither count of faults rose, and the run did not end for want of
-memory. These premises only say *when* something is claimed; their definitions, with this page's the {headline_definitions} of the whole
-clause ({headline_lines} lines), are in [DEFINITIONS](DEFINITIONS.md). What is claimed is `HasWrittenHomology`, the last definition of this
-page, and all of it is here.
+`before` and `after` are before and after the call. The conclusion is `HasWrittenHomology`, the last definition but for the premises, which
+come behind it. With the {headline_definitions} definitions of its premises' words the whole clause has {headline_lines} lines; those that are
+not printed here, what a text spells and what words mean, are read aloud in [DEFINITIONS](DEFINITIONS.md).
+
+*Not claimed* is that the call comes back where there are several workers (with one it does), that memory suffices, and how long it takes.
+Which sources and sinks have known bytes, and what that comes to for the built program:
+[THEOREM](THEOREM.md#what-it-does-not-say).
 
 `kh-scan` has the same clause without the limit on generators. It never builds the cube, but its contract does not say so: no definition
 of a surface or of a scan is among the {scan_definitions} that the contract rests on.
 
 ## How to read
 
-- `f x y` applies `f` to `x` and `y`; `λ x. e` is the function that takes `x` to `e`. `x ∷ l` is the list `l` with `x` in front, `[]` the
-  empty list, `a ++ b` one list behind another; `(a, b)` is a pair, with the parts `.0` and `.1`.
-- `ℕ` are the whole numbers from 0 on, `ℤ` the integers, `pos n` the integer of `n`, `negsuc n` that of -(n + 1). On `ℕ` a difference
-  below 0 is 0, `/` rounds down and `%` is the rest; both go from the left, so `x / 2 ^ k % 2` is `(x / 2 ^ k) % 2`. `+ℤ` and `-ℤ` are sums
-  and differences of integers.
+- `f x y` applies `f` to `x` and `y`, before all else; with fewer arguments than it takes, `f x` is a function of the others. `λ x. e` is the
+  function that takes `x` to `e`. `let x = e in f` is f with e for x.
+- `ℕ` are the whole numbers from 0 on, `ℤ` the integers, `pos n` the integer of `n`, `negsuc n` that of -(n + 1); `zero` is 0, and `suc n` is
+  n + 1. On `ℕ` a difference below 0 is 0, `/` rounds down and `%` is the rest. `^` binds before `*`, `/` and `%`, these before `+` and `-`,
+  and all of the same rank go from the left. `+ℤ` and `-ℤ` are sums and differences of integers.
+- `[]` is the empty list, `x ∷ l` the list `l` with `x` in front, `a ++ b` one list behind another. `(a, b)` is a pair, with the parts `.0` and
+  `.1`. A `record` has named parts: `x.part` is one, `record {{ part = .. }}` makes one of all its parts, and `record x {{ part = .. }}` is x
+  with another part.
 - `abbrev pub name : type`, and below it the value, gives a value or a statement a name. Several lines for one name are cases, by the form
-  of the arguments; `suc n` is n + 1. A `record` has named parts: `x.part` is one,
-  `record {{ part = .. }}` makes one of all its parts.
+  of the arguments. Behind `--` stands the same in words.
 - `Bool` has `true` and `false`; `if .. then .. else`, `&&`, `||`, `not` are as everywhere. `Option T` is `None`, or `Some` of a T.
 - A value of type `Type 0` is a statement; a record of statements holds where all its parts do. `a ≡ b` says that a and b are equal, `a ≢ b`
   that they are not, `A × B` that both hold, `A ⊎ B` that one does, `A → B` that B follows from A, `A ↔ B` both ways, `¬ A` that A does not
-  hold; `(x : ℕ) → B` that B holds for every x, `(x : ℕ) × B` that there is an x for which it does.
+  hold; `(x : ℕ) → B` that B holds for every x, `(x : ℕ) × B` that there is an x for which it does. `IsTrue b` says that b is `true`.
+- A few constants and types are those of the program's code, in Rust.
 - *Worked* values are laws of the crate `worked_tables`: the checker computes them from these definitions, and they were first computed by
   another reading of the sentences, in another language.
-- *Shown by* names laws that are printed behind the definitions of a section, in the code's words: facts that would fail if the definition
-  were another. They are proved too, but nothing of the claim rests on them.
+- *Shown by* names laws that are printed behind the definitions of a section: proved facts that speak of them. Nothing of the claim rests on
+  these; their words that are not on this page are in [DEFINITIONS](DEFINITIONS.md) or [NAMES](NAMES.md).
 
 The definitions take these words from the standard library:
 """
 
+PREMISES = """\
+## The premises
+
+A run has ended undisturbed, over an input that is the text of an accepted diagram within the limits:
+"""
+
+RULES = """\
+A code is accepted where it breaks none of these rules, in the order in which they are tested; each is broken by what its sentence names:
+"""
+
+COMMANDS = """\
+Words mean a command where each option is given at most once; without `--field` the field has 2 elements:
+"""
+
 END = """\
+`IsCodeRead`, what a text spells, `IsLine`, how words are cut into options, and what else these name, are in [DEFINITIONS](DEFINITIONS.md).
+
 ## What is still trusted
 
-- That this page says what you think it says: its definitions are all there is to read.
-- Rattle, its checker and its compiler, the C library and the system, and a few functions between them and `run`
-  ([which](THEOREM.md#what-it-does-not-say)).
 - That the definitions are the subject's: that Bar-Natan's paper means this complex, with these signs and degrees. The *worked* values, the
   laws, and [comparisons with other programs](KNOTS.md#beside-other-programs) are there to convince you.
+- What is not printed here of the premises: what a text spells, and what words mean.
+- Rattle, its checker and its compiler, the C library and the system, and a few functions between them and `run`
+  ([which](THEOREM.md#what-it-does-not-say)).
 
 ## What is not here
 
 The law by which every scan counts this table, `scans_count_dimensions`, needs {more} definitions more, of surfaces and of scans, which no
-contract of a program cites: {more_names}.
+contract of a program cites: [DEFINITIONS](DEFINITIONS.md#surfaces) has them, from "Surfaces" on.
 """
+
+# definitions that say what the premises are
+PREMISE_WORDS = ("Seen", "IsUndisturbed", "IsAcceptedText", "IsDiagramText", "accepted", "first_fault", "direction_fault")
+RULE_WORDS = "arc_range arc_times interval under over two_arc checkerboard genus components".split()
+COMMAND_WORDS = ("IsCommand", "IsGiven", "NamesField", "IsFieldSize")
+# laws that show that the premises are met
+MET = (
+    "word_line::worked_commands alone joined",
+    "pd_code::worked_texts trefoil",
+    "kh_types::known_codes_are_accepted three",
+    "kh_types::codes_break_these_rules_first arc_range arc_times interval under over two_arc components no_checkerboard torus",
+)
 
 CODES = "The worked values speak of these codes:"
 
@@ -94,7 +130,8 @@ LAWS = (
     "kh_types::circles_are_bounded any",
     "orient_arcs::arcs_follow_one_another_round_components stays once round",
     "braid_maker::closures_have_the_signs_of_their_letters",
-    "kh_types::homological_degrees_are_bounded",
+    "link_algebra::mirrors_are_accepted plus",
+    "kinks_and_fingers::kinks_keep_signs plus",
     "kh_types::quantum_degrees_are_bounded outside",
     "circle_smoothing::generators_are_counted",
     "cube_squares::signs_are_opposite",
@@ -111,22 +148,27 @@ LAWS = (
 )
 
 WORDS = (
-    ("slice_index slice_index_or", "the element of a list at a place, counted from 0; past the end 0, or the value given last"),
-    ("length map filter", "how many elements; the list of what a function makes of each; those that pass a test, in order"),
-    ("flat_map", "the lists that a function makes of the elements, one behind another"),
+    ("slice_index slice_index_or", "`slice_index l k`, the element of the list l at the place k, counted from 0, and 0 past the end; \
+`slice_index_or l k x` is x there"),
+    ("length map filter", "`length l`; `map f l`, what f makes of each; `filter test l`, those that pass, in their order"),
+    ("flat_map", "`flat_map f l`, the lists that f makes of the elements, one behind another"),
     ("fold", "`fold f a l`: begin with a, and for each element x of l from the first on go from a to `f a x`"),
-    ("range_with_len", "`range_with_len a n`: the n numbers a, a + 1, .."),
-    ("enumerate_from zip", "each element with its number, from a number on; the pairs of two lists, as far as both go"),
-    ("list_any list_all", "whether some element passes a test; whether each does"),
-    ("find position position_or_len", "the first element that passes a test; its place; its place, or the length of the list where none passes"),
-    ("sum_by count_by", "the sum of what a function gives for each element; how many pass a test"),
-    ("remove", "a list without the element at a place"),
-    ("max min nat_eq nat_le nat_lt", "of two numbers the greater and the smaller; whether they are equal, ascending or equal, ascending"),
+    ("range_with_len", "`range_with_len a n`, the n numbers a, a + 1, .."),
+    ("enumerate_from zip", "`enumerate_from n l`, each element behind its number, (n, x), (n + 1, y), ..; `zip l m`, the pairs of two lists, as \
+far as both go"),
+    ("list_any list_all", "`list_any test l`, whether some element passes; `list_all test l`, whether each does"),
+    ("find position position_or_len", "`find test l`, `Some` of the first element that passes, or `None`; `position test l`, the same of its \
+place; `position_or_len test l`, its place, or the length of l where none passes"),
+    ("sum_by count_by", "`sum_by f l`, the sum of what f gives for each element; `count_by test l`, how many pass"),
+    ("remove", "`remove l k`, the list without the element at the place k"),
+    ("max min nat_eq nat_le nat_lt", "of two numbers the greater, the smaller; whether the first is equal to the second, at most it, less"),
     ("int_eq neg_ℤ", "whether two integers are equal; the negative of an integer"),
-    ("is_some unwrap_or option_map_or", "whether there is a value; it, or another; what a function makes of it, or another value"),
-    ("codes bytes_eq", "the bytes of a text; whether two lists of bytes are equal"),
-    ("decimal signed_decimal", "the bytes of a number's decimal digits, with a minus before a negative one"),
-    ("Appends", "`Appends before after bytes`: where the bytes before are known, those after are these with `bytes` behind them"),
+    ("is_some unwrap_or option_map_or", "`is_some o`, whether o is no `None`; `unwrap_or o x`, its value, or x; `option_map_or f o x`, what f \
+makes of its value, or x"),
+    ("codes bytes_eq", "`codes text`, the bytes of a text of ASCII; `bytes_eq l m`, whether two lists of numbers are the same"),
+    ("decimal signed_decimal", "the bytes of a number's decimal digits, the highest first; the same of an integer, with a minus if it is negative"),
+    ("Appends", "`Appends before after bytes`: where the bytes before are known, those after are known too, and are these with `bytes` behind \
+them; where they are not known, nothing is said"),
 )
 
 # what the list above says of notation
