@@ -220,6 +220,11 @@ def item_name(crate, word):
     return path and f"{crate}.src.{word}"
 
 
+def without_variant(line):
+    """A line of an item without the name of a variant, and without a comment."""
+    return "" if line.lstrip().startswith("//") else re.sub(r"^    [A-Z]\w*(?=[({,])", "", line)
+
+
 @functools.cache
 def code_item(name):
     """The definition of a type, a trait or a constant of the code, with what contracts see of it."""
@@ -232,7 +237,7 @@ def code_item(name):
         kept -= 1
     code, model = item_lines(text, start), re.search(MODEL.format(re.escape(word)), text, re.M)
     seen = item_lines(text, model.start()) if model else []
-    names = code_names(crate, text, "\n".join(it for it in code if not it.lstrip().startswith("//"))) | ghost_names(text, "\n".join(seen))
+    names = code_names(crate, text, "\n".join(map(without_variant, code))) | ghost_names(text, "\n".join(seen))
     comment = tuple(it for it in above[kept:] if it.startswith("///"))
     whole = (*code, *([""] if seen else []), *seen)
     return Definition(crate, word, path, kept + 1, comment, whole, frozenset(names) - {name})
@@ -281,7 +286,7 @@ class Clause:
 
 FUNCTION = re.compile(r"^( *)(?:pub(?:\([a-z]+\))? )?(?:const )?fn (\w+)(.*?)^\1\{", re.M | re.S)
 ENSURES = re.compile(r"\bensures\*?(?: (\w+))? \{")
-PARAMETER = re.compile(r"\b(?:mut )?(\w+): ([^,()]*(?:\([^)]*\))?[^,()]*)")
+PARAMETER = re.compile(r"\b(?:mut )?(\w+): ((?:[^,()<>\n]|<[^<>]*(?:<[^<>]*>[^<>]*)*>)+)")
 
 
 def braced(text, start):
