@@ -19,6 +19,7 @@ pub fn worked_smoothings()
 pub fn worked_circles()
     ensures circles_of { circles_of trefoil 0 ≡ 0 ∷ 1 ∷ 2 ∷ 3 ∷ 1 ∷ 2 ∷ 3 ∷ [] }
     ensures circles_of_one { circles_of trefoil 1 ≡ 0 ∷ 1 ∷ 1 ∷ 3 ∷ 1 ∷ 1 ∷ 3 ∷ [] }
+    ensures circles_of_loops { circles_of (record curl { loops = 2 }) 1 ≡ 0 ∷ 1 ∷ 1 ∷ 3 ∷ 4 ∷ [] }
     ensures circle_of { circle_of (circles_of trefoil 0) 5 ≡ 2 }
     ensures circle_names { circle_names trefoil 1 ≡ 1 ∷ 3 ∷ [] }
     ensures circle_names_loops { circle_names (record curl { loops = 2 }) 1 ≡ 1 ∷ 3 ∷ 4 ∷ [] }

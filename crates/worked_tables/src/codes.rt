@@ -24,7 +24,8 @@ pub fn worked_codes()
 pub fn worked_components()
     ensures passes_of { passes_of (1 ∷ 4 ∷ 2 ∷ 5 ∷ []) ≡ (1, 2) ∷ (4, 5) ∷ [] }
     ensures components_of { components_of hopf_link.crossings ≡ 0 ∷ 1 ∷ 1 ∷ 3 ∷ 3 ∷ [] }
-    ensures components_of_trefoil { components_of trefoil.crossings ≡ 0 ∷ 1 ∷ 1 ∷ 1 ∷ 1 ∷ 1 ∷ 1 ∷ [] }
+    ensures components_of_trefoil { components_of trefoil.crossings
+        ≡ 0 ∷ 1 ∷ 1 ∷ 1 ∷ 1 ∷ 1 ∷ 1 ∷ [] }
     ensures component_of { component_of (components_of hopf_link.crossings) 4 ≡ 3 }
     ensures arcs_in { arcs_in (components_of hopf_link.crossings) 3 ≡ 2 }
     ensures arcs_in_trefoil { arcs_in (components_of trefoil.crossings) 1 ≡ 6 }

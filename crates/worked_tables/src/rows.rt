@@ -13,7 +13,8 @@ pub fn worked_dimensions()
     ensures dimension_over_three { dimension 3 trefoil (neg_ℤ (pos 2)) (neg_ℤ (pos 7)) ≡ 0 }
     ensures dimension_before { dimension 2 trefoil (neg_ℤ (pos 3)) (neg_ℤ (pos 7)) ≡ 1 }
     ensures dimension_before_over_three { dimension 3 trefoil (neg_ℤ (pos 3)) (neg_ℤ (pos 7)) ≡ 0 }
-    ensures from_minus { from_minus 2 ≡ neg_ℤ (pos 2) ∷ neg_ℤ (pos 1) ∷ pos 0 ∷ pos 1 ∷ pos 2 ∷ [] }
+    ensures from_minus { from_minus 3
+        ≡ neg_ℤ (pos 3) ∷ neg_ℤ (pos 2) ∷ neg_ℤ (pos 1) ∷ pos 0 ∷ pos 1 ∷ pos 2 ∷ pos 3 ∷ [] }
     ensures row_at { row_at 2 trefoil (neg_ℤ (pos 7)) (neg_ℤ (pos 2))
         ≡ record { j = neg_ℤ (pos 7); i = neg_ℤ (pos 2); dim = 1 } }
     ensures is_shown { is_shown (record { j = neg_ℤ (pos 7); i = neg_ℤ (pos 2); dim = 1 }) ≡ true }
@@ -24,11 +25,14 @@ pub fn worked_dimensions()
         ∷ record { j = neg_ℤ (pos 7); i = neg_ℤ (pos 2); dim = 1 } ∷ [] }
 {}
 
-/// The trefoil's rows up to the quantum degree 3 in size, the table of the curl, and sizes within
+/// The trefoil's rows up to the quantum degree 7 in size, the table of the curl, and sizes within
 /// which the program works.
 pub fn worked_rows()
-    ensures rows_within { rows_within 3 2 trefoil
-        ≡ record { j = neg_ℤ (pos 3); i = pos 0; dim = 1 }
+    ensures rows_within { rows_within 7 2 trefoil
+        ≡ record { j = neg_ℤ (pos 7); i = neg_ℤ (pos 3); dim = 1 }
+        ∷ record { j = neg_ℤ (pos 7); i = neg_ℤ (pos 2); dim = 1 }
+        ∷ record { j = neg_ℤ (pos 5); i = neg_ℤ (pos 2); dim = 1 }
+        ∷ record { j = neg_ℤ (pos 3); i = pos 0; dim = 1 }
         ∷ record { j = neg_ℤ (pos 1); i = pos 0; dim = 1 } ∷ [] }
     ensures table { table 2 curl ≡ record {
       field = 2;

@@ -10,20 +10,25 @@ pub fn worked_sums()
     ensures signed_by_parity { signed_by_parity 3 2 ≡ neg_ℤ (pos 2) }
     ensures signed_by_parity_even { signed_by_parity 4 2 ≡ pos 2 }
     ensures signed_by { signed_by (neg_ℤ (pos 3)) 2 ≡ neg_ℤ (pos 2) }
+    ensures signed_by_above { signed_by (pos 3) 2 ≡ neg_ℤ (pos 2) }
     ensures signed_by_even { signed_by (neg_ℤ (pos 2)) 2 ≡ pos 2 }
     ensures circle_coefficient { circle_coefficient 3 (neg_ℤ (pos 1)) ≡ 3 }
+    ensures circle_coefficient_above { circle_coefficient 3 (pos 1) ≡ 3 }
     ensures circle_coefficient_end { circle_coefficient 3 (neg_ℤ (pos 3)) ≡ 1 }
     ensures circle_coefficient_none { circle_coefficient 3 (pos 2) ≡ 0 }
 {}
 
-/// What states add. With three positive crossings and one negative, a state with two ones and three
-/// circles adds -q^3 (q + q^-1)^3. State 1 of the trefoil has one 1-smoothing and two circles, and
-/// adds q^-5 (q + q^-1)^2.
+/// What states add. With three positive crossings and four negative, a state with one 1-smoothing
+/// and two circles adds -q^-4 (q + q^-1)^2; with two positive and one negative it adds
+/// q (q + q^-1)^2, or q (q + q^-1)^3 if it has three circles. State 1 of the trefoil adds
+/// q^-5 (q + q^-1)^2.
 pub fn worked_terms_of_states()
-    ensures term_of { term_of 3 1 (pos 4) 2 3 ≡ neg_ℤ (pos 3) }
-    ensures term_of_above { term_of 3 1 (pos 6) 2 3 ≡ neg_ℤ (pos 1) }
+    ensures term_of { term_of 3 4 (neg_ℤ (pos 4)) 1 2 ≡ neg_ℤ (pos 2) }
+    ensures term_of_plus { term_of 2 1 (neg_ℤ (pos 1)) 1 2 ≡ pos 1 }
+    ensures term_of_three { term_of 2 1 (neg_ℤ (pos 2)) 1 3 ≡ pos 1 }
     ensures term_with { term_with 0 3 trefoil (neg_ℤ (pos 5)) 1 ≡ pos 2 }
     ensures sum_with { sum_with 3 0 trefoil (pos 0) ≡ pos 1 }
+    ensures sum_with_own { sum_with 0 3 trefoil (neg_ℤ (pos 9)) ≡ neg_ℤ (pos 1) }
     ensures state_sum { state_sum trefoil (neg_ℤ (pos 9)) ≡ neg_ℤ (pos 1) }
     ensures state_sum_above { state_sum trefoil (neg_ℤ (pos 5)) ≡ pos 1 }
     // One row of degree -3 less, three of degree -2 more, and a row that is at another degree j.
