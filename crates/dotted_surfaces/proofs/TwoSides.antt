@@ -1,7 +1,7 @@
 -- Two surfaces glued along circles between them.
 --
 -- Circles between two surfaces are cut one after another (OneCut). Each cut puts a disc with a label on the one side and one with the other
--- label on the other side; behind the last cut the two surfaces are apart. So the value is the sum over all labels of the products of both
+-- label on the other side; after the last cut the two surfaces are apart. So the value is the sum over all labels of the products of both
 -- values.
 use Rattle.std.proofs.Common.{◌≡◌, ℕ, inl, inr, ◌+◌, ◌-◌, ◌*◌, ◌^◌, ◌<◌, ◌∙◌, List, [], ◌∷◌, ◌++◌, map, length, get_or, refl, sym, ap, append_assoc, arith}
 use Rattle.std.specs.List.{flat_map, enumerate_from, AllByRecursion, Contains}
