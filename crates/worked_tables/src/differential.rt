@@ -6,7 +6,7 @@ ghost use Rattle.kh_types.specs.Generators.{generator_of};
 ghost use Rattle.kh_types.specs.WorkedCodes.{trefoil};
 
 /// Circles that a crossing touches, and labels before and after, 0 for v+ and 1 for v-.
-pub fn worked_tables_of_labels()
+pub fn worked_merges()
     // State 2 has the circles 1 and 2, and the third crossing is on both; state 1 has 1 and 3, and
     // the first crossing is on 1 alone. In state 0 the second is on 1 and 3, which become one.
     ensures is_touched { is_touched trefoil 2 3 2 ≡ true }

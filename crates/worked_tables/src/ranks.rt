@@ -5,7 +5,7 @@ ghost use Rattle.kh_types.specs.Rank.{has_entry, lead_of, inverse, minus_mod, le
 
 /// Modulo 5: 3 times 2 is 1, and 1 - 3 is 3. Modulo 7 the row 1 3 3 less 5 times the row 0 2 1 is
 /// 1 0 5.
-pub fn worked_rows_of_numbers()
+pub fn worked_elimination()
     ensures has_entry { has_entry (0 ∷ 2 ∷ []) ≡ true }
     ensures has_entry_not { has_entry (0 ∷ 0 ∷ []) ≡ false }
     ensures lead_of { lead_of (0 ∷ 0 ∷ 2 ∷ 1 ∷ []) ≡ 2 }

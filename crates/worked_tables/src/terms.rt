@@ -1,6 +1,6 @@
 //! State sums and Euler characteristics, coefficient by coefficient, and terms.
 
-ghost use Rattle.std.specs.Prelude.{◌≡◌, ℤ, [], ◌∷◌, pos, neg_ℤ, codes};
+ghost use Rattle.std.specs.Prelude.{◌≡◌, [], ◌∷◌, pos, neg_ℤ, codes};
 ghost use Rattle.kh_types.specs.StateSum.{int_sum, signed_by_parity, signed_by, circle_coefficient, term_of, term_with, sum_with, state_sum, euler, terms, term_text, terms_text, polynomial_text};
 ghost use Rattle.kh_types.specs.WorkedCodes.{curl, trefoil};
 
