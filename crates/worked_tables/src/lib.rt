@@ -9,6 +9,7 @@ pub mod classes;
 pub mod codes;
 pub mod differential;
 pub mod generators;
+pub mod link_signs;
 pub mod polynomials;
 pub mod ranks;
 pub mod rows;
