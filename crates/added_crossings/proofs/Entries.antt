@@ -2,7 +2,7 @@
 --
 -- The bits of a number are a function of arcs that has one value on each circle, so an entry is the number of `sheet_at`, and its sum over
 -- dots is there (`sum-crossing`). In that sum the labels are turned back into numbers: those of the closed circles and those of the circles
--- behind; and the sets of dots are the numbers below a power of two (`sum-by_dots`). The saddle's sum is turned likewise.
+-- after it; and the sets of dots are the numbers below a power of two (`sum-by_dots`). The saddle's sum is turned likewise.
 use Rattle.std.proofs.Common.{◌≡◌, ℕ, ◌+◌, ◌-◌, ◌*◌, ◌^◌, ◌<◌, ◌∙◌, List, [], ◌∷◌, ◌++◌, map, length, sym, ap, ap₂, subst, append_assoc}
 use Rattle.kh_types.specs.Bits.{bit}
 use Rattle.kh_types.specs.Classes.{Respects}

@@ -31,5 +31,5 @@ abbrev pub beside_34 : List (ℕ × ℕ)
 beside_34 = (1, 6) ∷ (2, 5) ∷ (3, 4) ∷ []
 
 -- a term
-abbrev pub times : ℕ → ℕ → Term
-times coefficient dots = record { dots = dots; coefficient = coefficient }
+abbrev pub times_dots : ℕ → ℕ → Term
+times_dots coefficient dots = record { dots = dots; coefficient = coefficient }

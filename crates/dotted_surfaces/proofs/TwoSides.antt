@@ -16,7 +16,7 @@ use Rattle.kh_types.proofs.Lists.{AllByRecursion-append, Contains-map, AllByRecu
 use Rattle.kh_types.proofs.Sums.{sum_below-equal}
 use Rattle.dotted_surfaces.specs.Surfaces.{Surface, component_of, IsClosed, value, IsPlaced}
 use Rattle.dotted_surfaces.specs.Cuts.{with_faces, caps_at, caps, capped, AreOn, union, first_caps, second_caps, AreBetween, glued_two, sum_of_products}
-use Rattle.dotted_surfaces.specs.Projections.{IsReordered}
+use Rattle.dotted_surfaces.specs.Projections.{IsRelisted}
 use Rattle.dotted_surfaces.proofs.Components.{component-below}
 use Rattle.dotted_surfaces.proofs.Factors.{AreAlike-sym, genus-alike}
 use Rattle.dotted_surfaces.proofs.OneCut.{at_place}
@@ -170,7 +170,7 @@ exchanged ws xs ys zs rest moved =
     (rw last (IsPermutation-append_left (xs ++ zs) (ws ++ ys) rest moved)))
 
 both-sides : (first second : Surface) (circles : List (ℕ × ℕ)) (label : ℕ)
-    → IsReordered (union (with_faces first (first_caps circles label)) (with_faces second (second_caps circles label)))
+    → IsRelisted (union (with_faces first (first_caps circles label)) (with_faces second (second_caps circles label)))
     (capped (union first second) (map (across first.size) circles) label)
 both-sides first second circles label =
     let n = first.size in
