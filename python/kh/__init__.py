@@ -1,0 +1,1 @@
+"""Khovanov homology, proved."""
