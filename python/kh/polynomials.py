@@ -20,7 +20,7 @@ def polynomial_of(dimensions):
     return " + ".join(terms) or "0"
 
 
-class Polynomial:
+class Reader:
     """A reader of polynomials in q and t with products, quotients, powers and brackets, as other programs write them too."""
 
     TOKEN = re.compile(r"\s*(?:(\d+)|([qt])|(\*\*|[-+*/^(){}]))")
@@ -129,7 +129,7 @@ def inverse(polynomial):
 
 def dimensions_from(text):
     """The dimensions by degrees of a Poincaré polynomial."""
-    terms = Polynomial(text).whole()
+    terms = Reader(text).whole()
     if any(count != int(count) or count < 0 for count in terms.values()):
         raise Unreadable("a coefficient of the polynomial is no dimension")
     return {exponents: int(count) for exponents, count in terms.items()}
