@@ -17,6 +17,7 @@ from collections.abc import Sequence
 from typing import TYPE_CHECKING, Any
 
 from .codes import codes
+from .refused import Refused
 
 if TYPE_CHECKING:
     from .links import Link
@@ -29,6 +30,9 @@ def _link_of(crossings: Crossings, components: int, name: str) -> Link:
     from .links import Link
 
     numbered, _, _ = codes.numbered([list(map(int, it)) for it in crossings]) if crossings else ([], None, None)
+    faces, wanted = codes.sphere_counts(numbered)
+    if faces != wanted:
+        raise Refused(f"it can be drawn on no sphere ({faces} faces, not {wanted})", codes.text_of(numbered, 0))
     arcs = {arc: number for number, walk in enumerate(_walks(numbered)) for arc in walk}
     loops = components - len(set(arcs.values()))
     return Link._of_code(codes.text_of(numbered, loops), name)
@@ -54,7 +58,7 @@ def _walks(crossings: Crossings) -> list[set[int]]:
 
 
 def from_sage(link: Any, name: str = "") -> Link:
-    """The link of a `Link` or `Knot` of SageMath."""
+    """The link of a `Link` or `Knot` of SageMath. A strand of a braid that nothing crosses is lost, since SageMath 9.5 counts none."""
     crossings = [(i, l, k, j) for i, j, k, l in link.pd_code()]
     return _link_of(crossings, int(link.number_of_components()), name)
 

@@ -115,5 +115,6 @@ def frame(links: Iterable[Link], fields: Fields = "all", jobs: int | None = None
     found = pandas.DataFrame(sorted(rows), columns=["link", "name", "field", "j", "i", "dim"])
     found.attrs["without"] = sorted(without)
     if without:
-        warnings.warn(f"{len(without)} of {len(every)} links over these fields have no table: attrs[\"without\"] says why", stacklevel=2)
+        count = "1 table is" if len(without) == 1 else f"{len(without)} tables are"
+        warnings.warn(f"{count} missing, and attrs[\"without\"] says why", stacklevel=2)
     return found
