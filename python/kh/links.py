@@ -3,6 +3,7 @@ from __future__ import annotations
 
 import re
 from collections.abc import Sequence
+from html import escape
 from typing import TYPE_CHECKING, Any, Union
 
 from . import programs
@@ -230,9 +231,13 @@ class Link:
     def _repr_html_(self) -> str:
         from .show.grids import html_of
 
-        tables = list(self.tables().values())
-        cells = "".join(f'<td valign="top">{html_of(it, tables)}</td>' for it in tables)
-        return f"<p>{self._name or 'A link'}</p>\n{self.drawing().svg}\n<table><tr>{cells}</tr></table>"
+        head = f"<p>{escape(self._name or 'A link')}</p>"
+        try:
+            tables = list(self.tables().values())
+            cells = "".join(f'<td valign="top">{html_of(it, tables)}</td>' for it in tables)
+            return f"{head}\n{self.drawing().svg}\n<table><tr>{cells}</tr></table>"
+        except (Refused, programs.Missing, MemoryError) as fault:
+            return f"{head}\n<pre>{escape(str(fault))}</pre>"
 
     def _kh(self, *words: str) -> str:
         """What `kh` answers to these words of this diagram."""

@@ -36,7 +36,7 @@ def test_the_lines_of_the_page(monkeypatch, tmp_path, capsys):
     assert known["T"][13, 4] == 1 and known["T"] == known["L"].mirror().table(3).mirror()
     exec(own, known)
     told = capsys.readouterr().out.splitlines()
-    assert re.fullmatch(r"5\d\d of 672 answers agree", told[0]) and "Knots().from_table" in with_sage
+    assert told[0] == "504 of 671 answers agree" and "Knots().from_table" in with_sage
     pytest.importorskip("pandas")
     exec(frames, known)
     assert len(known["df"]) > 20

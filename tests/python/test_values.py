@@ -1,9 +1,12 @@
 """Polynomials, tables and what they tell of torsion, as values; no program is asked."""
+import json
 import pickle
 import random
 
 import pytest
 from kh import Degrees, Polynomial, Refused, Table, Torsion
+from kh.places import reference_file
+from kh.reference.forms import read
 
 TREFOIL = Polynomial("q + q^3 + q^5 - q^9")
 OVER_3 = Table({(1, 0): 1, (3, 0): 1, (5, 2): 1, (9, 3): 1}, field=3)
@@ -116,6 +119,36 @@ def test_torsion_of_the_trefoil():
     torsion = Torsion.of({2: OVER_2, 3: OVER_3, 5: Table(OVER_3.dimensions, field=5), 7: Table(OVER_3.dimensions, field=7)})
     assert torsion and torsion.primes == (2,) and torsion[2] == {(7, 3): 1} and torsion[3] == {} and not torsion.undecided
     assert torsion.least.dimensions == OVER_3.dimensions and str(torsion) == "1 of order a power of 2 at j 7 i 3"
+
+
+def of_other_programs():
+    """The name, the groups that SageMath computed over the integers, and the tables of the reference, of each knot of which both are kept;
+    of one whose mirror image SageMath has, the torsion goes from j, i to -j, 1 - i."""
+    tables = {}
+    for it in lines_of("vectors.jsonl") + lines_of("prime.jsonl"):
+        tables.setdefault(it["name"], {})[it["field"]] = Table({(j, i): count for j, i, count in it["rows"]}, field=it["field"])
+    for it in lines_of("checked.jsonl"):
+        if "Z" in it.get("homology", {}) and it["name"] in tables:
+            groups = read(it["homology"]["Z"].replace("; ", "\n")).cells
+            is_mirrored = it["stands"] == "mirror image"
+            yield it["name"], {(-j, 1 - i) if is_mirrored else (j, i): group for (j, i), group in groups.items()}, tables[it["name"]]
+
+
+def lines_of(name):
+    with open(reference_file(name), encoding="utf-8") as file:
+        return [it for it in map(json.loads, file) if "name" in it]
+
+
+def test_torsion_is_that_of_other_programs():
+    """At each degree as many summands of an order that 2 divides, and of 3, 5 and 7, as SageMath has over the integers."""
+    count = 0
+    for name, groups, tables in of_other_programs():
+        torsion = Torsion.of(tables)
+        for p in tables:
+            wanted = {degrees: sum(many for order, many in group.items() if order and order % p == 0) for degrees, group in groups.items()}
+            assert torsion[p] == {degrees: many for degrees, many in wanted.items() if many}, name
+        count += 1
+    assert count == 36
 
 
 def test_torsion_of_chains_and_what_is_undecided():

@@ -7,18 +7,16 @@ field, and the others that it had are given to another.
 import contextlib
 import itertools
 import os
-import re
 import select
 import subprocess
 import time
 from collections import deque
 
+from ..programs import FIRST, HEAD
 from .programs import SCAN, WHILE, Single, Task, begun, end_group, out_of_time, result_of
 from .results import Fault
 
 FIELDS = (2, 3, 5, 7)
-HEAD = re.compile(rb"code (\d+) field (\d) status (\d+) bytes (\d+)\n")
-FIRST = b"answers 1\n"
 # The seconds of work that a process is given ahead, and how many codes at most; the bytes that are read at once.
 AHEAD, MOST = 0.1, 64
 PART = 65_536
