@@ -10,9 +10,9 @@ from collections import Counter
 
 import homfly
 import named
-import stored
+from kh.reference import stored
 import tables
-from forms import INTEGRAL, read
+from kh.reference.forms import INTEGRAL, read
 
 HERE = os.path.dirname(os.path.abspath(__file__))
 PATH = os.path.join(HERE, "checked.jsonl")

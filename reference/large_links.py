@@ -3,9 +3,8 @@ import os
 import sys
 
 TOP = os.path.dirname(os.path.dirname(os.path.abspath(__file__)))
-sys.path[:0] = [os.path.join(TOP, it) for it in ("tools", "tests", "bench")]
-import braid_words
-import codes
+sys.path[:0] = [os.path.join(TOP, it) for it in ("tests", "bench")]
+from kh.codes import braid_words, codes
 import plain.diagrams
 import scan_links
 

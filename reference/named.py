@@ -3,10 +3,9 @@ import os
 import sys
 
 TOP = os.path.dirname(os.path.dirname(os.path.abspath(__file__)))
-# (behind the modules of the reference, some of which have names of those of tools/)
-sys.path += [os.path.join(TOP, it) for it in ("tools", "tests")]
-import codes
-import link_names
+# (behind the modules of the reference, some of which have names of those of tests/)
+sys.path.append(os.path.join(TOP, "tests"))
+from kh.codes import codes, link_names
 import plain.diagrams
 
 

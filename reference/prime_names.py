@@ -3,7 +3,7 @@ import functools
 import os
 
 import homfly
-import link_names
+from kh.codes import link_names
 import named
 import others
 import tables

@@ -12,8 +12,8 @@ import subprocess
 import sys
 from typing import NamedTuple
 
-import refusals
-from pointing import MARGIN, is_plain, pointed, wrapped
+from kh.codes import refusals
+from kh.codes.pointing import MARGIN, is_plain, pointed, wrapped
 
 TOP = os.path.dirname(os.path.dirname(os.path.realpath(__file__)))
 # The built programs of both scripts.

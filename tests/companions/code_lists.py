@@ -1,5 +1,5 @@
-"""Tries whether what `tools/kh-codes` reads without its tree (`tools/plain_lists.py`) is what the tree makes of it: random planar
-diagrams as they are and spoilt, in each form, with names and in tables, byte for byte.
+"""Tries whether what `tools/kh-codes` reads without its tree (`python/kh/codes/plain_lists.py`) is what the tree makes of it: random
+planar diagrams as they are and spoilt, in each form, with names and in tables, byte for byte.
 """
 import os
 import random
@@ -16,8 +16,8 @@ SEED, COUNT = 31, 1_200
 # The same program, which reads everything by its tree.
 BY_TREE = f"""
 import runpy, sys
-sys.path.insert(0, {os.path.dirname(CODES)!r})
-import plain_lists
+sys.path.insert(0, {os.path.join(TOP, 'python')!r})
+from kh.codes import plain_lists
 plain_lists.written = lambda text: ""
 runpy.run_path({CODES!r}, run_name="__main__")
 """

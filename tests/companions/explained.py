@@ -22,8 +22,7 @@ from shared.running import PATIENCE
 
 sys.path.append(os.path.join(TOP, "tools"))
 import explain
-import pointing
-import refusals
+from kh.codes import pointing, refusals
 
 FILE, COLUMNS = "code", 100
 DRAWN = 300
@@ -318,13 +317,13 @@ def drawn_faults():
 
 def page_faults():
     """The pages and headings are there that are named."""
-    for name in ("kh-help", "explain.py", "refusals.py"):
-        with open(os.path.join(TOP, "tools", name), encoding="utf-8") as file:
+    for path in (("tools", "kh-help"), ("tools", "explain.py"), ("python", "kh", "codes", "refusals.py")):
+        with open(os.path.join(TOP, *path), encoding="utf-8") as file:
             named = set(PAGE.findall(file.read().replace('\\"', '"')))
         for page, heading in sorted(named):
             with open(os.path.join(TOP, page), encoding="utf-8") as file:
                 is_there = not heading or re.search(f"^##+ {re.escape(heading)}$", file.read(), re.M)
-            yield f"{page} {heading}, which {name} names", None if is_there else "it is not there"
+            yield f"{page} {heading}, which {path[-1]} names", None if is_there else "it is not there"
 
 
 def faults(program):

@@ -15,8 +15,7 @@ import plain.diagrams
 from companions.pictures import CONTRAST, luminance, script
 
 STATES = script("move_states")
-import scan
-import tangles
+from kh.show import scan, tangles
 
 MOVES = ("kink", "bigon", "slide")
 # How near the curves of two circles of a state come at least, where the disc has the radius 1, and two ends that are one.

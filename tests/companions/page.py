@@ -8,7 +8,6 @@ import math
 import os
 import re
 import subprocess
-import sys
 import tempfile
 
 import plain.cube
@@ -17,14 +16,11 @@ import plain.moves
 from companions import page_moves as page_moves_drawn
 from companions.page_cells import matrices_fault
 from companions.show import help_fault, named_circles
+from kh.show import asking, page_moves
+from kh.show import sheet as sheets
 from shared import documents, known_diagrams
 from shared.places import TOP
 from shared.running import PATIENCE
-
-sys.path.insert(0, os.path.join(TOP, "show"))
-import asking
-import page_moves
-import sheet as sheets
 
 PAGE = os.path.join(TOP, "show", "page")
 FIELDS = (2, 3, 5, 7)

@@ -6,18 +6,15 @@ import math
 import os
 import re
 import subprocess
-import sys
 import tempfile
 
 import plain.cube
 import plain.diagrams
+from kh import answers
 from rows.texts import TREFOIL
 from shared.places import TOP
 from shared.running import PATIENCE
 from shared.serving import Serving
-
-sys.path.insert(0, os.path.join(TOP, "show"))
-import answers
 
 PLACES = "Array.from(document.querySelectorAll('.target circle')).map((it) => [+it.getAttribute('cx'), +it.getAttribute('cy')])"
 STRANDS = "Array.from(document.querySelectorAll('#strands .strand')).map((it) => it.getAttribute('d')).join()"

@@ -3,23 +3,18 @@
 `page.py` runs this. The diagrams are drawn by `plain.drawing`, and the pictures are read as those of `pictures.py`.
 """
 import math
-import os
-import sys
 from types import SimpleNamespace
 
 import plain.diagrams
 import plain.drawing
 import plain.moves
 from companions import pictures
+from kh.answers import read_drawing
+from kh.show.figure import MARGIN, RULES
+from kh.show.page import picture
+from kh.show.page_figure import Change, Figure
+from kh.show.passage import passage_of
 from shared import known_diagrams
-from shared.places import TOP
-
-sys.path.insert(0, os.path.join(TOP, "show"))
-from answers import read_drawing
-from figure import MARGIN, RULES
-from page import picture
-from page_figure import Change, Figure
-from passage import passage_of
 
 TREFOIL = "PD[X[1,4,2,5], X[3,6,4,1], X[5,2,6,3]]"
 # What is drawn first, the lines of moves, and for each whether all else stays at its place.

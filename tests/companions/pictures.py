@@ -31,7 +31,6 @@ BRAIDS = 8
 
 def script(name):
     """A script of `show/` as a module."""
-    sys.path.insert(0, os.path.join(TOP, "show"))
     loader = SourceFileLoader(f"show_{name}", os.path.join(TOP, "show", name))
     module = module_from_spec(spec_from_loader(loader.name, loader))
     loader.exec_module(module)

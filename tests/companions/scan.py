@@ -1,18 +1,15 @@
-"""Tries the scan of `show/scan.py` on stored tables, and its picture.
+"""Tries the scan of `python/kh/show/scan.py` on stored tables, and its picture.
 
 `tests/program` runs these behind its rows. No program is run for them but `show/scan_steps`.
 """
 import os
 import subprocess
-import sys
 from collections import Counter
 
 import plain.diagrams
+from kh.show import scan
 from shared.places import DATA, TOP
 from shared.running import PATIENCE
-
-sys.path.insert(0, os.path.join(TOP, "show"))
-import scan
 
 MOST = 6
 
@@ -66,6 +63,6 @@ def picture_fault():
 def faults(program=None):
     """The name of each test, and what is wrong, if anything is."""
     for name, code, tables in stored():
-        yield f"show/scan.py: {name}", table_fault(code, tables)
-        yield f"show/scan.py: {name}, the other way round", order_fault(code, 3)
+        yield f"python/kh/show/scan.py: {name}", table_fault(code, tables)
+        yield f"python/kh/show/scan.py: {name}, the other way round", order_fault(code, 3)
     yield "show/scan_steps: the picture", picture_fault()

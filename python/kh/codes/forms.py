@@ -1,0 +1,46 @@
+"""Tells which form a code has, and reads it: names, braid words, Gauss and DT codes, planar diagrams."""
+from . import braid_words, codes, dowker, gauss_codes, link_names, statements
+
+NO_BRAID = "; before a braid word write braid:"
+WHICH = (
+    "a list of numbers does not say what it is: write braid: before a braid word, DT: before a DT code, "
+    "GaussCode[..] Signs[..] for a Gauss code"
+)
+
+
+def read(text, form, known):
+    """The crossings of a code, of the form that is told or of the one that it looks like, and what there is to say of that form."""
+    if form == statements.MISSING:
+        raise codes.Fault("this row has no code in the columns that are read", 0)
+    if form == statements.DOWKER or not form and dowker.WORD.match(text):
+        return dowker.read(text)
+    if form == statements.BRAID or braid_words.is_one(text):
+        strands, links = braid_words.read(text)
+        return links, [f"a braid word, closed on {strands} strand{'s' if strands > 1 else ''}"]
+    if link_names.name_of(text):
+        return link_names.read(link_names.name_of(text), len(text) - len(text.lstrip()), known)
+    if text.lstrip().startswith("Gauss"):
+        return gauss_codes.read(text), ["a Gauss code"]
+    node = codes.tree_of(text)
+    if node.items is None:
+        raise codes.Fault("a number is no code", node.place)
+    return read_list(node)
+
+
+def read_list(node):
+    """The same of a list: its numbers tell a DT code and a Gauss code from a list of crossings."""
+    groups = None if node.word else codes.groups_of(node)
+    if not groups or not any(groups):
+        return codes.read_planar(node), []
+    is_flat, components = groups[0] is node.items, gauss_codes.from_one([[it.value for it in them] for them in groups])
+    other = NO_BRAID if is_flat else ""
+    if dowker.looks_like_one(groups):
+        try:
+            return dowker.links_of(groups)
+        except codes.Fault as fault:
+            raise codes.Fault(fault.what + other, fault.place) from None
+    if gauss_codes.is_whole(components):
+        raise codes.Fault(gauss_codes.what_to_write(components) + other, node.place)
+    if is_flat:
+        raise codes.Fault(WHICH, node.place)
+    return codes.read_planar(node), []

@@ -1,0 +1,109 @@
+"""Answers of other programs beside the tables of the reference."""
+from __future__ import annotations
+
+import inspect
+import os
+from collections.abc import Callable, Iterable, Iterator, Mapping
+from typing import Any, Union, cast
+
+from .links import Link
+from .places import reference_file
+from .tables import Degrees, Table
+
+FILES = {"reference": "vectors.jsonl", "prime": "prime.jsonl", "large": "large.jsonl"}
+Answers = Union[Callable[..., Any], Mapping[str, Any]]
+
+
+class Comparison:
+    """What came of a comparison with the reference: `agrees`, and `lines`, those that `reference/compare --all` writes: how many answers
+    agree, in which ways others are other ones, and what is missing. The tables of the reference are those that `kh` has written, so they
+    are proved; how others are told from them is not."""
+
+    __slots__ = ("lines", "agrees")
+
+    def __init__(self, lines: Iterable[str], agrees: bool) -> None:
+        self.lines, self.agrees = tuple(lines), agrees
+
+    def __bool__(self) -> bool:
+        return self.agrees
+
+    def __str__(self) -> str:
+        return "\n".join(self.lines)
+
+    def __repr__(self) -> str:
+        return f"<Comparison: {self.lines[0]}>"
+
+
+class _Words:
+    """What the words of `reference/compare` would say."""
+
+    def __init__(self, field: int | None, reduced: bool, order: str | None, most: int) -> None:
+        self.field, self.reduced, self.order, self.most = field, reduced, order, most
+
+
+def compare(
+    mine: Answers, reference: str = "reference", *, field: int | None = None, reduced: bool = False, order: str | None = None,
+    names: Iterable[str] | None = None, most: int = 5,
+) -> Comparison:
+    """Compares answers with the reference: `mine(link)` over one field, 2 where none is named, `mine(link, field)` over all four, or a
+    mapping of names to tables. An answer is a `Table`, a mapping of (j, i) or (i, j) to dimensions, rows, or a text in any form that
+    docs/REFERENCE.md lists; `order` names the order of a pair, "ji" or "ij", where it can not be told. The reference is "reference" (168
+    links), "prime" (the prime knots of 10 and 11 crossings), "large", or the path of such a file; `names` are those of it that are asked."""
+    from .reference.collection import Collection
+    from .reference.stored import Reference
+
+    path = reference_file(FILES[reference]) if reference in FILES else os.fspath(reference)
+    known = Reference(path)
+    if names is not None:
+        known.lines = {name: known.need(name) for name in names}
+    found = Collection(list(_answers(mine, known, field)), known, _Words(field, reduced, order, most))
+    return Comparison(found.lines(), found.is_fine())
+
+
+def _answers(mine: Answers, known: Any, field: int | None) -> Iterator[Any]:
+    """The answers, as those of a file are read."""
+    from .answers import Unreadable
+    from .reference.collection import Answer
+
+    for name, size, value in _values(mine, known, field):
+        try:
+            yield Answer(name, name, _reading(value, size))
+        except Unreadable as fault:
+            yield Answer(name, name, cast(Any, None), str(fault))
+
+
+def _values(mine: Answers, known: Any, field: int | None) -> Iterator[tuple[str, int | None, Any]]:
+    """The name of each link, the field where it is named, and the answer."""
+    if not callable(mine):
+        yield from ((name, field, value) for name, value in mine.items())
+        return
+    wants_field = _takes_two(mine)
+    for name, lines in known.lines.items():
+        link = Link._of_code(next(iter(lines.values()))["pd"], name)
+        if wants_field:
+            for size in lines if field is None else (field,):
+                yield name, size, mine(link, size)
+        else:
+            yield name, field, mine(link)
+
+
+def _takes_two(mine: Callable[..., Any]) -> bool:
+    kinds = (inspect.Parameter.POSITIONAL_ONLY, inspect.Parameter.POSITIONAL_OR_KEYWORD)
+    found = [it for it in inspect.signature(mine).parameters.values() if it.kind in kinds and it.default is it.empty]
+    return len(found) > 1
+
+
+def _reading(value: Any, field: int | None) -> Any:
+    """What is read of an answer."""
+    from .reference.forms import Reading, read, read_value
+    from .reference.groups import group_of
+
+    if isinstance(value, Table):
+        cells = {(j, i): group_of(str(dimension)) for (j, i), dimension in value.items()}
+        return Reading(cells, True, value.field, value.mark is not None)
+    is_named = isinstance(value, Mapping) and bool(value) and all(isinstance(it, Degrees) for it in value)
+    if isinstance(value, Mapping):
+        value = {key: it if isinstance(it, Mapping) else str(it) for key, it in value.items() if it != 0}
+    reading = read(value) if isinstance(value, str) else read_value(value)
+    reading = reading._replace(is_j_first=True) if is_named else reading
+    return reading._replace(field=field) if field is not None and reading.field is None else reading

@@ -1,0 +1,1 @@
+"""Tables of other programs beside those of the reference. Nothing here is proved."""

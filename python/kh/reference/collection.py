@@ -1,0 +1,228 @@
+"""Compares all answers of a program with the reference, and counts them by what is said of them.
+
+An answer is a line of JSON in a file, with the name of a link as `name` and its table as one of the members that `forms.py` knows, and
+`field` and `reduced` where they are to be said; or it is a file of a folder, named for the link, such as `8_19.txt`, or for the link and
+the field, such as `8_19.3.txt`, with a table in any form.
+"""
+import json
+import os
+import sys
+from collections import Counter
+from typing import NamedTuple
+
+from ..answers import Unreadable
+from .forms import INTEGRAL, RATIONAL, Reading, field_of, groups_of, j_is_first, read, read_value
+from .stored import listed
+from .ways import AGREES, EXPLAINED, OTHER, TURNINGS, Comparison, Table, Verdict, sentence
+
+OVER = {RATIONAL: "Q", INTEGRAL: "Z"}
+# How many of the ways in which single answers are exact are tried for all of them.
+TRIED = 4
+ASK = "the numbers of their pairs may be i, j or j, i: --order ij or --order ji names it"
+
+
+class Answer(NamedTuple):
+    """An answer: where it stands, the link that it names, and what was read, or why nothing could be."""
+
+    where: str
+    name: str
+    reading: Reading
+    fault: str = ""
+
+
+def answers_of(path):
+    """The answers of a file or a folder."""
+    if os.path.isdir(path):
+        for name in sorted(os.listdir(path)):
+            if not name.startswith(".") and os.path.isfile(os.path.join(path, name)):
+                yield of_file(path, name)
+        return
+    with open(path, encoding="utf-8") as file:
+        for number, line in enumerate(file, 1):
+            if line.strip():
+                answer = of_line(f"line {number}", line)
+                if answer:
+                    yield answer
+
+
+def of_line(where, line):
+    """The answer of a line of JSON; none where it says who made the file."""
+    name = ""
+    try:
+        value = json.loads(line)
+        if not isinstance(value, dict) or "name" not in value:
+            return None if isinstance(value, dict) and "made by" in value else Answer(where, "", None, "it has no name")
+        name = str(value["name"])
+        if value.get("refusal"):
+            return Answer(where, name, None, value["refusal"])
+        return Answer(where, name, read_value(value))
+    except (ValueError, RecursionError):
+        return Answer(where, name, None, "it is no JSON")
+    except Unreadable as fault:
+        return Answer(where, name, None, str(fault))
+
+
+def of_file(folder, name):
+    """The answer of a file, which is named for a link, or for it and a field."""
+    link, ending = os.path.splitext(name)
+    field = field_of(ending[1:])
+    if field is None:
+        stem, ending = os.path.splitext(link)
+        field = field_of(ending[1:])
+        link = link if field is None else stem
+    try:
+        with open(os.path.join(folder, name), encoding="utf-8") as file:
+            reading = read(file.read())
+    except (Unreadable, UnicodeDecodeError) as fault:
+        return Answer(name, link, None, str(fault))
+    return Answer(name, link, reading if field is None else reading._replace(field=field))
+
+
+class Compared(NamedTuple):
+    """An answer that was compared: its link and field in words, the comparison, and what came of it."""
+
+    label: str
+    comparison: Comparison
+    verdict: Verdict
+
+
+class Collection:
+    """The answers of a program, compared one by one."""
+
+    def __init__(self, answers, reference, words):
+        self.answers, self.reference, self.words = answers, reference, words
+        self.compared, self.unreadable, self.strangers, self.fields = [], [], [], {}
+        self.is_first = self.order()
+        for answer in answers:
+            self.add(answer)
+
+    def order(self):
+        """Whether j stands first in the pairs of all answers, by those in which it can be told; nothing where none tells it, or not all
+        tell the same."""
+        if self.words.order:
+            return self.words.order == "ji"
+        pairs = [answer for answer in self.answers if answer.reading and answer.reading.is_j_first is None]
+        told = {j_is_first(it.reading, self.reference.parity(it.name, self.is_reduced(it))) for it in pairs} - {None}
+        if len(told) != 1:
+            return None
+        print(f"compare: pairs are read as {'j, i' if True in told else 'i, j'}, as all tell in which it can be told", file=sys.stderr)
+        return told.pop()
+
+    def is_reduced(self, answer):
+        return self.words.reduced or answer.reading.is_reduced
+
+    def table(self, answer):
+        """The table of an answer, over the field that it says, or the words say."""
+        reading, is_reduced = answer.reading, self.is_reduced(answer)
+        is_first = reading.is_j_first
+        if is_first is None:
+            own = j_is_first(reading, self.reference.parity(answer.name, is_reduced))
+            is_first = own if self.is_first is None else self.is_first
+        if is_first is None:
+            raise Unreadable(ASK)
+        field = self.words.field if reading.field in (None, INTEGRAL) and self.words.field is not None else reading.field
+        return Table(groups_of(reading, is_first), 2 if field is None else field, field is not None, is_reduced)
+
+    def add(self, answer):
+        """Compares an answer."""
+        if not answer.reading:
+            self.unreadable.append(f"{answer.where}{f', {answer.name}' if answer.name else ''}: {answer.fault}")
+            return
+        if answer.name not in self.reference.lines:
+            self.strangers.append(answer.name)
+            return
+        try:
+            table = self.table(answer)
+            comparison = Comparison(table, self.reference, answer.name)
+        except Unreadable as fault:
+            self.unreadable.append(f"{answer.where}, {answer.name}: {fault}")
+            return
+        self.fields.setdefault((table.field, table.is_reduced), set()).add(answer.name)
+        label = f"{answer.name} {over_words(table.field, table.is_reduced)}"
+        self.compared.append(Compared(label, comparison, comparison.verdict()))
+
+    def missing(self):
+        """What links of the reference have no answer, over each field for which there are answers."""
+        for (field, is_reduced), names in self.fields.items():
+            left = [name for name in self.reference.lines if name not in names and self.reference.wanted_if_any(name, field, is_reduced)]
+            if left:
+                yield f"{counted(len(left), 'link has', 'links have')} no answer {over_words(field, is_reduced)}: {self.some(left)}"
+
+    def some(self, names):
+        """The first of these names, and how many more there are."""
+        more = len(names) - self.words.most
+        return listed(names) if more <= 0 else f"{', '.join([*names[: self.words.most], f'and {more} more'])}"
+
+    def listing(self, rows, one, many):
+        """How many of a kind there are, with the first of them, where there are any."""
+        if rows:
+            yield f"{counted(len(rows), one, many)}:"
+            yield from (f"  {row}" for row in rows[: self.words.most])
+
+    def of_kind(self, kind):
+        return [it for it in self.compared if it.verdict.kind == kind]
+
+    def one_way(self):
+        """The way in which the most answers are exact, if they are more than those that agree, and the answers that are exact in it."""
+        common = Counter(it.verdict.exact for it in self.of_kind(EXPLAINED) if it.verdict.exact)
+        best, whole = None, self.of_kind(AGREES)
+        for way in dict.fromkeys([*((place, (0, 0)) for place in range(1, len(TURNINGS))), *(it for it, _ in common.most_common(TRIED))]):
+            exact = [it for it in self.compared if it.comparison.agrees_in(*way)]
+            if len(exact) > len(whole):
+                best, whole = way, exact
+        return best, whole
+
+    def explained(self, but):
+        """What explains the answers but these, those of most answers first."""
+        found = {}
+        for it in self.of_kind(EXPLAINED):
+            if it not in but:
+                found.setdefault(it.verdict.lines[0], []).append(it.label)
+        every = sorted(found.items(), key=lambda it: -len(it[1]))
+        for line, labels in every[: self.words.most]:
+            yield f"{counted(len(labels), 'answer', 'answers')} ({self.some(labels)}): {line}"
+        left = sum(len(labels) for _, labels in every[self.words.most :])
+        if left:
+            yield f"{counted(left, 'answer', 'answers')} in {counted(len(every) - self.words.most, 'other way', 'other ways')}"
+
+    def lines(self):
+        """What is said of all."""
+        yield f"{len(self.of_kind(AGREES))} of {counted(len(self.compared), 'answer agrees', 'answers agree')}"
+        way, exact = self.one_way()
+        if way:
+            yield f"{len(exact)} of {len(self.compared)} are exact in one way: {sentence(*way)}"
+        yield from self.explained(exact)
+        others = [it for it in self.of_kind(OTHER) if it not in exact]
+        rows = [f"{it.label}: {first_of(it.verdict.lines)}" for it in others]
+        yield from self.listing(rows, "answer is another table", "answers are other tables")
+        yield from self.listing(self.unreadable, "answer is no table", "answers are no tables")
+        if self.strangers:
+            yield f"{counted(len(self.strangers), 'answer is', 'answers are')} of no link of the reference: {self.some(self.strangers)}"
+        yield from self.missing()
+
+    def is_fine(self):
+        """Whether all links have an answer that agrees."""
+        agreeing = len(self.of_kind(AGREES))
+        return 0 < agreeing == len(self.compared) and not (self.unreadable or [*self.missing()])
+
+
+def over_words(field, is_reduced):
+    return f"over {OVER.get(field, field)}{', reduced' if is_reduced else ''}"
+
+
+def counted(count, one, many):
+    return f"{count} {one if count == 1 else many}"
+
+
+def first_of(rows):
+    """The first row that is another one, behind what is said before, and how many more there are."""
+    heads = [row for row in rows[:1] if row.endswith("there:")]
+    rows = [row for row in rows[len(heads) :] if not row.startswith("(")]
+    more = f"; and {counted(len(rows) - 1, 'row', 'rows')} more" if len(rows) > 1 else ""
+    return " ".join([*heads, rows[0]]) + more
+
+
+def compared(paths, reference, words):
+    """The lines on all answers of these files and folders, and whether all agree."""
+    collection = Collection([answer for path in paths for answer in answers_of(path)], reference, words)
+    return list(collection.lines()), collection.is_fine()

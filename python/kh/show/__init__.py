@@ -1,0 +1,1 @@
+"""Drawings, grids and pages of what `kh` answers. Nothing here is proved."""

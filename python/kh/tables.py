@@ -1,0 +1,206 @@
+"""Tables of Khovanov homology over a field, as values."""
+from __future__ import annotations
+
+import re
+from collections import Counter
+from collections.abc import Iterator, Mapping
+from typing import TYPE_CHECKING, Any, NamedTuple, cast
+
+from . import answers
+from .laurent import Polynomial
+from .refused import Refused
+
+if TYPE_CHECKING:
+    import pandas
+
+FIELDS = (2, 3, 5, 7)
+_ROW = re.compile(r"^j (-?\d+) i (-?\d+) dim (\d+)$", re.M)
+_MARK = re.compile(r"mark (\d+)\n")
+# What the degrees of a reduced table lack of the Jones polynomial.
+_UNKNOT = Polynomial({-1: 1, 1: 1})
+
+
+class Degrees(NamedTuple):
+    """A pair of degrees: the quantum degree j, which comes first in all of this package, then the homological degree i."""
+
+    j: int
+    i: int
+
+
+class Table(Mapping[Degrees, int]):
+    """A table of homology over a field: a mapping of degrees (j, i) to dimensions, immutable. `table[13, 4]` is the dimension at j = 13 and
+    i = 4, and 0 where the table has none; what it is iterated over, and counts, are the degrees with a dimension above 0, ascending.
+
+    Of a table that `Link.table` or `Link.reduced` gives, field, dimensions and Jones polynomial are proved to be the definition's. One that
+    is made otherwise, `Table({(1, 0): 1, (-1, 0): 1}, field=3)` or `Table.read(..)`, is what it was made of. `mirror`, `shift` and products
+    are computed in Python, which is not proved; that the tables of a mirror image and of a disjoint union are these is (docs/THEOREM.md)."""
+
+    __slots__ = ("_field", "_mark", "_dimensions", "_text")
+    _dimensions: dict[Degrees, int] | None
+
+    def __init__(self, dimensions: Mapping[tuple[int, int], int], *, field: int, mark: int | None = None) -> None:
+        found = {Degrees(int(j), int(i)): int(dimension) for (j, i), dimension in dimensions.items()}
+        if any(dimension < 0 for dimension in found.values()):
+            raise ValueError("a dimension is 0 or more")
+        self._field, self._mark, self._text = field, mark, ""
+        self._dimensions = {degrees: found[degrees] for degrees in sorted(found) if found[degrees]}
+
+    @classmethod
+    def _of_answer(cls, text: str, field: int) -> Table:
+        """The table that `kh` or `kh-scan` has written, which is read once it is looked into."""
+        table = cls.__new__(cls)
+        marked = _MARK.match(text)
+        table._field, table._mark, table._text, table._dimensions = field, int(marked[1]) if marked else None, text, None
+        return table
+
+    @classmethod
+    def read(cls, text: str, *, field: int | None = None) -> Table:
+        """The table of a text: as `kh` writes it, as rows, as a polynomial in q and t, as a dictionary by pairs (docs/REFERENCE.md). The
+        field is the one that the text names, else this one, else 2."""
+        from .reference import forms, groups, stored
+
+        try:
+            reading = forms.read(text)
+            is_first = forms.j_is_first(reading)
+            if is_first is None:
+                raise answers.Unreadable("the numbers of its pairs may be j, i or i, j")
+            size = reading.field if reading.field in FIELDS else field or 2
+            found = forms.groups_of(reading, is_first)
+            if groups.has_torsion(found) or reading.field not in (None, *FIELDS):
+                found = {key[1:]: count for key, count in stored.given_tables(found, forms.INTEGRAL, (size,)).items()}
+                return cls(found, field=size)
+        except answers.Unreadable as fault:
+            raise Refused(str(fault), text) from None
+        return cls({degrees: sum(group.values()) for degrees, group in found.items()}, field=size, mark=0 if reading.is_reduced else None)
+
+    @property
+    def field(self) -> int:
+        """The number of elements of the field."""
+        return self._field
+
+    @property
+    def mark(self) -> int | None:
+        """Of a reduced table the arc or loop at which it is reduced, else nothing."""
+        return self._mark
+
+    @property
+    def dimensions(self) -> dict[Degrees, int]:
+        """The dimensions above 0 by degrees (j, i), as a new dictionary."""
+        return dict(self._known)
+
+    @property
+    def _known(self) -> dict[Degrees, int]:
+        if self._dimensions is None:
+            self._dimensions = {Degrees(int(j), int(i)): int(dimension) for j, i, dimension in _ROW.findall(self._text)}
+        return self._dimensions
+
+    def __getitem__(self, degrees: tuple[int, int]) -> int:
+        j, i = degrees
+        return self._known.get(cast(Degrees, (j, i)), 0)
+
+    def at(self, *, j: int, i: int) -> int:
+        """The dimension at these degrees, which are named."""
+        return self[j, i]
+
+    def __contains__(self, degrees: object) -> bool:
+        return degrees in self._known
+
+    def __iter__(self) -> Iterator[Degrees]:
+        return iter(self._known)
+
+    def __len__(self) -> int:
+        return len(self._known)
+
+    def __eq__(self, other: object) -> bool:
+        """Whether field and dimensions are the same, and both are reduced or none is; of a plain mapping by (j, i) the dimensions."""
+        if isinstance(other, Table):
+            same = self._field == other._field and (self._mark is None) == (other._mark is None)
+            return same and self._known == other._known
+        if isinstance(other, Mapping):
+            return self._known == {key: dimension for key, dimension in other.items() if dimension}
+        return NotImplemented
+
+    def __hash__(self) -> int:
+        return hash((self._field, self._mark is None, tuple(self._known.items())))
+
+    @property
+    def total(self) -> int:
+        """The sum of all dimensions."""
+        return sum(self._known.values())
+
+    @property
+    def euler(self) -> Polynomial:
+        """The Euler characteristic: the sum of (-1)^i dim q^j. That it is the Jones polynomial is proved of `Link.table`."""
+        sums: Counter[int] = Counter()
+        for (j, i), dimension in self._known.items():
+            sums[j] += -dimension if i % 2 else dimension
+        return Polynomial(sums)
+
+    @property
+    def jones(self) -> Polynomial:
+        """The unnormalised Jones polynomial, q + q^-1 for the unknot: the Euler characteristic, times q + q^-1 of a reduced table."""
+        return self.euler if self._mark is None else self.euler * _UNKNOT
+
+    def poincare(self) -> Polynomial:
+        """The Poincaré polynomial: the sum of dim q^j t^i."""
+        return Polynomial({(j, i): dimension for (j, i), dimension in self._known.items()})
+
+    def mirror(self) -> Table:
+        """The table with both degrees negated, which is that of the mirror image."""
+        return Table({(-j, -i): dimension for (j, i), dimension in self._known.items()}, field=self._field, mark=self._mark)
+
+    def shift(self, *, j: int = 0, i: int = 0) -> Table:
+        """The table with all degrees raised by so much."""
+        moved = {(at_j + j, at_i + i): dimension for (at_j, at_i), dimension in self._known.items()}
+        return Table(moved, field=self._field, mark=self._mark)
+
+    def __mul__(self, other: Table) -> Table:
+        """The products of dimensions, summed by sums of degrees, as the table of a disjoint union has them."""
+        if not isinstance(other, Table):
+            return NotImplemented
+        if self._field != other._field:
+            raise ValueError(f"one table is over {self._field} elements and the other over {other._field}")
+        if None not in (self._mark, other._mark):
+            raise ValueError("both tables are reduced, so the product is no table of the union")
+        mark = self._mark if other._mark is None else other._mark
+        return Table((self.poincare() * other.poincare()).terms, field=self._field, mark=mark)
+
+    @property
+    def rows(self) -> list[tuple[int, int, int]]:
+        """The rows j, i, dimension, ascending."""
+        return [(j, i, dimension) for (j, i), dimension in self._known.items()]
+
+    @property
+    def text(self) -> str:
+        """The text as `kh homology` or `kh reduced` writes it."""
+        return self._text or answers.table_text(self)
+
+    def to_frame(self) -> pandas.DataFrame:
+        """A data frame of pandas with the columns field, j, i and dim."""
+        import pandas
+
+        columns = ["field", "j", "i", "dim"]
+        return pandas.DataFrame([(self._field, *row) for row in self.rows], columns=columns).astype(int)
+
+    def __str__(self) -> str:
+        from .show import grids
+
+        return str(grids.text_of([self], 100)).rstrip("\n")
+
+    def __repr__(self) -> str:
+        mark = "" if self._mark is None else f", mark={self._mark}"
+        return f"Table({ {tuple(degrees): dimension for degrees, dimension in self._known.items()} }, field={self._field}{mark})"
+
+    def _repr_html_(self) -> str:
+        from .show import grids
+
+        return str(grids.html_of(self, [self]))
+
+    def _repr_latex_(self) -> str:
+        from .show import grids
+
+        rows, columns = grids.ranges([self])
+        head = " & ".join(["j \\backslash i", *map(str, columns)])
+        lines = [" & ".join([str(j), *(str(self[j, i] or "") for i in columns)]) for j in rows]
+        body = " \\\\\n".join([f"{head} \\\\ \\hline\n{lines[0] if lines else ''}", *lines[1:]])
+        return f"$\\begin{{array}}{{r|{'r' * len(columns)}}}\n{body}\n\\end{{array}}$"

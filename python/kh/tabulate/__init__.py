@@ -1,0 +1,1 @@
+"""Long lists of links, and the database of their answers. Nothing here is proved."""

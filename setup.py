@@ -1,0 +1,52 @@
+"""How the package is put together, beyond what pyproject.toml says: the files of the reference and the built programs go with it."""
+import os
+import shutil
+
+from setuptools import Distribution, setup
+from setuptools.command.build_py import build_py
+
+TOP = os.path.dirname(os.path.abspath(__file__))
+# (beside the sources there is a script `build`, so what setuptools writes goes to a folder that git does not look at)
+WRITTEN = os.path.join("out", "python")
+REFERENCE = ("braids.txt", "prime.txt", "checked.jsonl", "vectors.jsonl", "prime.jsonl", "large.jsonl")
+PROGRAMS = ("kh_main", "scan_main")
+
+
+def built():
+    """The programs that stand, by their paths."""
+    paths = (os.path.join(TOP, "crates", it, "out", it) for it in PROGRAMS)
+    return [it for it in paths if os.access(it, os.X_OK)]
+
+
+class WithData(build_py):
+    """Builds the package with the files of the reference, and with the programs that are built, as they are now."""
+
+    def run(self):
+        # (modules that are gone are not to stay)
+        shutil.rmtree(os.path.join(self.build_lib, "kh"), ignore_errors=True)
+        super().run()
+        if getattr(self, "editable_mode", False):
+            return
+        for folder, paths in (("data", [os.path.join(TOP, "reference", it) for it in REFERENCE]), ("bin", built())):
+            there = os.path.join(self.build_lib, "kh", folder)
+            os.makedirs(there)
+            for path in paths:
+                shutil.copy2(path, there)
+
+
+class Packed(Distribution):
+    """Of a machine's own kind where it has programs."""
+
+    def has_ext_modules(self):
+        return bool(built())
+
+
+os.makedirs(os.path.join(TOP, WRITTEN), exist_ok=True)
+setup(
+    distclass=Packed,
+    cmdclass={"build_py": WithData},
+    packages=["kh", "kh.codes", "kh.reference", "kh.show", "kh.tabulate"],
+    package_dir={"": "python"},
+    package_data={"kh": ["py.typed"], "kh.show": ["*.js", "*.css"]},
+    options={"build": {"build_base": WRITTEN}, "egg_info": {"egg_base": WRITTEN}},
+)

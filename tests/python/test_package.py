@@ -1,0 +1,42 @@
+"""The package as it is checked and installed: its types, and what pip makes of it, where mypy and pip with setuptools are there."""
+import importlib.util
+import os
+import shutil
+import subprocess
+import sys
+
+import pytest
+
+TOP = os.path.dirname(os.path.dirname(os.path.dirname(os.path.abspath(__file__))))
+
+
+def test_types():
+    if not shutil.which("mypy"):
+        pytest.skip("mypy is not installed")
+    came = subprocess.run(["mypy", "--cache-dir", os.devnull], cwd=TOP, capture_output=True, text=True, timeout=600)
+    assert came.returncode == 0, came.stdout
+
+
+def installed(folder):
+    """The package as pip installs it into a folder, without the net."""
+    words = [sys.executable, "-m", "pip", "install", "--quiet", "--no-build-isolation", "--no-index", "--no-deps", "--target", folder, TOP]
+    came = subprocess.run(words, capture_output=True, text=True, timeout=600, env={**os.environ, "PYTHONPATH": ""})
+    assert came.returncode == 0, came.stderr
+    return folder
+
+
+def test_it_is_installed_with_all_that_it_needs(tmp_path):
+    missing = [it for it in ("pip", "setuptools", "wheel") if not importlib.util.find_spec(it)]
+    if missing:
+        pytest.skip(f"there is no {missing[0]}")
+    folder = installed(str(tmp_path / "installed"))
+    code = (
+        "import kh; print(kh.__file__); print(kh.__version__); print(kh.Link('K11n34').code[:3], kh.Link('8_19').said)\n"
+        "print(bool(kh.compare({'3_1': 'q + q^3 + q^5 t^2 + q^9 t^3'}, field=3, names=['3_1'])))"
+    )
+    settings = {**os.environ, "PYTHONPATH": folder}
+    came = subprocess.run([sys.executable, "-c", code], cwd=tmp_path, capture_output=True, text=True, timeout=120, env=settings)
+    assert came.returncode == 0, came.stderr
+    place, version, code, agrees = came.stdout.splitlines()
+    assert place.startswith(folder) and version and code.startswith("PD[") and "Knot Atlas" in code and agrees == "True"
+    assert os.path.exists(os.path.join(folder, "kh", "py.typed")) and os.path.exists(os.path.join(folder, "kh", "show", "page_style.css"))
