@@ -2,13 +2,15 @@
 """Rules on the list of crates and on the pages, which `tests/program` tries behind its rows.
 
     tests/rules.py           prints what breaks a rule
-    tests/rules.py --write   writes anew what follows from the sources: docs/NAMES.md, and the lengths in docs/THEOREM.md and README.md
+    tests/rules.py --write   writes anew what follows from the sources: docs/NAMES.md, docs/STATEMENT.md, and the sizes in docs/THEOREM.md
+                             and README.md
 
 No chain of crates that stand on one another is longer than seven. crates.txt has each crate behind those that it stands on, under a
 heading, and says in the line above what it is. Each crate has its row in docs/ARCHITECTURE.md, under the same heading, and the calls that
 the row names are functions of the crate; the files that its tables on changes name are there. Links of pages lead somewhere, and README.md
 quotes its sources line by line. Every name of a definition that a clause of a public function cites is in docs/DEFINITIONS.md, or else in
-docs/NAMES.md with the first sentence of the comment at its definition. The files that are trusted are as long as docs/THEOREM.md says, and
+docs/NAMES.md with the first sentence of the comment at its definition. `tests/believed.py` has the rules on the pages that say what one has
+to believe. The files that are trusted are as long as docs/THEOREM.md says, and
 as README.md says of all. CITATION.cff has the version of CHANGELOG.md. The old text of each planted bug of must-fail/ and more-edits/
 stands once in its file, and must-fail/ has two or three of them or none. Every script that a page names is run by a command of a page or by
 a test (`shared/named_scripts.py`, which lists those that are run by hand).
@@ -19,6 +21,7 @@ import re
 import sys
 import textwrap
 
+import believed
 from companions.pages import pages
 from shared import named_scripts
 from shared.places import TOP
@@ -290,6 +293,7 @@ def page_faults(crates):
     given = re.search(r"^version: (.*)$", read("CITATION.cff"), re.M)[1]
     yield "CITATION.cff has the version", f"{given} and not {version()}" if given != version() else None
     yield "each script that a page names is run by a test", ", ".join(named_scripts.untested()) or None
+    yield from believed.faults(read)
     page = read("docs", "DEFINITIONS.md") + read("docs", "NAMES.md")
     missing = [f"{name} of {crate}" for name, crate, _ in cited_names(crates) if not is_read_aloud(name, page)]
     yield "each name in a public contract is in DEFINITIONS.md or NAMES.md", ", ".join(missing) or None
@@ -307,8 +311,9 @@ def main():
     reader.add_argument("--write", action="store_true", help="write anew what follows from the sources")
     if reader.parse_args().write:
         write(written_names(stands_on()), "docs", "NAMES.md")
-        write(with_lengths(read("docs", "THEOREM.md")), "docs", "THEOREM.md")
-        write(with_length_of_edge(read("README.md")), "README.md")
+        write(believed.with_sizes(with_lengths(read("docs", "THEOREM.md"))), "docs", "THEOREM.md")
+        write(believed.with_sizes(with_length_of_edge(read("README.md"))), "README.md")
+        write(believed.statement_page(), "docs", "STATEMENT.md")
     broken = [f"{name}: {fault}" for name, fault in faults() if fault]
     print("\n".join(broken) or "no rule is broken")
     return 1 if broken else 0

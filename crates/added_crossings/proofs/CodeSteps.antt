@@ -2,7 +2,7 @@
 --
 -- An arc stands twice among all darts, so at any first crossings it has at most two ends (`few-ends`), and one crossing more adds those at
 -- that crossing (`ends_before-more`). Open, alive and near are tests of these numbers: so what is alive before is alive after or near, and
--- what is both is open (`IsStep-at`). An arc at the crossing is near it (`slot-near`), and one at a crossing behind is alive
+-- what is both is open (`IsStep-at`). An arc at the crossing is near it (`slot-near`), and one at a later crossing is alive
 -- (`later-alive`).
 use Rattle.std.proofs.Common.{◌≡◌, ℕ, zero, suc, inl, inr, ◌+◌, ◌-◌, ◌*◌, ◌<◌, ◌≤◌, ◌∙◌, List, [], ◌∷◌, ◌++◌, length, drop, sym, ap, subst, arith, Bool, true, false, cond, ◌&&◌, ◌||◌}
 use Rattle.std.specs.Prelude.{nat_eq, nat_lt, slice_index_or}
@@ -22,8 +22,9 @@ use Rattle.kh_types.proofs.Lists.{AllByRecursion-append}
 use Rattle.kh_types.proofs.DartPairs.{IsDart-at}
 use Rattle.kh_types.proofs.JoinedSlots.{arc_at-slot}
 use Rattle.dotted_surfaces.specs.Points.{AreAmong}
+use Rattle.tangle_surfaces.specs.CutCodes.{outer_smoothings}
 use Rattle.added_crossings.specs.Steps.{is_near, near}
-use Rattle.added_crossings.specs.Codes.{ends_among, ends_before, ends_at, is_open, is_alive, points_at, step_at, smoothing_at, outer_smoothings}
+use Rattle.added_crossings.specs.Codes.{ends_among, ends_before, ends_at, is_open, is_alive, points_at, step_at, smoothing_at}
 use Rattle.added_crossings.proofs.Members.{are-those, All-contained}
 use Rattle.added_crossings.proofs.CutJoins.{IsStep}
 
@@ -167,7 +168,7 @@ smoothing-among code k smoothing twice below =
     all_of_slots (λ x. Contains (near (step_at code k)) x) smoothing (slice_index_or code.crossings k [])
     (λ slot slot_below. slot-near code k slot twice below slot_below)
 
--- the arcs at crossings behind
+-- the arcs at later crossings
 later-few : (code : Code) (k later slot : ℕ) → HasArcsTwice code.crossings → k ≤ later → later < length code.crossings → slot < 4
     → ends_before code.crossings k (arc_in (slice_index_or code.crossings later []) slot) < 2
 later-few code k later slot twice behind below slot_below =
@@ -206,7 +207,7 @@ smoothings-all P state at (slots ∷ xs) all =
     (smoothings-all P state (at + 1) xs all.1)
 
 pub outer-among : (code : Code) (state k : ℕ) → HasArcsTwice code.crossings
-    → AreAmong (points_at code k).alive (outer_smoothings code state k)
+    → AreAmong (points_at code k).alive (outer_smoothings code.crossings state k)
 outer-among code state k twice =
     let P : ℕ → Type 0 = λ x. Contains (points_at code k).alive x in
     smoothings-all P state k (drop k code.crossings)
@@ -221,7 +222,7 @@ outer-among code state k twice =
 
 -- and what they join, the next crossing first
 pub outer-split : (code : Code) (state k : ℕ) → k < length code.crossings
-    → outer_smoothings code state k ≡ smoothing_at code k (bit state k) ++ outer_smoothings code state (k + 1)
+    → outer_smoothings code.crossings state k ≡ smoothing_at code k (bit state k) ++ outer_smoothings code.crossings state (k + 1)
 outer-split code state k below =
     ap (λ (xs : List (List ℕ)). flat_map (λ at. smoothing_of (bit state at.0) at.1) (enumerate_from k xs))
     (drop_more code.crossings k [] below)

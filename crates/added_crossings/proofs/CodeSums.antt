@@ -1,6 +1,6 @@
 -- A crossing and a saddle of a code as surfaces laid over one another.
 --
--- Old pairing and smoothing join arcs near the crossing, and a state joins what is alive behind it: a cut, on either side (`IsCut-at`).
+-- Old pairing and smoothing join arcs near the crossing, and a state joins what is alive after it: a cut, on either side (`IsCut-at`).
 -- With one smoothing for two pairings the surface between the pairings is laid so (`IsLaid-both`), and with both smoothings for one pairing
 -- the saddle (`IsLaid-saddle`). The sums over the dots are two instances of one lemma (`sum-added`).
 use Rattle.std.proofs.Common.{◌≡◌, ℕ, ◌+◌, ◌<◌, ◌∙◌, List, [], ◌++◌, length, map, sym, ap, ap₂, subst, arith, append_assoc}
@@ -12,17 +12,18 @@ use Rattle.kh_types.specs.Classes.{classes_of, is_least, Respects}
 use Rattle.kh_types.specs.Darts.{HasArcsTwice}
 use Rattle.kh_types.proofs.Lists.{AllByRecursion-weaker}
 use Rattle.kh_types.proofs.ClassLemmas.{Respects-append, Respects-first, Respects-second}
-use Rattle.dotted_surfaces.specs.Surfaces.{Surface, IsClosed, value}
+use Rattle.dotted_surfaces.specs.Surfaces.{Surface, value}
 use Rattle.dotted_surfaces.proofs.TwoSides.{AllByRecursion-map}
 use Rattle.dotted_surfaces.specs.Points.{AreAmong, least_points, discs}
+use Rattle.tangle_surfaces.specs.CutCodes.{outer_smoothings}
 use Rattle.added_crossings.specs.Pairings.{marked_by}
 use Rattle.added_crossings.specs.Steps.{is_near, near}
-use Rattle.added_crossings.specs.Codes.{is_open, points_at, step_at, smoothing_at, outer_smoothings, pairing_behind, sheet_at, outside_at, added_at, disc_of, saddle_strips, saddle_sheet, saddle_added, AreLabelled, IsLabelled, discs_behind, AreClosed, sum_over_dots}
+use Rattle.added_crossings.specs.Codes.{is_open, points_at, step_at, smoothing_at, pairing_behind, sheet_at, outside_at, added_at, disc_of, saddle_strips, saddle_sheet, saddle_added, AreLabelled, IsLabelled, discs_behind, AreClosed, sum_over_dots}
 use Rattle.added_crossings.proofs.Members.{filter-kept, those-are, are-those, All-contained}
 use Rattle.added_crossings.proofs.Classes.{AreAmong-wider, AreAmong-append}
 use Rattle.added_crossings.proofs.CutJoins.{IsCut, near-has, next-has}
 use Rattle.added_crossings.proofs.Overlay.{IsLaid, LiesNear, all_of, marked-among}
-use Rattle.added_crossings.proofs.Whole.{sum-added, IsClosed-added}
+use Rattle.added_crossings.proofs.Whole.{sum-added}
 use Rattle.added_crossings.proofs.CodeSteps.{IsStep-at, slot-near, smoothing-among, outer-among, outer-split}
 use Rattle.added_crossings.proofs.NewPairing.{IsNewPairing-made}
 
@@ -42,7 +43,7 @@ joins-near code k smoothing m twice below among =
 pub IsCut-at : (code : Code) (k smoothing state : ℕ) (m : List (ℕ × ℕ)) → HasArcsTwice code.crossings → k < length code.crossings
     → AreAmong (points_at code k).opened m
     → IsCut (step_at code k) (m ++ smoothing_at code k smoothing) (pairing_behind code k smoothing m)
-    (outer_smoothings code state (k + 1))
+    (outer_smoothings code.crossings state (k + 1))
 IsCut-at code k smoothing state m twice below among =
     let step_is = IsStep-at code k twice below in
     let inside = joins-near code k smoothing m twice below among in
@@ -72,9 +73,9 @@ wider code k joins twice below =
     (λ x has. near-has (step_at code k) x (IsStep-at code k twice below) has)
 
 outer-wider : (code : Code) (state k : ℕ) → HasArcsTwice code.crossings → k < length code.crossings
-    → AreAmong (points_at code k).alive (outer_smoothings code state (k + 1))
+    → AreAmong (points_at code k).alive (outer_smoothings code.crossings state (k + 1))
 outer-wider code state k twice below =
-    AreAmong-wider (points_at code (k + 1)).alive (points_at code k).alive (outer_smoothings code state (k + 1))
+    AreAmong-wider (points_at code (k + 1)).alive (points_at code k).alive (outer_smoothings code.crossings state (k + 1))
     (λ x has. next-has (step_at code k) x (IsStep-at code k twice below) has) (outer-among code state (k + 1) twice)
 
 -- one smoothing for both pairings
@@ -101,11 +102,11 @@ both-back f m n s w respects =
 IsLaid-both : (code : Code) (k state smoothing : ℕ) (m n : List (ℕ × ℕ)) → HasArcsTwice code.crossings
     → k < length code.crossings → AreAmong (points_at code k).opened m → AreAmong (points_at code k).opened n
     → IsLaid (step_at code k) (m ++ smoothing_at code k smoothing) (n ++ smoothing_at code k smoothing)
-    (pairing_behind code k smoothing m) (pairing_behind code k smoothing n) (outer_smoothings code state (k + 1))
-    (m ++ (n ++ (smoothing_at code k smoothing ++ outer_smoothings code state (k + 1))))
+    (pairing_behind code k smoothing m) (pairing_behind code k smoothing n) (outer_smoothings code.crossings state (k + 1))
+    (m ++ (n ++ (smoothing_at code k smoothing ++ outer_smoothings code.crossings state (k + 1))))
 IsLaid-both code k state smoothing m n twice below first second =
     let s = smoothing_at code k smoothing in
-    let w = outer_smoothings code state (k + 1) in
+    let w = outer_smoothings code.crossings state (k + 1) in
     let alive = (points_at code k).alive in
     let m_alive = wider code k m twice below
     (AreAmong-wider (points_at code k).opened (near (step_at code k)) m (opened-near code k) first) in
@@ -137,24 +138,24 @@ by_joins code k m n dots label other_label w first second = record {
 }
 
 same-sheet : (code : Code) (k state : ℕ) (m n : List (ℕ × ℕ)) (dots label other_label : ℕ → ℕ) → k < length code.crossings
-    → all_of (step_at code k) (m ++ (n ++ (smoothing_at code k (bit state k) ++ outer_smoothings code state (k + 1))))
-    (m ++ smoothing_at code k (bit state k)) (n ++ smoothing_at code k (bit state k)) (outer_smoothings code state (k + 1))
+    → all_of (step_at code k) (m ++ (n ++ (smoothing_at code k (bit state k) ++ outer_smoothings code.crossings state (k + 1))))
+    (m ++ smoothing_at code k (bit state k)) (n ++ smoothing_at code k (bit state k)) (outer_smoothings code.crossings state (k + 1))
     (marked_by dots (discs (points_at code k) m n)) (points_at code k).opened label other_label
     ≡ sheet_at code k state m n dots label other_label
 same-sheet code k state m n dots label other_label below =
     let s = smoothing_at code k (bit state k) in
-    let w = outer_smoothings code state (k + 1) in
+    let w = outer_smoothings code.crossings state (k + 1) in
     ap₂ (λ (first second : List (ℕ × ℕ)). by_joins code k m n dots label other_label (s ++ w) first second) (append_assoc m s w)
     (append_assoc n s w)
     ∙ ap (λ (all : List (ℕ × ℕ)). by_joins code k m n dots label other_label all (m ++ all) (n ++ all))
     (sym (outer-split code state k below))
 
 label-split : (code : Code) (k state : ℕ) (m : List (ℕ × ℕ)) (label : ℕ → ℕ) → k < length code.crossings
-    → Respects label (m ++ outer_smoothings code state k)
-    → Respects label ((m ++ smoothing_at code k (bit state k)) ++ outer_smoothings code state (k + 1))
+    → Respects label (m ++ outer_smoothings code.crossings state k)
+    → Respects label ((m ++ smoothing_at code k (bit state k)) ++ outer_smoothings code.crossings state (k + 1))
 label-split code k state m label below respects =
     let s = smoothing_at code k (bit state k) in
-    let w = outer_smoothings code state (k + 1) in
+    let w = outer_smoothings code.crossings state (k + 1) in
     subst (λ (pairs : List (ℕ × ℕ)). Respects label pairs) (sym (append_assoc m s w))
     (subst (λ (pairs : List (ℕ × ℕ)). Respects label (m ++ pairs)) (outer-split code state k below) respects)
 
@@ -174,7 +175,7 @@ pub sum-crossing : (code : Code) (k state : ℕ) (m n : List (ℕ × ℕ)) (dots
 sum-crossing code k state m n dots label other_label labelled closed =
     let e = bit state k in
     let s = smoothing_at code k e in
-    let w = outer_smoothings code state (k + 1) in
+    let w = outer_smoothings code.crossings state (k + 1) in
     sum-added (step_at code k) (m ++ s) (n ++ s) (pairing_behind code k e m) (pairing_behind code k e n) w (m ++ (n ++ (s ++ w)))
     (marked_by dots (discs (points_at code k) m n)) (points_at code k).opened label other_label
     (IsLaid-both code k state e m n labelled.twice labelled.crossing labelled.first labelled.second) (lies-near code k m n dots)
@@ -184,26 +185,6 @@ sum-crossing code k state m n dots label other_label labelled closed =
     }
     record { far = closed.first_closed; close = closed.second_closed }
     ∙ ap value (same-sheet code k state m n dots label other_label labelled.crossing)
-
-pub IsClosed-crossing : (code : Code) (k state : ℕ) (m n : List (ℕ × ℕ)) (dots label other_label : ℕ → ℕ)
-    → AreLabelled code k state m n label other_label
-    → AreClosed
-    (outside_at code k state (pairing_behind code k (bit state k) m) (pairing_behind code k (bit state k) n) label other_label)
-    (added_at code k (bit state k) m n dots label other_label) (discs_behind code k (bit state k) (bit state k) m n)
-    → IsClosed (sheet_at code k state m n dots label other_label)
-IsClosed-crossing code k state m n dots label other_label labelled closed =
-    let e = bit state k in
-    let s = smoothing_at code k e in
-    let w = outer_smoothings code state (k + 1) in
-    subst IsClosed (same-sheet code k state m n dots label other_label labelled.crossing)
-    (IsClosed-added (step_at code k) (m ++ s) (n ++ s) (pairing_behind code k e m) (pairing_behind code k e n) w (m ++ (n ++ (s ++ w)))
-    (marked_by dots (discs (points_at code k) m n)) (points_at code k).opened label other_label
-    (IsLaid-both code k state e m n labelled.twice labelled.crossing labelled.first labelled.second) (lies-near code k m n dots)
-    record {
-      first = label-split code k state m label labelled.crossing labelled.first_label;
-      second = label-split code k state n other_label labelled.crossing labelled.second_label;
-    }
-    record { far = closed.first_closed; close = closed.second_closed })
 
 -- both smoothings for one pairing
 
@@ -228,12 +209,12 @@ saddle-back f m s t w respects =
 pub IsLaid-saddle : (code : Code) (k state : ℕ) (m : List (ℕ × ℕ)) → HasArcsTwice code.crossings
     → k < length code.crossings → AreAmong (points_at code k).opened m
     → IsLaid (step_at code k) (m ++ smoothing_at code k 0) (m ++ smoothing_at code k 1)
-    (pairing_behind code k 0 m) (pairing_behind code k 1 m) (outer_smoothings code state (k + 1))
-    (m ++ (smoothing_at code k 0 ++ (smoothing_at code k 1 ++ outer_smoothings code state (k + 1))))
+    (pairing_behind code k 0 m) (pairing_behind code k 1 m) (outer_smoothings code.crossings state (k + 1))
+    (m ++ (smoothing_at code k 0 ++ (smoothing_at code k 1 ++ outer_smoothings code.crossings state (k + 1))))
 IsLaid-saddle code k state m twice below among =
     let s = smoothing_at code k 0 in
     let t = smoothing_at code k 1 in
-    let w = outer_smoothings code state (k + 1) in
+    let w = outer_smoothings code.crossings state (k + 1) in
     let alive = (points_at code k).alive in
     let m_alive = wider code k m twice below
     (AreAmong-wider (points_at code k).opened (near (step_at code k)) m (opened-near code k) among) in
@@ -271,24 +252,8 @@ pub sum-saddle : (code : Code) (k state : ℕ) (m : List (ℕ × ℕ)) (label ot
 sum-saddle code k state m label other_label labelled closed =
     let s = smoothing_at code k 0 in
     let t = smoothing_at code k 1 in
-    let w = outer_smoothings code state (k + 1) in
+    let w = outer_smoothings code.crossings state (k + 1) in
     sum-added (step_at code k) (m ++ s) (m ++ t) (pairing_behind code k 0 m) (pairing_behind code k 1 m) w (m ++ (s ++ (t ++ w)))
-    (map disc_of m) (saddle_strips code k) label other_label
-    (IsLaid-saddle code k state m labelled.twice labelled.crossing labelled.pairing)
-    (saddle-near code k m labelled.twice labelled.crossing labelled.pairing)
-    record { first = labelled.first_label; second = labelled.second_label }
-    record { far = closed.first_closed; close = closed.second_closed }
-
-pub IsClosed-saddle : (code : Code) (k state : ℕ) (m : List (ℕ × ℕ)) (label other_label : ℕ → ℕ)
-    → IsLabelled code k state m label other_label
-    → AreClosed (outside_at code k state (pairing_behind code k 0 m) (pairing_behind code k 1 m) label other_label)
-    (saddle_added code k m label other_label) (discs_behind code k 0 1 m m)
-    → IsClosed (saddle_sheet code k state m label other_label)
-IsClosed-saddle code k state m label other_label labelled closed =
-    let s = smoothing_at code k 0 in
-    let t = smoothing_at code k 1 in
-    let w = outer_smoothings code state (k + 1) in
-    IsClosed-added (step_at code k) (m ++ s) (m ++ t) (pairing_behind code k 0 m) (pairing_behind code k 1 m) w (m ++ (s ++ (t ++ w)))
     (map disc_of m) (saddle_strips code k) label other_label
     (IsLaid-saddle code k state m labelled.twice labelled.crossing labelled.pairing)
     (saddle-near code k m labelled.twice labelled.crossing labelled.pairing)

@@ -1,8 +1,8 @@
--- Entries behind a crossing, by numbers.
+-- Entries after a crossing, by numbers.
 --
 -- The bits of a number are a function of arcs that has one value on each circle, so an entry is the number of `sheet_at`, and its sum over
 -- dots is there (`sum-crossing`). In that sum the labels are turned back into numbers: those of the closed circles and those of the circles
--- behind; and the sets of dots are the numbers below a power of two (`sum-by_dots`). The saddle's sum is turned likewise.
+-- after it; and the sets of dots are the numbers below a power of two (`sum-by_dots`). The saddle's sum is turned likewise.
 use Rattle.std.proofs.Common.{◌≡◌, ℕ, ◌+◌, ◌-◌, ◌*◌, ◌^◌, ◌<◌, ◌∙◌, List, [], ◌∷◌, ◌++◌, map, length, sym, ap, ap₂, subst, append_assoc}
 use Rattle.kh_types.specs.Bits.{bit}
 use Rattle.kh_types.specs.Classes.{Respects}
@@ -12,10 +12,11 @@ use Rattle.kh_types.proofs.Sums.{sum_below-equal}
 use Rattle.dotted_surfaces.specs.Surfaces.{Surface, IsClosed, value}
 use Rattle.dotted_surfaces.specs.Cuts.{with_faces}
 use Rattle.dotted_surfaces.specs.Points.{discs, circles}
+use Rattle.tangle_surfaces.specs.CutCodes.{outer_smoothings}
 use Rattle.added_crossings.specs.Pairings.{marked_by}
 use Rattle.dotted_surfaces.specs.Sheets.{sheet, marked, marked_else}
 use Rattle.added_crossings.specs.Steps.{near}
-use Rattle.added_crossings.specs.Codes.{is_open, is_alive, points_at, step_at, smoothing_at, outer_smoothings, pairing_behind, circles_behind, closed_at, discs_behind, sheet_at, outside_at, added_at, saddle_added, disc_of, saddle_strips, AreLabelled, IsLabelled}
+use Rattle.added_crossings.specs.Codes.{is_open, is_alive, points_at, step_at, smoothing_at, pairing_behind, circles_behind, closed_at, discs_behind, sheet_at, outside_at, added_at, saddle_added, disc_of, saddle_strips, AreLabelled, IsLabelled}
 use Rattle.added_crossings.specs.Saddles.{edge_at, MergesOrSplitsAt, IsPairedAt, opposite}
 use Rattle.added_crossings.specs.Labels.{label_at, number_of}
 use Rattle.added_crossings.specs.Entries.{entry_sheet, entry_at, coefficient_sheet, added_surface, saddle_surface, label_before, closed_label, label_behind, ArePairedAt, AreEntriesClosed}
@@ -29,7 +30,7 @@ use Rattle.added_crossings.proofs.NumberedLabels.{marked_else-number_of, sum-by_
 -- a surface by its faces
 abbrev far_of : Code → ℕ → ℕ → List (ℕ × ℕ) → List (ℕ × ℕ) → List (ℕ × ℕ) → List (ℕ × ℕ) → List (ℕ × ℕ) → Surface
 far_of code k state m n dots first second =
-    sheet (points_at code k) m n (outer_smoothings code state k) (dots ++ (first ++ second))
+    sheet (points_at code k) m n (outer_smoothings code.crossings state k) (dots ++ (first ++ second))
 
 abbrev close_of : Code → ℕ → ℕ → ℕ → List (ℕ × ℕ) → List (ℕ × ℕ) → List (ℕ × ℕ) → List ℕ → List (ℕ × ℕ) → List (ℕ × ℕ) → List (ℕ × ℕ)
     → Surface
@@ -46,11 +47,11 @@ close_of code k first second m n faces lowers dots closed other_closed = record 
 same-entry : (code : Code) (k state : ℕ) (m n : List (ℕ × ℕ)) (dots label other : ℕ)
     → entry_sheet code k state m n dots label other
     ≡ sheet_at code k state m n (label_at (points_at code k).size (points_at code k).opened (m ++ n) dots)
-    (label_at (points_at code k).size (points_at code k).alive (m ++ outer_smoothings code state k) label)
-    (opposite (label_at (points_at code k).size (points_at code k).alive (n ++ outer_smoothings code state k) other))
+    (label_at (points_at code k).size (points_at code k).alive (m ++ outer_smoothings code.crossings state k) label)
+    (opposite (label_at (points_at code k).size (points_at code k).alive (n ++ outer_smoothings code.crossings state k) other))
 same-entry code k state m n dots label other =
     let count = count_of code in
-    let w = outer_smoothings code state k in
+    let w = outer_smoothings code.crossings state k in
     let points = points_at code k in
     ap (λ (faces : List (ℕ × ℕ)). far_of code k state m n faces (marked label (circles points m w))
     (marked_else other (circles points n w)))
@@ -85,18 +86,18 @@ same-close code k first second m n faces lowers f g kept f_bits g_bits =
     (sym (marked-number_of f (closed_at code k first m) f_bits)) (sym (marked_else-number_of g (closed_at code k second n) g_bits))
 
 split-joins : (code : Code) (k state : ℕ) (m : List (ℕ × ℕ)) → k < length code.crossings
-    → m ++ outer_smoothings code state k ≡ (m ++ smoothing_at code k (bit state k)) ++ outer_smoothings code state (k + 1)
+    → m ++ outer_smoothings code.crossings state k ≡ (m ++ smoothing_at code k (bit state k)) ++ outer_smoothings code.crossings state (k + 1)
 split-joins code k state m below =
     ap (λ (pairs : List (ℕ × ℕ)). m ++ pairs) (outer-split code state k below)
-    ∙ sym (append_assoc m (smoothing_at code k (bit state k)) (outer_smoothings code state (k + 1)))
+    ∙ sym (append_assoc m (smoothing_at code k (bit state k)) (outer_smoothings code.crossings state (k + 1)))
 
 label-respects : (code : Code) (k state smoothing number : ℕ) (m n : List (ℕ × ℕ)) → ArePairedAt code k m n
     → Respects (label_before code k smoothing state m number)
-    ((m ++ smoothing_at code k smoothing) ++ outer_smoothings code state (k + 1))
+    ((m ++ smoothing_at code k smoothing) ++ outer_smoothings code.crossings state (k + 1))
 label-respects code k state smoothing number m n at =
-    Respects-label (count_of code) (is_alive code k) ((m ++ smoothing_at code k smoothing) ++ outer_smoothings code state (k + 1)) number
+    Respects-label (count_of code) (is_alive code k) ((m ++ smoothing_at code k smoothing) ++ outer_smoothings code.crossings state (k + 1)) number
     (whole-among (step_at code k) (m ++ smoothing_at code k smoothing) (pairing_behind code k smoothing m)
-    (outer_smoothings code state (k + 1)) (IsCut-at code k smoothing state m at.twice at.crossing at.first))
+    (outer_smoothings code.crossings state (k + 1)) (IsCut-at code k smoothing state m at.twice at.crossing at.first))
 
 turned-pair : (code : Code) (k : ℕ) (m n : List (ℕ × ℕ)) → ArePairedAt code k m n → ArePairedAt code k n m
 turned-pair code k m n at = record { twice = at.twice; crossing = at.crossing; first = at.second; second = at.first }
@@ -124,8 +125,8 @@ entries-add_up code k state m n dots label other at closed =
     let f : ℕ → ℕ = label_before code k e state m label in
     let g : ℕ → ℕ = label_before code k e state n other in
     let d : ℕ → ℕ = label_at points.size points.opened (m ++ n) dots in
-    let f_old : ℕ → ℕ = label_at points.size points.alive (m ++ outer_smoothings code state k) label in
-    let g_old : ℕ → ℕ = label_at points.size points.alive (n ++ outer_smoothings code state k) other in
+    let f_old : ℕ → ℕ = label_at points.size points.alive (m ++ outer_smoothings code.crossings state k) label in
+    let g_old : ℕ → ℕ = label_at points.size points.alive (n ++ outer_smoothings code.crossings state k) other in
     let f_same : f_old ≡ f = ap (λ (js : List (ℕ × ℕ)). label_at points.size points.alive js label)
     (split-joins code k state m at.crossing) in
     let g_same : g_old ≡ g = ap (λ (js : List (ℕ × ℕ)). label_at points.size points.alive js other)
@@ -151,7 +152,7 @@ entries-add_up code k state m n dots label other at closed =
       first_label = subst (λ (js : List (ℕ × ℕ)). Respects f js) (sym (split-joins code k state m at.crossing))
           (label-respects code k state e label m n at);
       second_label = subst (λ (js : List (ℕ × ℕ)). Respects (opposite g) js) (sym (split-joins code k state n at.crossing))
-          (opposite-respects g ((n ++ smoothing_at code k e) ++ outer_smoothings code state (k + 1))
+          (opposite-respects g ((n ++ smoothing_at code k e) ++ outer_smoothings code.crossings state (k + 1))
           (label-respects code k state e other n m (turned-pair code k m n at)));
     } in
     ap value (same-entry code k state m n dots label other)
@@ -206,7 +207,7 @@ saddle-adds_up code k state m label other at edge closed =
       crossing = at.crossing;
       pairing = at.paired.among;
       first_label = label-respects code k state 0 label m m paired;
-      second_label = opposite-respects g ((m ++ smoothing_at code k 1) ++ outer_smoothings code state (k + 1))
+      second_label = opposite-respects g ((m ++ smoothing_at code k 1) ++ outer_smoothings code.crossings state (k + 1))
           (label-respects code k state 1 other m m paired);
     } in
     sym (value-saddle code k state m f g at record { first_bit = f_bits; second_bit = g_bits } edge)

@@ -2,26 +2,24 @@
 --
 -- The new circles and the old ones are matched one to one by the class of all joins, and back by `led`. So sums of what has one value on
 -- each circle are the same over both (`sum-circles`), and with ones there are as many (`count-circles`).
-use Rattle.std.proofs.Common.{◌≡◌, ◌↔◌, ℕ, inl, inr, ◌⊎◌, ◌+◌, ◌<◌, ◌≤◌, ◌∙◌, List, [], ◌∷◌, ◌++◌, length, refl, sym, ap, ap₂, arith, Bool, true, false, not, cond, ◌&&◌, ◌||◌}
+use Rattle.std.proofs.Common.{◌≡◌, ◌↔◌, ℕ, ◌+◌, ◌<◌, ◌≤◌, ◌∙◌, List, [], ◌∷◌, ◌++◌, length, refl, sym, ap, ap₂, arith, Bool, true, false, not, cond, ◌&&◌, ◌||◌}
 use Rattle.std.specs.Prelude.{nat_eq}
 use Rattle.std.specs.List.{filter, sum_by, range_with_len, Contains}
 use Rattle.std.proofs.lemmas.Bool.{and_parts, both_ways, eq-eqb, eqb-true}
-use Rattle.std.proofs.lemmas.List.Elements.{Contains-append_cases, Contains-append_left, Contains-append_right}
 use Rattle.std.proofs.lemmas.List.Sums.{sum_by-cons}
-use Rattle.kh_types.proofs.Lists.{Contains-filter}
 use Rattle.kh_types.specs.Classes.{classes_of, is_least, Respects}
 use Rattle.kh_types.proofs.ClassLemmas.{classes-finest}
 use Rattle.kh_types.proofs.ListSums.{sum_by-filter, sum_by-plus, sum_by-range_alike}
 use Rattle.dotted_surfaces.proofs.Components.{list_any-contained}
-use Rattle.dotted_surfaces.specs.Points.{least_points, circles}
+use Rattle.dotted_surfaces.specs.Points.{circles}
 use Rattle.added_crossings.specs.Steps.{Step, before, after, is_near, near, closed_circles}
 use Rattle.added_crossings.proofs.Matched.{IsMatched, sum-matched}
-use Rattle.added_crossings.proofs.Members.{IsOneOf, filter-kept, those-are, are-those}
+use Rattle.added_crossings.proofs.Members.{IsOneOf, those-are, are-those}
 use Rattle.added_crossings.proofs.Classes.{class-below, class-own, class-is}
 pub use Rattle.added_crossings.proofs.CutJoins.{IsCut, near-has, next-has, outside-among, whole-among, whole-joins}
-use Rattle.added_crossings.proofs.CutJoins.{IsCut, near_class, outer_class, whole_class, both-open, in-those, near-has, next-has, outside-among, whole-among, whole-joins, IsStep}
+use Rattle.added_crossings.proofs.CutJoins.{IsCut, near_class, outer_class, whole_class, both-open, near-has, next-has, outside-among, whole-among, whole-joins, IsStep}
 use Rattle.added_crossings.proofs.CarriedClasses.{retracted-outside, retracted-same, outside-same, whole-respects}
-use Rattle.added_crossings.proofs.LedCircles.{none_in, is_new, is_old, Stays, Closes, new-cases, new-apart, led, led-leads, new-alive}
+use Rattle.added_crossings.proofs.LedCircles.{none_in, is_new, is_old, new-cases, new-apart, led, led-leads, new-alive}
 
 record IsOld (step : Step) (joins outer : List (ℕ × ℕ)) (z : ℕ) : Type 0 where
   alive : step.alive z ≡ true
@@ -148,52 +146,6 @@ count-circles step joins pairs outer cut =
     all-one [] = tt
     all-one (pair ∷ pairs) = (refl, all-one pairs)
 
-circle-new : (step : Step) (joins pairs outer : List (ℕ × ℕ)) (x : ℕ)
-    → Contains (circles (after step) pairs outer ++ closed_circles step joins) x
-    → Stays step pairs outer x ⊎ Closes step joins x
-circle-new step joins pairs outer x has =
-    let n = step.count + 1 in
-    elim (Contains-append_cases (circles (after step) pairs outer) (closed_circles step joins) x has) [
-      | inl stay ↦
-          let kept = filter-kept (is_least (classes_of n (pairs ++ outer))) (after step).alive x stay in
-          inl record {
-            is = those-are step.count step.alive_next x kept.has;
-            own = eqb-true (outer_class step pairs outer x) x kept.passes;
-          }
-      | inr close ↦
-          let kept = filter-kept (none_in step joins) (least_points n (near step) joins) x close in
-          let least = filter-kept (is_least (classes_of n joins)) (near step) x kept.has in
-          inr record {
-            is = those-are step.count (is_near step) x least.has;
-            own = eqb-true (near_class step joins x) x least.passes;
-            none = kept.passes;
-          }
-    ]
-
-pub on-circle : (step : Step) (joins pairs outer : List (ℕ × ℕ)) (x : ℕ) → IsCut step joins pairs outer
-    → Contains (circles (after step) pairs outer ++ closed_circles step joins) x
-    → Contains (circles (before step) joins outer) (whole_class step joins outer x)
-on-circle step joins pairs outer x cut has =
-    let n = step.count + 1 in
-    let alive = new-alive step joins pairs outer x cut.step_is (circle-new step joins pairs outer x has) in
-    let is = class-is step.count step.alive (joins ++ outer) x (whole-among step joins pairs outer cut) alive in
-    Contains-filter (is_least (classes_of n (joins ++ outer))) (before step).alive (whole_class step joins outer x)
-    (eq-eqb (whole_class step joins outer (whole_class step joins outer x)) (whole_class step joins outer x)
-    (class-own n (joins ++ outer) x (whole-joins step joins pairs outer cut) (omega (arith, alive.below))))
-    (in-those step.count step.alive (whole_class step joins outer x) is)
-
-pub circles-apart : (step : Step) (joins pairs outer : List (ℕ × ℕ)) (x y : ℕ) → IsCut step joins pairs outer
-    → Contains (circles (after step) pairs outer ++ closed_circles step joins) x
-    → Contains (circles (after step) pairs outer ++ closed_circles step joins) y
-    → whole_class step joins outer x ≡ whole_class step joins outer y → x ≡ y
-circles-apart step joins pairs outer x y cut has y_has same =
-    let x_new = circle-new step joins pairs outer x has in
-    let y_new = circle-new step joins pairs outer y y_has in
-    let x_alive = new-alive step joins pairs outer x cut.step_is x_new in
-    let y_alive = new-alive step joins pairs outer y cut.step_is y_new in
-    new-apart step joins pairs outer x y cut x_new y_new
-    (retracted-same step joins pairs outer x y cut (omega (arith, x_alive.below)) (omega (arith, y_alive.below)) same)
-
 pub together-outside : (step : Step) (joins pairs outer : List (ℕ × ℕ)) (x y : ℕ) → IsCut step joins pairs outer
     → Contains (after step).alive x → Contains (after step).alive y
     → (outer_class step pairs outer x ≡ outer_class step pairs outer y) ↔ (whole_class step joins outer x ≡ whole_class step joins outer y)
@@ -207,27 +159,3 @@ together-outside step joins pairs outer x y cut has y_has =
           sym (retracted-outside step joins pairs outer x cut has) ∙ retracted-same step joins pairs outer x y cut x_below y_below same
           ∙ retracted-outside step joins pairs outer y cut y_has,
     )
-
--- each circle is met
-new-circle : (step : Step) (joins pairs outer : List (ℕ × ℕ)) (x : ℕ) → Stays step pairs outer x ⊎ Closes step joins x
-    → Contains (circles (after step) pairs outer ++ closed_circles step joins) x
-new-circle step joins pairs outer x (inl stay) =
-    Contains-append_left (circles (after step) pairs outer) (closed_circles step joins) x
-    (Contains-filter (is_least (classes_of (step.count + 1) (pairs ++ outer))) (after step).alive x
-    (eq-eqb (outer_class step pairs outer x) x stay.own) (in-those step.count step.alive_next x stay.is))
-new-circle step joins pairs outer x (inr close) =
-    Contains-append_right (circles (after step) pairs outer) (closed_circles step joins) x
-    (Contains-filter (none_in step joins) (least_points (step.count + 1) (near step) joins) x close.none
-    (Contains-filter (is_least (classes_of (step.count + 1) joins)) (near step) x (eq-eqb (near_class step joins x) x close.own)
-    (in-those step.count (is_near step) x close.is)))
-
-pub circle-met : (step : Step) (joins pairs outer : List (ℕ × ℕ)) (z : ℕ) → IsCut step joins pairs outer
-    → Contains (circles (before step) joins outer) z
-    → (x : ℕ) × Contains (circles (after step) pairs outer ++ closed_circles step joins) x
-    × (whole_class step joins outer x ≡ whole_class step joins outer z)
-circle-met step joins pairs outer z cut has =
-    let kept = filter-kept (is_least (classes_of (step.count + 1) (joins ++ outer))) (before step).alive z has in
-    let is = those-are step.count step.alive z kept.has in
-    let leads = led-leads step joins pairs outer z cut is.above is.below is.passes in
-    let x = led step joins pairs outer z in
-    (x, new-circle step joins pairs outer x (new-cases step joins pairs outer x leads.above leads.below leads.new), leads.back)

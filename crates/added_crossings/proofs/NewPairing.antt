@@ -1,4 +1,4 @@
--- The pairing behind a crossing joins the open arcs of each class, and nothing else.
+-- The pairing after a crossing joins the open arcs of each class, and nothing else.
 use Rattle.std.proofs.Common.{◌≡◌, ℕ, inl, inr, ◌⊎◌, ◌+◌, ◌<◌, List, [], ◌∷◌, refl, sym, ap, ap₂, arith, ◌&&◌}
 use Rattle.std.specs.Prelude.{nat_eq, nat_lt, slice_index}
 use Rattle.std.specs.List.{filter, flat_map, AllByRecursion, Contains}

@@ -2,7 +2,7 @@
 --
 -- The new pairs at an open arc are as many as the other open arcs of its class. Near the crossing an arc that is open after it is an end of
 -- one of the joins, and any other arc of two (`HaveDegrees-at`). So, by the ends that are free (`Slack`), a class with one open arc has
--- two, and each open arc is an end of exactly one new pair (`IsPaired-behind`).
+-- two, and each open arc is an end of exactly one new pair (`IsPairingOf-behind`).
 use Rattle.std.proofs.Common.{◌≡◌, ◌≢◌, ℕ, suc, inl, inr, ◌+◌, ◌-◌, ◌*◌, ◌<◌, ◌≤◌, ◌∙◌, List, [], ◌∷◌, ◌++◌, length, refl, sym, ap, ap₂, subst, arith, Bool, true, false, cond, ◌&&◌, ◌||◌}
 use Rattle.std.specs.Prelude.{nat_eq, nat_lt, slice_index, slice_index_or}
 use Rattle.std.specs.List.{filter, sum_by, range_with_len, Contains}
@@ -19,7 +19,7 @@ use Rattle.kh_types.proofs.JoinedClasses.{IsNamed-classes_of}
 use Rattle.kh_types.proofs.JoinedSlots.{arc_at-slot}
 use Rattle.kh_types.proofs.ListSums.{sum_by-map, sum_by-filter, sum_by-flat_map, sum_by-plus, sum_by-single, sum_by-zeros, sum_by-alike, sum_by-turned, sum_by-range_alike}
 use Rattle.dotted_surfaces.specs.Points.{AreAmong}
-use Rattle.added_crossings.specs.Pairings.{ends_in, end_count, IsPaired}
+use Rattle.added_crossings.specs.Pairings.{ends_in, end_count, IsPairingOf}
 use Rattle.added_crossings.specs.Steps.{Step, those, after, is_near, near, is_mate, pair_with, pairs_at, pairs_among, new_pairing}
 use Rattle.added_crossings.specs.Codes.{ends_before, ends_at, is_open, points_at, step_at, smoothing_at, pairing_behind}
 use Rattle.added_crossings.proofs.Members.{IsOneOf, those-are, are-those}
@@ -240,7 +240,7 @@ free-test : (m e d next : ℕ) → next ≡ e + d → next ≤ 2 → m ≡ cond 
     → 2 - (m + d) ≡ cond (nat_eq next 1) 1 0
 free-test m e d next is few is_m near = grind (arith, nat_tests)
 
-end_count-old : (code : Code) (k x : ℕ) (m : List (ℕ × ℕ)) → IsPaired (points_at code k).opened m → 1 ≤ x
+end_count-old : (code : Code) (k x : ℕ) (m : List (ℕ × ℕ)) → IsPairingOf (points_at code k).opened m → 1 ≤ x
     → x < 1 + (arc_count code.crossings + code.loops) → end_count m x ≡ cond (is_open code k x) 1 0
 end_count-old code k x m paired above below = elim (cases_Bool (is_open code k x)) [
   | inl open_too ↦
@@ -254,7 +254,7 @@ end_count-old code k x m paired above below = elim (cases_Bool (is_open code k x
 ]
 
 HaveDegrees-at : (code : Code) (k smoothing : ℕ) (m : List (ℕ × ℕ)) → HasArcsTwice code.crossings → k < length code.crossings
-    → IsPaired (points_at code k).opened m → HaveDegrees (step_at code k) (m ++ smoothing_at code k smoothing)
+    → IsPairingOf (points_at code k).opened m → HaveDegrees (step_at code k) (m ++ smoothing_at code k smoothing)
 HaveDegrees-at code k smoothing m twice below paired =
     let count = arc_count code.crossings + code.loops in
     let crossings = code.crossings in
@@ -292,9 +292,9 @@ HaveDegrees-at code k smoothing m twice below paired =
           (end_count-old code k x m paired is.above is.below) is.passes;
     }
 
-pub IsPaired-behind : (code : Code) (k smoothing : ℕ) (m : List (ℕ × ℕ)) → HasArcsTwice code.crossings → k < length code.crossings
-    → IsPaired (points_at code k).opened m → IsPaired (points_at code (k + 1)).opened (pairing_behind code k smoothing m)
-IsPaired-behind code k smoothing m twice below paired = record {
+pub IsPairingOf-behind : (code : Code) (k smoothing : ℕ) (m : List (ℕ × ℕ)) → HasArcsTwice code.crossings → k < length code.crossings
+    → IsPairingOf (points_at code k).opened m → IsPairingOf (points_at code (k + 1)).opened (pairing_behind code k smoothing m)
+IsPairingOf-behind code k smoothing m twice below paired = record {
   among = AreAmong-behind code k smoothing m twice below paired.among;
   once = λ x has.
       end_count-new (step_at code k) (m ++ smoothing_at code k smoothing) x (IsStep-at code k twice below)

@@ -19,7 +19,7 @@ use Rattle.dotted_surfaces.proofs.Components.{list_any-contained, list_any-some}
 use Rattle.dotted_surfaces.proofs.Factors.{factor-at, factor-none}
 use Rattle.dotted_surfaces.proofs.JoinedCounts.{amount_at, sum_at}
 use Rattle.dotted_surfaces.proofs.OneCut.{place_of_face, marks_of_face, one_face}
-use Rattle.added_crossings.specs.Pairings.{ends_in, IsPaired, face_with, marked_by}
+use Rattle.added_crossings.specs.Pairings.{ends_in, IsPairingOf, face_with, marked_by}
 use Rattle.added_crossings.specs.Steps.{those}
 use Rattle.added_crossings.specs.Codes.{disc_of}
 use Rattle.added_crossings.proofs.Members.{filter-kept, those-are, All-contained}
@@ -46,7 +46,7 @@ ends-of f x pair =
     one_and_one (f x) (nat_eq pair.0 x) (nat_eq pair.1 x)
     ∙ ap₂ (λ b d. cond b (f x) 0 + cond d (f x) 0) (swapped pair.0 x) (swapped pair.1 x)
 
-pub sum-paired : (count : ℕ) (test : ℕ → Bool) (f : ℕ → ℕ) (pairs : List (ℕ × ℕ)) → IsPaired (those count test) pairs
+pub sum-paired : (count : ℕ) (test : ℕ → Bool) (f : ℕ → ℕ) (pairs : List (ℕ × ℕ)) → IsPairingOf (those count test) pairs
     → sum_by f (those count test) ≡ sum_by (λ pair. f pair.0 + f pair.1) pairs
 sum-paired count test f pairs paired =
     let points = those count test in
@@ -92,7 +92,7 @@ pants_of count alive opened m all fine a first second = record {
 }
 
 pub record ArePants (count : ℕ) (alive opened : ℕ → Bool) (m all : List (ℕ × ℕ)) (fine : List ℕ) (a kept gone : ℕ) : Type 0 where
-  pub paired : IsPaired (those count opened) m
+  pub paired : IsPairingOf (those count opened) m
   pub pairs : Respects (class_in (count + 1) all) m
   pub order : kept < gone
   pub there : class_in (count + 1) all a ≡ kept

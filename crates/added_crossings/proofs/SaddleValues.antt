@@ -1,6 +1,6 @@
 -- The number of a saddle's surface is the coefficient of its edge.
 --
--- Where two circles become one, the components of the surface are the circles behind; where one becomes two, they are the circles before.
+-- Where two circles become one, the components of the surface are the circles after; where one becomes two, they are the circles before.
 -- Either way the surface is one of `Pants`, with both sides in their order or exchanged. Its number is a product over components: of
 -- cylinders, which say that labels stay, and of the pair of pants, which is a row of the merge table or of the split table
 -- (`EdgeProducts`).
@@ -20,9 +20,10 @@ use Rattle.dotted_surfaces.specs.Surfaces.{Surface, value, weight, factor}
 use Rattle.dotted_surfaces.proofs.Components.{list_any-contained}
 use Rattle.dotted_surfaces.proofs.Renamed.{value-reordered}
 use Rattle.dotted_surfaces.specs.Points.{AreAmong}
+use Rattle.tangle_surfaces.specs.CutCodes.{outer_smoothings}
 use Rattle.added_crossings.specs.Pairings.{marked_by}
 use Rattle.added_crossings.specs.Steps.{those, near}
-use Rattle.added_crossings.specs.Codes.{is_open, is_alive, points_at, step_at, smoothing_at, outer_smoothings, circles_before, circle_before, arc_there, disc_of, saddle_strips, saddle_sheet}
+use Rattle.added_crossings.specs.Codes.{is_open, is_alive, points_at, step_at, smoothing_at, circles_before, circle_before, arc_there, disc_of, saddle_strips, saddle_sheet}
 use Rattle.added_crossings.specs.Saddles.{is_touched_at, touched_at, changes_labels_at, edge_at, TwoBecomeOneAt, MergesOrSplitsAt, IsPairedAt, AreBits, opposite}
 use Rattle.added_crossings.proofs.Members.{filter-kept, those-are, are-those}
 use Rattle.added_crossings.proofs.Classes.{class_in, AreAmong-below, class-own, class-is}
@@ -34,7 +35,7 @@ use Rattle.added_crossings.proofs.EdgeProducts.{IsEdgeProduct, value-edge, cylin
 use Rattle.added_crossings.proofs.CodeJoins.{joins_with, joins-alive}
 
 abbrev joins_both : Code → ℕ → ℕ → List (ℕ × ℕ) → List (ℕ × ℕ)
-joins_both code k state m = m ++ (smoothing_at code k 0 ++ (smoothing_at code k 1 ++ outer_smoothings code state (k + 1)))
+joins_both code k state m = m ++ (smoothing_at code k 0 ++ (smoothing_at code k 1 ++ outer_smoothings code.crossings state (k + 1)))
 
 -- the joins of both smoothings are those of one and of the other
 record AreBoth (code : Code) (k state : ℕ) (m : List (ℕ × ℕ)) (first second : ℕ) : Type 0 where
@@ -46,7 +47,7 @@ merging : (code : Code) (k state : ℕ) (m : List (ℕ × ℕ)) → AreBoth code
 merging code k state m =
     let s = smoothing_at code k 0 in
     let t = smoothing_at code k 1 in
-    let w = outer_smoothings code state (k + 1) in
+    let w = outer_smoothings code.crossings state (k + 1) in
     record {
       onward = λ f respects.
           let later = Respects-second f s (t ++ w) (Respects-second f m (s ++ (t ++ w)) respects) in
@@ -64,7 +65,7 @@ splitting : (code : Code) (k state : ℕ) (m : List (ℕ × ℕ)) → AreBoth co
 splitting code k state m =
     let s = smoothing_at code k 0 in
     let t = smoothing_at code k 1 in
-    let w = outer_smoothings code state (k + 1) in
+    let w = outer_smoothings code.crossings state (k + 1) in
     record {
       onward = λ f respects.
           let later = Respects-second f m (s ++ (t ++ w)) respects in
@@ -82,7 +83,7 @@ both-among : (code : Code) (k state : ℕ) (m : List (ℕ × ℕ)) → IsPairedA
     → AreAmong (points_at code k).alive (joins_both code k state m)
 both-among code k state m at = (IsLaid-saddle code k state m at.twice at.crossing at.paired.among).among
 
--- what is together before is together behind
+-- what is together before is together after
 stay-together : (code : Code) (k state : ℕ) (m : List (ℕ × ℕ)) (first second kept gone x y : ℕ)
     → TwoBecomeOneAt code k state m first second kept gone → Contains (points_at code k).alive x → Contains (points_at code k).alive y
     → circle_before code k first state m x ≡ circle_before code k first state m y
@@ -99,7 +100,7 @@ smoothing-respects : (code : Code) (k state : ℕ) (m : List (ℕ × ℕ)) (firs
     → Respects f (smoothing_at code k first)
 smoothing-respects code k state m first second kept gone f at becomes respects =
     let n = count_of code + 1 in
-    let w = outer_smoothings code state (k + 1) in
+    let w = outer_smoothings code.crossings state (k + 1) in
     let s = smoothing_at code k first in
     let alive : (x : ℕ) → Contains (near (step_at code k)) x → Contains (points_at code k).alive x =
     λ x has. near-has (step_at code k) x (IsStep-at code k at.twice at.crossing) has in
@@ -191,7 +192,7 @@ are-pants code k state m first second kept gone at both becomes =
     record {
       paired = at.paired;
       pairs = Respects-first (class_in n all) m
-          (smoothing_at code k 0 ++ (smoothing_at code k 1 ++ outer_smoothings code state (k + 1)))
+          (smoothing_at code k 0 ++ (smoothing_at code k 1 ++ outer_smoothings code.crossings state (k + 1)))
           (classes-together n all (AreAmong-below count (is_alive code k) all (both-among code k state m at)));
       order = becomes.order;
       there = at_class (arc_there code k) ∙ there-kept code k state m first second kept gone at becomes;

@@ -1,42 +1,39 @@
--- The pairings that states make, their circles, and that their edges merge or split circles.
+-- The pairings that states make and their circles, and how an edge merges or splits circles.
 --
 -- By induction on the crossings a state's pairing is one of the open arcs, and what is alive is together in it and in what the state joins
--- behind, where it is in the whole state (`made`): one crossing more changes neither (`together-outside`). In an accepted code the classes
--- of two neighbouring states differ by a join at two slots of the crossing, one way or the other; so do those of the pairing
--- (`are-merged`), which makes the record of names and touched circles (`become-one`).
-use Rattle.std.proofs.Common.{◌≡◌, ◌≢◌, ◌↔◌, ℕ, zero, suc, inl, inr, ◌⊎◌, ◌+◌, ◌-◌, ◌^◌, ◌<◌, ◌≤◌, ◌∙◌, List, [], ◌∷◌, ◌++◌, length, drop, refl, sym, ap, ap₂, subst, arith, append_assoc, Bool}
-use Rattle.std.specs.Prelude.{IsTrue, slice_index}
-use Rattle.std.specs.List.{flat_map, enumerate_from, Contains}
+-- at the crossings still to come, where it is in the whole state (`made`): one crossing more changes neither (`together-outside`). Where
+-- the classes of two smoothings of a crossing differ by a join at two of its slots (`are-merged`), this makes the record of names and
+-- touched circles (`become-one`).
+use Rattle.std.proofs.Common.{◌≡◌, ◌↔◌, ℕ, zero, suc, inl, inr, ◌⊎◌, ◌+◌, ◌<◌, ◌≤◌, ◌∙◌, List, [], ◌++◌, length, refl, sym, ap, subst, arith, append_assoc, Bool}
+use Rattle.std.specs.Prelude.{slice_index}
+use Rattle.std.specs.List.{Contains}
 use Rattle.std.proofs.lemmas.Bool.{both_ways}
 use Rattle.std.proofs.lemmas.Bool.Decides.{nat_tests}
-use Rattle.kh_types.specs.Acceptance.{accepted}
 use Rattle.kh_types.specs.Bits.{bit}
 use Rattle.kh_types.specs.Code.{Code}
-use Rattle.kh_types.specs.Circles.{smoothing_of, smoothings_of, circles_of}
+use Rattle.kh_types.specs.Circles.{circles_of}
 use Rattle.kh_types.specs.Classes.{merged, classes_of, Respects}
 use Rattle.kh_types.specs.Darts.{HasArcsTwice}
 use Rattle.kh_types.specs.Permutations.{AreJoined}
-use Rattle.kh_types.proofs.AcceptedLemmas.{HasArcsTwice-accepted}
 use Rattle.kh_types.proofs.ClassLemmas.{classes-together, slice_index-joined, merged-both, Respects-first, Respects-second}
-use Rattle.kh_types.proofs.EdgeBits.{bit-set_there, bit-set_other}
-use Rattle.kh_types.proofs.EdgeCircles.{joins_or_parts}
 use Rattle.kh_types.proofs.JoinedClasses.{IsNamed-classes_of}
-use Rattle.added_crossings.specs.Pairings.{IsPaired}
-use Rattle.added_crossings.specs.Codes.{is_open, is_alive, points_at, step_at, smoothing_at, outer_smoothings, pairing_behind, circle_before}
-use Rattle.added_crossings.specs.Saddles.{TwoBecomeOneAt, MergesOrSplitsAt, IsPairedAt, pairing_of, circle_with}
-use Rattle.added_crossings.proofs.Members.{IsOneOf, those-are, are-those}
+use Rattle.tangle_surfaces.specs.CutCodes.{outer_smoothings}
+use Rattle.added_crossings.specs.Pairings.{IsPairingOf}
+use Rattle.added_crossings.specs.Codes.{is_open, is_alive, points_at, step_at, smoothing_at, pairing_behind, circle_before}
+use Rattle.added_crossings.specs.Saddles.{TwoBecomeOneAt, IsPairedAt, pairing_of, circle_with}
+use Rattle.added_crossings.proofs.Members.{IsOneOf, those-are}
 use Rattle.added_crossings.proofs.Classes.{class_in, AreAmong-below, class-own, class-is}
 use Rattle.added_crossings.proofs.CutJoins.{near-has, next-has}
 use Rattle.added_crossings.proofs.KeptCircles.{together-outside}
-use Rattle.added_crossings.proofs.CodeSteps.{IsStep-at, slot-near, outer-among, outer-split, count_of}
+use Rattle.added_crossings.proofs.CodeSteps.{IsStep-at, slot-near, outer-split, count_of}
 use Rattle.added_crossings.proofs.CodeSums.{IsCut-at}
-use Rattle.added_crossings.proofs.Pairs.{IsPaired-behind}
+use Rattle.added_crossings.proofs.Pairs.{IsPairingOf-behind}
 use Rattle.added_crossings.proofs.TwoCircles.{AreNamed, IsEither, AreMerged, kept_of, gone_of, AreSlots, one-merged, others-merged, order-merged, names-merged, touched-first, touched-second}
 use Rattle.added_crossings.proofs.CodeJoins.{joins_with, classes_with, arc_of_slot, joins-alive}
 
--- what is alive behind the first k crossings is together there where it is in the whole state
+-- what is alive after the first k crossings is together there where it is in the whole state
 pub record IsMade (code : Code) (state k : ℕ) (m : List (ℕ × ℕ)) : Type 0 where
-  pub paired : IsPaired (points_at code k).opened m
+  pub paired : IsPairingOf (points_at code k).opened m
   pub circles : (x y : ℕ) → Contains (points_at code k).alive x → Contains (points_at code k).alive y
       → (circle_with code state m k x ≡ circle_with code state m k y)
       ↔ (slice_index (circles_of code state) x ≡ slice_index (circles_of code state) y)
@@ -51,9 +48,9 @@ made-first code state = record {
 }
 
 split-joins : (code : Code) (state k : ℕ) (m : List (ℕ × ℕ)) → k < length code.crossings
-    → (m ++ smoothing_at code k (bit state k)) ++ outer_smoothings code state (k + 1) ≡ m ++ outer_smoothings code state k
+    → (m ++ smoothing_at code k (bit state k)) ++ outer_smoothings code.crossings state (k + 1) ≡ m ++ outer_smoothings code.crossings state k
 split-joins code state k m below =
-    append_assoc m (smoothing_at code k (bit state k)) (outer_smoothings code state (k + 1))
+    append_assoc m (smoothing_at code k (bit state k)) (outer_smoothings code.crossings state (k + 1))
     ∙ ap (λ (pairs : List (ℕ × ℕ)). m ++ pairs) (sym (outer-split code state k below))
 
 before-same : (code : Code) (state k : ℕ) (m : List (ℕ × ℕ)) (x : ℕ) → k < length code.crossings
@@ -67,12 +64,12 @@ made-next code state k m twice below made =
     let step_is = IsStep-at code k twice below in
     let e = bit state k in
     record {
-      paired = IsPaired-behind code k e m twice below made.paired;
+      paired = IsPairingOf-behind code k e m twice below made.paired;
       circles = λ x y has y_has.
           let x_too = next-has (step_at code k) x step_is has in
           let y_too = next-has (step_at code k) y step_is y_has in
           let outside = together-outside (step_at code k) (m ++ smoothing_at code k e) (pairing_behind code k e m)
-          (outer_smoothings code state (k + 1)) x y (IsCut-at code k e state m twice below made.paired.among) has y_has in
+          (outer_smoothings code.crossings state (k + 1)) x y (IsCut-at code k e state m twice below made.paired.among) has y_has in
           let there = made.circles x y x_too y_too in
           let at_x = before-same code state k m x below in
           let at_y = before-same code state k m y below in (
@@ -88,29 +85,6 @@ made code state (suc k) twice within =
     let e : k + 1 ≡ suc k = omega arith in
     subst (λ j. IsMade code state j (pairing_behind code k (bit state k) (pairing_of code state k))) e
     (made-next code state k (pairing_of code state k) twice (omega (arith, within)) (made code state k twice (omega (arith, within))))
-
--- states that agree there make the same
-
-pairing_of-agree : (code : Code) (state other k : ℕ) → ((i : ℕ) → i < k → bit state i ≡ bit other i)
-    → pairing_of code state k ≡ pairing_of code other k
-pairing_of-agree code state other zero agree = refl
-pairing_of-agree code state other (suc k) agree =
-    ap₂ (λ (e : ℕ) (m : List (ℕ × ℕ)). pairing_behind code k e m) (agree k (omega arith))
-    (pairing_of-agree code state other k (λ i below. agree i (omega (arith, below))))
-
-smoothings-agree : (state other at : ℕ) (xs : List (List ℕ)) → ((i : ℕ) → at ≤ i → bit state i ≡ bit other i)
-    → flat_map (λ at. smoothing_of (bit state at.0) at.1) (enumerate_from at xs)
-    ≡ flat_map (λ at. smoothing_of (bit other at.0) at.1) (enumerate_from at xs)
-smoothings-agree state other at [] agree = refl
-smoothings-agree state other at (slots ∷ xs) agree =
-    ap₂ (λ (ps qs : List (ℕ × ℕ)). ps ++ qs) (ap (λ b. smoothing_of b slots) (agree at (omega arith)))
-    (smoothings-agree state other (at + 1) xs (λ i from. agree i (omega (arith, from))))
-
--- the classes of a state are as many as arcs and loops, and 0
-circles-size : (code : Code) (state : ℕ) → HasArcsTwice code.crossings → length (circles_of code state) ≡ count_of code + 1
-circles-size code state twice =
-    (IsNamed-classes_of (count_of code + 1) (smoothings_of code.crossings state)
-    (AreAmong-below (count_of code) (is_alive code 0) (outer_smoothings code state 0) (outer-among code state 0 twice))).size
 
 -- joined classes of states, and those of the pairing
 
@@ -182,7 +156,7 @@ smoothing-joined code k state smoothing m at =
     let class : ℕ → ℕ = class_in (count_of code + 1) joins in
     let s = smoothing_at code k smoothing in
     Respects-second class m s
-    (Respects-first class (m ++ s) (outer_smoothings code state (k + 1))
+    (Respects-first class (m ++ s) (outer_smoothings code.crossings state (k + 1))
     (classes-together (count_of code + 1) joins
     (AreAmong-below (count_of code) (is_alive code k) joins (joins-alive code k state smoothing m at))))
 
@@ -241,80 +215,3 @@ become-one code k state m first second merged slots =
       one = λ x has. one-merged count alive fine coarse (arc 0) (arc 2) x merged (those-are count alive x has);
       others = λ x has. others-merged count alive fine coarse (arc 0) (arc 2) x merged (those-are count alive x has);
     }
-
--- the state with the other smoothing
-
-together-at : (code : Code) (state other k : ℕ) (m : List (ℕ × ℕ)) (smoothing : ℕ) → k < length code.crossings → IsMade code other k m
-    → bit other k ≡ smoothing → outer_smoothings code other (k + 1) ≡ outer_smoothings code state (k + 1)
-    → AreTogether (count_of code) (is_alive code k) (classes_with code k state m smoothing) (circles_of code other)
-together-at code state other k m smoothing below made is same =
-    let at : (x : ℕ) → slice_index (classes_with code k state m smoothing) x ≡ circle_with code other m k x =
-    λ x.
-    ap₂ (λ (e : ℕ) (w : List (ℕ × ℕ)). slice_index (classes_of (count_of code + 1) ((m ++ smoothing_at code k e) ++ w)) x)
-    (sym is) (sym same)
-    ∙ before-same code other k m x below in
-    record {
-      iff = λ x y x_is y_is.
-          let there = made.circles x y (are-those (count_of code) (is_alive code k) x x_is.above x_is.below x_is.passes)
-          (are-those (count_of code) (is_alive code k) y y_is.above y_is.below y_is.passes) in (
-            λ together. there.0 (sym (at x) ∙ together ∙ at y),
-            λ together. at x ∙ there.1 together ∙ sym (at y),
-          );
-    }
-
-edge-parts : (code : Code) (state k : ℕ) → IsTrue (accepted code) → k < length code.crossings → bit state k ≡ 0
-    → AreJoined (circles_of code state) (circles_of code (state + 2 ^ k)) (arc_of_slot code k 0) (arc_of_slot code k 2)
-    ⊎ AreJoined (circles_of code (state + 2 ^ k)) (circles_of code state) (arc_of_slot code k 0) (arc_of_slot code k 2)
-edge-parts code state k is below zero_bit =
-    let e : k + 1 - 1 ≡ k = omega arith in
-    subst (λ j. AreJoined (circles_of code state) (circles_of code (state + 2 ^ j)) (arc_of_slot code j 0) (arc_of_slot code j 2)
-    ⊎ AreJoined (circles_of code (state + 2 ^ j)) (circles_of code state) (arc_of_slot code j 0) (arc_of_slot code j 2)) e
-    (joins_or_parts code state (k + 1) is record { positive = omega arith; within = omega (arith, below) }
-    (ap (λ j. bit state j) e ∙ zero_bit))
-
-pub edges-merge_or_split : (code : Code) (state k : ℕ) → IsTrue (accepted code) → k < length code.crossings → bit state k ≡ 0
-    → MergesOrSplitsAt code k state (pairing_of code state k)
-edges-merge_or_split code state k is below zero_bit =
-    let twice = HasArcsTwice-accepted code is in
-    let other = state + 2 ^ k in
-    let m = pairing_of code state k in
-    let here = made code state k twice (omega (arith, below)) in
-    let one_bit = bit-set_there state k zero_bit in
-    let agree : (i : ℕ) → i ≢ k → bit other i ≡ bit state i = bit-set_other state k zero_bit in
-    let same_pairing : pairing_of code other k ≡ m =
-    pairing_of-agree code other state k (λ i i_below. agree i (λ same. omega (arith, i_below, same))) in
-    let same_outer : outer_smoothings code other (k + 1) ≡ outer_smoothings code state (k + 1) =
-    smoothings-agree other state (k + 1) (drop (k + 1) code.crossings) (λ i from. agree i (λ same. omega (arith, from, same))) in
-    let there : IsMade code other k m =
-    subst (λ (pairs : List (ℕ × ℕ)). IsMade code other k pairs) same_pairing (made code other k twice (omega (arith, below))) in
-    let at : IsPairedAt code k m = record { twice = twice; crossing = below; paired = here.paired } in
-    let a_is = slot-alive code k 0 m at (omega arith) in
-    let b_is = slot-alive code k 2 m at (omega arith) in
-    let zero_named = named-with code k state 0 m at in
-    let one_named = named-with code k state 1 m at in
-    let zero_together = together-at code state state k m 0 below here zero_bit refl in
-    let one_together = together-at code state other k m 1 below there one_bit same_outer in
-    let count = count_of code in
-    let alive = is_alive code k in
-    let a = arc_of_slot code k 0 in
-    let b = arc_of_slot code k 2 in
-    let zeros = classes_with code k state m 0 in
-    let ones = classes_with code k state m 1 in
-    elim (edge-parts code state k is below zero_bit) [
-      | inl joins ↦ (
-        kept_of zeros a b,
-        gone_of zeros a b,
-        inl (become-one code k state m 0 1
-            (are-merged count alive zeros ones (circles_of code state) (circles_of code other) a b (circles-size code state twice) a_is b_is
-            zero_named one_named zero_together one_together joins)
-            (slots-zero code k state m at)),
-      )
-      | inr parts ↦ (
-        kept_of ones a b,
-        gone_of ones a b,
-        inr (become-one code k state m 1 0
-            (are-merged count alive ones zeros (circles_of code other) (circles_of code state) a b (circles-size code other twice) a_is b_is
-            one_named zero_named one_together zero_together parts)
-            (slots-one code k state m at)),
-      )
-    ]

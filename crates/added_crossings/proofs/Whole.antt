@@ -21,10 +21,10 @@ use Rattle.dotted_surfaces.specs.Cuts.{with_faces, first_caps, second_caps, sum_
 use Rattle.dotted_surfaces.specs.Overlays.{overlaid, at_places}
 use Rattle.dotted_surfaces.proofs.Products.{product_below-alike}
 use Rattle.dotted_surfaces.proofs.Components.{list_any-contained, list_any-some, list_any-alike}
-use Rattle.dotted_surfaces.proofs.Factors.{AreAlike, factor-alike, genus-alike}
+use Rattle.dotted_surfaces.proofs.Factors.{AreAlike, factor-alike}
 use Rattle.dotted_surfaces.proofs.JoinedCounts.{amount_at, sum_at}
-use Rattle.dotted_surfaces.proofs.OneCut.{place_of_face, marks_of_face, one_face, itself, one_place, at_place}
-use Rattle.dotted_surfaces.proofs.Overlaid.{AreLaid, sum-laid, IsClosed-laid}
+use Rattle.dotted_surfaces.proofs.OneCut.{place_of_face, marks_of_face, one_face, itself, one_place}
+use Rattle.dotted_surfaces.proofs.Overlaid.{AreLaid, sum-laid}
 use Rattle.dotted_surfaces.specs.Points.{discs, circles}
 use Rattle.added_crossings.specs.Pairings.{face_with, marked_by, circle_faces}
 use Rattle.added_crossings.specs.Steps.{Step, before, after, is_near, near, closed_circles, added, outside}
@@ -237,28 +237,6 @@ value-whole step joins others pairs other_pairs outer all faces lowers label oth
     factor-alike over k whole k
     (alike-whole step joins others pairs other_pairs outer all faces lowers label other_label k laid lies labels))
 
-IsClosed-whole : (step : Step) (joins others pairs other_pairs outer all faces : List (ℕ × ℕ)) (lowers : List ℕ)
-    (label other_label : ℕ → ℕ) → IsLaid step joins others pairs other_pairs outer all → LiesNear step faces lowers
-    → AreLabels joins others outer label other_label
-    → IsClosed (overlay_of step joins others pairs other_pairs outer faces lowers label other_label)
-    → IsClosed (all_of step all joins others outer faces lowers label other_label)
-IsClosed-whole step joins others pairs other_pairs outer all faces lowers label other_label laid lies labels closed =
-    let over = overlay_of step joins others pairs other_pairs outer faces lowers label other_label in
-    let whole = all_of step all joins others outer faces lowers label other_label in
-    record {
-      genus = λ place has.
-          let alike = alike-whole step joins others pairs other_pairs outer all faces lowers label other_label
-          (component_of whole place) laid lies labels in
-          let same : component_of over place ≡ component_of whole place =
-          ap (λ (classes : List ℕ). slice_index classes place)
-          (classes-same step joins others pairs other_pairs outer all faces lowers label other_label laid lies) in
-          let here = closed.genus place (before-cases step place laid.first.step_is has) in (
-            here.0,
-            genus-alike over (component_of whole place) whole (component_of whole place) here.0 alike
-                (at_place over (component_of whole place) (component_of over place) here.0 (sym same) here.1),
-          );
-    }
-
 -- with the law of overlays
 pub record ArePartsClosed (step : Step) (joins others pairs other_pairs outer faces : List (ℕ × ℕ)) (lowers : List ℕ)
     (label other_label : ℕ → ℕ) : Type 0 where
@@ -289,14 +267,3 @@ sum-added step joins others pairs other_pairs outer all faces lowers label other
     (discs (after step) pairs other_pairs) 0
     (are-laid step joins others pairs other_pairs outer all faces lowers label other_label laid lies) closed.far closed.close
     ∙ value-whole step joins others pairs other_pairs outer all faces lowers label other_label laid lies labels
-
-pub IsClosed-added : (step : Step) (joins others pairs other_pairs outer all faces : List (ℕ × ℕ)) (lowers : List ℕ)
-    (label other_label : ℕ → ℕ) → IsLaid step joins others pairs other_pairs outer all → LiesNear step faces lowers
-    → AreLabels joins others outer label other_label
-    → ArePartsClosed step joins others pairs other_pairs outer faces lowers label other_label
-    → IsClosed (all_of step all joins others outer faces lowers label other_label)
-IsClosed-added step joins others pairs other_pairs outer all faces lowers label other_label laid lies labels closed =
-    IsClosed-whole step joins others pairs other_pairs outer all faces lowers label other_label laid lies labels
-    (IsClosed-laid (outside step pairs other_pairs outer label other_label)
-    (added step joins others faces lowers label other_label) (discs (after step) pairs other_pairs) 0
-    (are-laid step joins others pairs other_pairs outer all faces lowers label other_label laid lies) closed.far closed.close)

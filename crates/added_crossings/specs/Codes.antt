@@ -1,8 +1,7 @@
--- The steps of a code, whose crossings are added in the order of the list: the arcs that are open behind the first k of them, the pairings
+-- The steps of a code, whose crossings are added in the order of the list: the arcs that are open after the first k of them, the pairings
 -- and circles there, and the surfaces with one crossing more.
-use Rattle.std.specs.Prelude.{map, ℕ, ◌+◌, ◌*◌, ◌<◌, List, length, [], ◌∷◌, ◌++◌, drop, nat_eq, nat_lt, Bool, slice_index, slice_index_or}
-use Rattle.std.specs.List.{count_by, filter, flat_map, enumerate_from, range_with_len}
-use Rattle.kh_types.specs.Bits.{bit}
+use Rattle.std.specs.Prelude.{map, ℕ, ◌+◌, ◌*◌, ◌<◌, List, length, [], ◌∷◌, ◌++◌, nat_eq, nat_lt, Bool, slice_index, slice_index_or}
+use Rattle.std.specs.List.{count_by, filter, range_with_len}
 use Rattle.kh_types.specs.Code.{Code, arc_in, arc_count, arcs_and_loops}
 use Rattle.kh_types.specs.Circles.{smoothing_of}
 use Rattle.kh_types.specs.CircleSteps.{arc_at}
@@ -12,6 +11,7 @@ use Rattle.dotted_surfaces.specs.Surfaces.{Surface, IsClosed}
 use Rattle.dotted_surfaces.specs.Cuts.{with_faces, first_caps, second_caps, sum_of_products}
 use Rattle.dotted_surfaces.specs.Overlays.{at_places}
 use Rattle.dotted_surfaces.specs.Points.{Points, AreAmong, discs, circles}
+use Rattle.tangle_surfaces.specs.CutCodes.{outer_smoothings}
 use Rattle.added_crossings.specs.Pairings.{marked_by, circle_faces}
 use Rattle.dotted_surfaces.specs.Sheets.{sheet}
 use Rattle.added_crossings.specs.Steps.{Step, new_pairing, closed_circles, added, outside}
@@ -24,11 +24,11 @@ ends_among crossings x places = count_by (λ place. nat_eq (arc_at crossings pla
 abbrev pub ends_before : List (List ℕ) → ℕ → ℕ → ℕ
 ends_before crossings k x = ends_among crossings x (range_with_len 0 (4 * k))
 
--- and how many at the crossing behind these
+-- and how many at the next crossing
 abbrev pub ends_at : List (List ℕ) → ℕ → ℕ → ℕ
 ends_at crossings k x = ends_among crossings x (range_with_len (4 * k) 4)
 
--- behind the first k crossings an arc is open where one of its ends is at them
+-- after the first k crossings an arc is open where one of its ends is at them
 abbrev pub is_open : Code → ℕ → ℕ → Bool
 is_open code k x = nat_eq (ends_before code.crossings k x) 1
 
@@ -55,40 +55,35 @@ step_at code k = record {
   alive_next = is_alive code (k + 1);
 }
 
--- what a smoothing of the crossing behind the first k joins
+-- what a smoothing of the next crossing, after the first k, joins
 abbrev pub smoothing_at : Code → ℕ → ℕ → List (ℕ × ℕ)
 smoothing_at code k smoothing = smoothing_of smoothing (slice_index_or code.crossings k [])
 
--- what the smoothings of a state join at all crossings behind the first k: the bits of the state at the first k do not count
-abbrev pub outer_smoothings : Code → ℕ → ℕ → List (ℕ × ℕ)
-outer_smoothings code state k =
-    flat_map (λ at. smoothing_of (bit state at.0) at.1) (enumerate_from k (drop k code.crossings))
-
--- the pairing of the open arcs behind one crossing more, where the crossing has a smoothing
+-- the pairing of the open arcs after one crossing more, where the crossing has a smoothing
 abbrev pub pairing_behind : Code → ℕ → ℕ → List (ℕ × ℕ) → List (ℕ × ℕ)
 pairing_behind code k smoothing m = new_pairing (step_at code k) (m ++ smoothing_at code k smoothing)
 
--- the circles of a pairing, a smoothing of the crossing and what a state joins behind it, by their least arcs
+-- the circles of a pairing, a smoothing of the crossing and what a state joins after it, by their least arcs
 abbrev pub circles_before : Code → ℕ → ℕ → ℕ → List (ℕ × ℕ) → List ℕ
 circles_before code k smoothing state m =
-    circles (points_at code k) (m ++ smoothing_at code k smoothing) (outer_smoothings code state (k + 1))
+    circles (points_at code k) (m ++ smoothing_at code k smoothing) (outer_smoothings code.crossings state (k + 1))
 
 -- and the circle of an arc among them
 abbrev pub circle_before : Code → ℕ → ℕ → ℕ → List (ℕ × ℕ) → ℕ → ℕ
 circle_before code k smoothing state m x =
     slice_index
-    (classes_of (points_at code k).size ((m ++ smoothing_at code k smoothing) ++ outer_smoothings code state (k + 1))) x
+    (classes_of (points_at code k).size ((m ++ smoothing_at code k smoothing) ++ outer_smoothings code.crossings state (k + 1))) x
 
--- the circles of the new pairing and what the state joins behind
+-- the circles of the new pairing and what the state joins after the crossing
 abbrev pub circles_behind : Code → ℕ → ℕ → ℕ → List (ℕ × ℕ) → List ℕ
 circles_behind code k smoothing state m =
-    circles (points_at code (k + 1)) (pairing_behind code k smoothing m) (outer_smoothings code state (k + 1))
+    circles (points_at code (k + 1)) (pairing_behind code k smoothing m) (outer_smoothings code.crossings state (k + 1))
 
 -- and the circle of an arc among these
 abbrev pub circle_behind : Code → ℕ → ℕ → ℕ → List (ℕ × ℕ) → ℕ → ℕ
 circle_behind code k smoothing state m x =
     slice_index
-    (classes_of (points_at code (k + 1)).size (pairing_behind code k smoothing m ++ outer_smoothings code state (k + 1))) x
+    (classes_of (points_at code (k + 1)).size (pairing_behind code k smoothing m ++ outer_smoothings code.crossings state (k + 1))) x
 
 -- the circles of a pairing and a smoothing of the crossing that the crossing closes
 abbrev pub closed_at : Code → ℕ → ℕ → List (ℕ × ℕ) → List ℕ
@@ -99,13 +94,13 @@ closed_at code k smoothing m = closed_circles (step_at code k) (m ++ smoothing_a
 abbrev pub sheet_at : Code → ℕ → ℕ → List (ℕ × ℕ) → List (ℕ × ℕ) → (ℕ → ℕ) → (ℕ → ℕ) → (ℕ → ℕ) → Surface
 sheet_at code k state m n dots label other_label =
     let points = points_at code k in
-    let w = outer_smoothings code state k in
+    let w = outer_smoothings code.crossings state k in
     sheet points m n w (marked_by dots (discs points m n) ++ circle_faces points m n w label other_label)
 
 -- the surface outside one crossing more, between the new pairings, without their discs
 abbrev pub outside_at : Code → ℕ → ℕ → List (ℕ × ℕ) → List (ℕ × ℕ) → (ℕ → ℕ) → (ℕ → ℕ) → Surface
 outside_at code k state m n label other_label =
-    outside (step_at code k) m n (outer_smoothings code state (k + 1)) label other_label
+    outside (step_at code k) m n (outer_smoothings code.crossings state (k + 1)) label other_label
 
 -- the surface that the crossing adds between two pairings, where it has one smoothing, without the discs of the new pairings
 abbrev pub added_at : Code → ℕ → ℕ → List (ℕ × ℕ) → List (ℕ × ℕ) → (ℕ → ℕ) → (ℕ → ℕ) → (ℕ → ℕ) → Surface
@@ -125,11 +120,11 @@ disc_of pair = (pair.0, 0)
 abbrev pub saddle_strips : Code → ℕ → List ℕ
 saddle_strips code k = arc_there code k ∷ arc_there code k ∷ (points_at code k).opened
 
--- the saddle that leads from the 0-smoothing of the crossing to its 1-smoothing, for one pairing at a state behind it
+-- the saddle that leads from the 0-smoothing of the crossing to its 1-smoothing, for one pairing at a state of the crossings after it
 abbrev pub saddle_sheet : Code → ℕ → ℕ → List (ℕ × ℕ) → (ℕ → ℕ) → (ℕ → ℕ) → Surface
 saddle_sheet code k state m label other_label =
     let points = points_at code k in
-    let w = outer_smoothings code state (k + 1) in
+    let w = outer_smoothings code.crossings state (k + 1) in
     let s = smoothing_at code k 0 in
     let t = smoothing_at code k 1 in
     record {
@@ -154,16 +149,16 @@ pub record AreLabelled (code : Code) (k state : ℕ) (m n : List (ℕ × ℕ)) (
   pub crossing : k < length code.crossings
   pub first : AreAmong (points_at code k).opened m
   pub second : AreAmong (points_at code k).opened n
-  pub first_label : Respects label (m ++ outer_smoothings code state k)
-  pub second_label : Respects other_label (n ++ outer_smoothings code state k)
+  pub first_label : Respects label (m ++ outer_smoothings code.crossings state k)
+  pub second_label : Respects other_label (n ++ outer_smoothings code.crossings state k)
 
 -- one pairing before a saddle, and labels of the circles before and after it
 pub record IsLabelled (code : Code) (k state : ℕ) (m : List (ℕ × ℕ)) (label other_label : ℕ → ℕ) : Type 0 where
   pub twice : HasArcsTwice code.crossings
   pub crossing : k < length code.crossings
   pub pairing : AreAmong (points_at code k).opened m
-  pub first_label : Respects label ((m ++ smoothing_at code k 0) ++ outer_smoothings code state (k + 1))
-  pub second_label : Respects other_label ((m ++ smoothing_at code k 1) ++ outer_smoothings code state (k + 1))
+  pub first_label : Respects label ((m ++ smoothing_at code k 0) ++ outer_smoothings code.crossings state (k + 1))
+  pub second_label : Respects other_label ((m ++ smoothing_at code k 1) ++ outer_smoothings code.crossings state (k + 1))
 
 -- the discs of the new pairings, where the crossing has a smoothing on either side
 abbrev pub discs_behind : Code → ℕ → ℕ → ℕ → List (ℕ × ℕ) → List (ℕ × ℕ) → List ℕ

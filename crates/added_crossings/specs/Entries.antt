@@ -1,20 +1,21 @@
--- The entries of terms by numbers, and the coefficients of the terms behind one crossing more.
+-- The entries of terms by numbers, and the coefficients of the terms after one crossing more.
 use Rattle.std.specs.Prelude.{map, ℕ, ◌+◌, ◌<◌, List, ◌++◌, length}
 use Rattle.kh_types.specs.Code.{Code}
 use Rattle.kh_types.specs.Darts.{HasArcsTwice}
 use Rattle.dotted_surfaces.specs.Surfaces.{Surface, IsClosed, value}
 use Rattle.dotted_surfaces.specs.Points.{AreAmong, discs, circles}
 use Rattle.dotted_surfaces.specs.Sheets.{sheet, marked, marked_else}
+use Rattle.tangle_surfaces.specs.CutCodes.{outer_smoothings}
 use Rattle.added_crossings.specs.Steps.{near}
-use Rattle.added_crossings.specs.Codes.{points_at, step_at, smoothing_at, outer_smoothings, circles_behind, closed_at, discs_behind, disc_of, saddle_strips}
+use Rattle.added_crossings.specs.Codes.{points_at, step_at, smoothing_at, circles_behind, closed_at, discs_behind, disc_of, saddle_strips}
 use Rattle.added_crossings.specs.Labels.{label_at, number_of}
 
--- the surface of a set of dotted discs from labels of the circles of m to labels of those of n, at a state behind the first k crossings.
+-- the surface of a set of dotted discs from labels of the circles of m to labels of those of n, at a state after the first k crossings.
 -- Dots and labels are numbers, by their bits: a dotted disc, a circle of m with v- (1) and a circle of n with v+ (0) are marked
 abbrev pub entry_sheet : Code → ℕ → ℕ → List (ℕ × ℕ) → List (ℕ × ℕ) → ℕ → ℕ → ℕ → Surface
 entry_sheet code k state m n dots label other =
     let points = points_at code k in
-    let w = outer_smoothings code state k in
+    let w = outer_smoothings code.crossings state k in
     sheet points m n w (marked dots (discs points m n) ++ (marked label (circles points m w) ++ marked_else other (circles points n w)))
 
 -- and the number of this surface: the entry of the dotted discs from the one generator to the other
@@ -34,7 +35,7 @@ coefficient_sheet code k first second m n faces lowers closed other_closed kept 
   raises = (points_at code (k + 1)).opened;
 }
 
--- the coefficient of a dot set in the term behind the crossing, where it has one smoothing
+-- the coefficient of a dot set in the term after the crossing, where it has one smoothing
 abbrev pub added_surface : Code → ℕ → ℕ → List (ℕ × ℕ) → List (ℕ × ℕ) → ℕ → ℕ → ℕ → ℕ → Surface
 added_surface code k smoothing m n dots closed other_closed kept =
     coefficient_sheet code k smoothing smoothing m n (marked dots (discs (points_at code k) m n)) (points_at code k).opened closed
@@ -45,17 +46,17 @@ abbrev pub saddle_surface : Code → ℕ → List (ℕ × ℕ) → ℕ → ℕ �
 saddle_surface code k m closed other_closed kept =
     coefficient_sheet code k 0 1 m m (map disc_of m) (saddle_strips code k) closed other_closed kept
 
--- labels of the circles of a pairing, a smoothing of the crossing and what is behind it, from a number to a function of arcs
+-- labels of the circles of a pairing, a smoothing of the crossing and what a state joins after it, from a number to a function of arcs
 abbrev pub label_before : Code → ℕ → ℕ → ℕ → List (ℕ × ℕ) → ℕ → ℕ → ℕ
 label_before code k smoothing state m number =
     label_at (points_at code k).size (points_at code k).alive
-    ((m ++ smoothing_at code k smoothing) ++ outer_smoothings code state (k + 1)) number
+    ((m ++ smoothing_at code k smoothing) ++ outer_smoothings code.crossings state (k + 1)) number
 
 -- the labels that it gives to the circles that the crossing closes, as a number
 abbrev pub closed_label : Code → ℕ → ℕ → ℕ → List (ℕ × ℕ) → ℕ → ℕ
 closed_label code k smoothing state m number = number_of (label_before code k smoothing state m number) (closed_at code k smoothing m)
 
--- and those that it gives to the circles behind
+-- and those that it gives to the circles after the crossing
 abbrev pub label_behind : Code → ℕ → ℕ → ℕ → List (ℕ × ℕ) → ℕ → ℕ
 label_behind code k smoothing state m number =
     number_of (label_before code k smoothing state m number) (circles_behind code k smoothing state m)

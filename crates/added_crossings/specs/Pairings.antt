@@ -25,6 +25,6 @@ abbrev pub end_count : List (ℕ × ℕ) → ℕ → ℕ
 end_count pairs x = sum_by (ends_in x) pairs
 
 -- pairs are a pairing of some points: their ends are such points, and each of the points is one end of one pair, and no other end
-pub record IsPaired (points : List ℕ) (pairs : List (ℕ × ℕ)) : Type 0 where
+pub record IsPairingOf (points : List ℕ) (pairs : List (ℕ × ℕ)) : Type 0 where
   pub among : AreAmong points pairs
   pub once : (x : ℕ) → Contains points x → end_count pairs x ≡ 1

@@ -1,4 +1,4 @@
--- The edges of the cube that a pairing and the crossings behind it make: what merges or splits, and the coefficient.
+-- The edges of the cube that a pairing and the crossings still to come make: what merges or splits, and the coefficient.
 use Rattle.std.specs.Prelude.{◌≡◌, ◌≢◌, ◌⊎◌, ℕ, zero, suc, ◌++◌, slice_index, ◌-◌, ◌<◌, List, [], ◌∷◌, length, map, nat_eq, Bool, ◌&&◌, ◌||◌, if◌then◌else◌, slice_index_or}
 use Rattle.std.specs.List.{filter, list_all, list_any, range_with_len, Contains}
 use Rattle.kh_types.specs.Bits.{bit}
@@ -7,10 +7,11 @@ use Rattle.kh_types.specs.Code.{Code, arc_in}
 use Rattle.kh_types.specs.Differential.{is_merge, is_split}
 use Rattle.kh_types.specs.Edges.{is_other}
 use Rattle.kh_types.specs.Darts.{HasArcsTwice}
-use Rattle.added_crossings.specs.Pairings.{IsPaired}
-use Rattle.added_crossings.specs.Codes.{points_at, outer_smoothings, pairing_behind, circles_before, circle_before}
+use Rattle.tangle_surfaces.specs.CutCodes.{outer_smoothings}
+use Rattle.added_crossings.specs.Pairings.{IsPairingOf}
+use Rattle.added_crossings.specs.Codes.{points_at, pairing_behind, circles_before, circle_before}
 
--- a circle of a pairing, a smoothing of the crossing and what a state joins behind it is touched where an arc at the crossing is on it
+-- a circle of a pairing, a smoothing of the crossing and what a state joins after it is touched where an arc at the crossing is on it
 abbrev pub is_touched_at : Code → ℕ → ℕ → ℕ → List (ℕ × ℕ) → ℕ → Bool
 is_touched_at code k smoothing state m circle =
     list_any
@@ -22,7 +23,7 @@ abbrev pub touched_at : Code → ℕ → ℕ → ℕ → List (ℕ × ℕ) → L
 touched_at code k smoothing state m =
     filter (is_touched_at code k smoothing state m) (circles_before code k smoothing state m)
 
--- every circle that is not touched has the same label behind the edge
+-- every circle that is not touched has the same label after the edge
 abbrev pub keeps_labels_at : Code → ℕ → ℕ → List (ℕ × ℕ) → (ℕ → ℕ) → (ℕ → ℕ) → Bool
 keeps_labels_at code k state m label other_label =
     list_all (λ circle. is_touched_at code k 0 state m circle || nat_eq (label circle) (other_label circle))
@@ -59,26 +60,26 @@ abbrev pub MergesOrSplitsAt : Code → ℕ → ℕ → List (ℕ × ℕ) → Typ
 MergesOrSplitsAt code k state m =
     (kept : ℕ) × (gone : ℕ) × (TwoBecomeOneAt code k state m 0 1 kept gone ⊎ TwoBecomeOneAt code k state m 1 0 kept gone)
 
--- a pairing of the open arcs behind the first k crossings of a code, where another crossing comes
+-- a pairing of the open arcs after the first k crossings of a code, where another crossing comes
 pub record IsPairedAt (code : Code) (k : ℕ) (m : List (ℕ × ℕ)) : Type 0 where
   pub twice : HasArcsTwice code.crossings
   pub crossing : k < length code.crossings
-  pub paired : IsPaired (points_at code k).opened m
+  pub paired : IsPairingOf (points_at code k).opened m
 
 -- the labels are 0 for v+ and 1 for v-
 pub record AreBits (label other_label : ℕ → ℕ) : Type 0 where
   pub first_bit : (x : ℕ) → label x < 2
   pub second_bit : (x : ℕ) → other_label x < 2
 
--- the marks at the circles behind an edge: v+ is marked
+-- the marks at the circles after an edge: v+ is marked
 abbrev pub opposite : (ℕ → ℕ) → ℕ → ℕ
 opposite label x = 1 - label x
 
--- the pairing that a state makes of the open arcs behind the first k crossings: one crossing after another is added with its smoothing
+-- the pairing that a state makes of the open arcs after the first k crossings: one crossing after another is added with its smoothing
 abbrev pub pairing_of : Code → ℕ → ℕ → List (ℕ × ℕ)
 pairing_of code state zero = []
 pairing_of code state (suc k) = pairing_behind code k (bit state k) (pairing_of code state k)
 
--- the circle of an arc in this pairing and what the state joins behind
+-- the circle of an arc in this pairing and what the state joins at the crossings still to come
 abbrev pub circle_with : Code → ℕ → List (ℕ × ℕ) → ℕ → ℕ → ℕ
-circle_with code state m k x = slice_index (classes_of (points_at code k).size (m ++ outer_smoothings code state k)) x
+circle_with code state m k x = slice_index (classes_of (points_at code k).size (m ++ outer_smoothings code.crossings state k)) x

@@ -11,9 +11,10 @@ ghost use Rattle.kh_types.specs.Code.{Code};
 ghost use Rattle.kh_types.specs.Darts.{HasArcsTwice};
 ghost use Rattle.dotted_surfaces.specs.Surfaces.{IsClosed, value};
 ghost use Rattle.dotted_surfaces.specs.Points.{AreAmong, least_points};
-ghost use Rattle.added_crossings.specs.Pairings.{IsPaired, marked_by};
+ghost use Rattle.tangle_surfaces.specs.CutCodes.{outer_smoothings};
+ghost use Rattle.added_crossings.specs.Pairings.{IsPairingOf, marked_by};
 ghost use Rattle.added_crossings.specs.Steps.{those, IsNewPairing};
-ghost use Rattle.added_crossings.specs.Codes.{points_at, step_at, smoothing_at, outer_smoothings, pairing_behind, circles_behind, circle_behind, closed_at, circles_before, circle_before, sheet_at, outside_at, added_at, saddle_sheet, saddle_added, AreLabelled, IsLabelled, discs_behind, AreClosed, sum_over_dots};
+ghost use Rattle.added_crossings.specs.Codes.{points_at, step_at, smoothing_at, pairing_behind, circles_behind, circle_behind, closed_at, circles_before, circle_before, sheet_at, outside_at, added_at, saddle_sheet, saddle_added, AreLabelled, IsLabelled, discs_behind, AreClosed, sum_over_dots};
 ghost use Rattle.added_crossings.specs.Saddles.{edge_at, MergesOrSplitsAt, IsPairedAt, AreBits, opposite, pairing_of, circle_with};
 ghost use Rattle.kh_types.specs.Products.{sum_below};
 ghost use Rattle.added_crossings.specs.Entries.{entry_sheet, entry_at, added_surface, saddle_surface, label_before, closed_label, label_behind, ArePairedAt, AreEntriesClosed};
@@ -24,7 +25,7 @@ ghost use Rattle.added_crossings.specs.Labels.{label_at, number_of};
 /// discs of the new pairings, of what the crossing adds, where the dots are not, times the surface
 /// outside, where they are.
 pub fn crossings_add_up()
-    ensures sum { (code : Code) (k state : ℕ) (m n : List (ℕ × ℕ)) (dots label other_label : ℕ → ℕ)
+    ensures { (code : Code) (k state : ℕ) (m n : List (ℕ × ℕ)) (dots label other_label : ℕ → ℕ)
         → AreLabelled code k state m n label other_label
         → AreClosed
         (outside_at code k state (pairing_behind code k (bit state k) m) (pairing_behind code k (bit state k) n) label other_label)
@@ -33,29 +34,18 @@ pub fn crossings_add_up()
         (outside_at code k state (pairing_behind code k (bit state k) m) (pairing_behind code k (bit state k) n) label other_label)
         (added_at code k (bit state k) m n dots label other_label) (discs_behind code k (bit state k) (bit state k) m n)
         ≡ value (sheet_at code k state m n dots label other_label) }
-    ensures closed { (code : Code) (k state : ℕ) (m n : List (ℕ × ℕ)) (dots label other_label : ℕ → ℕ)
-        → AreLabelled code k state m n label other_label
-        → AreClosed
-        (outside_at code k state (pairing_behind code k (bit state k) m) (pairing_behind code k (bit state k) n) label other_label)
-        (added_at code k (bit state k) m n dots label other_label) (discs_behind code k (bit state k) (bit state k) m n)
-        → IsClosed (sheet_at code k state m n dots label other_label) }
 {}
 
 /// The saddle at the crossing, from its 0-smoothing to its 1-smoothing: its surface is the sum, over
 /// the dots on the discs of the new pairings, of what it adds times the surface outside.
 pub fn saddles_add_up()
-    ensures sum { (code : Code) (k state : ℕ) (m : List (ℕ × ℕ)) (label other_label : ℕ → ℕ)
+    ensures { (code : Code) (k state : ℕ) (m : List (ℕ × ℕ)) (label other_label : ℕ → ℕ)
         → IsLabelled code k state m label other_label
         → AreClosed (outside_at code k state (pairing_behind code k 0 m) (pairing_behind code k 1 m) label other_label)
         (saddle_added code k m label other_label) (discs_behind code k 0 1 m m)
         → sum_over_dots (outside_at code k state (pairing_behind code k 0 m) (pairing_behind code k 1 m) label other_label)
         (saddle_added code k m label other_label) (discs_behind code k 0 1 m m)
         ≡ value (saddle_sheet code k state m label other_label) }
-    ensures closed { (code : Code) (k state : ℕ) (m : List (ℕ × ℕ)) (label other_label : ℕ → ℕ)
-        → IsLabelled code k state m label other_label
-        → AreClosed (outside_at code k state (pairing_behind code k 0 m) (pairing_behind code k 1 m) label other_label)
-        (saddle_added code k m label other_label) (discs_behind code k 0 1 m m)
-        → IsClosed (saddle_sheet code k state m label other_label) }
 {}
 
 /// Where two circles become one, or one becomes two, the number of the saddle's surface is the
@@ -76,33 +66,23 @@ pub fn saddles_are_edges()
         ≡ edge_at code k state m label other_label }
 {}
 
-/// Behind one crossing more a pairing of the open arcs has become one of those that are open then:
+/// After one crossing more a pairing of the open arcs has become one of those that are open then:
 /// each of them is an end of exactly one pair.
 pub fn pairings_stay_pairings()
     ensures paired { (code : Code) (k smoothing : ℕ) (m : List (ℕ × ℕ)) → HasArcsTwice code.crossings → k < length code.crossings
-        → IsPaired (points_at code k).opened m → IsPaired (points_at code (k + 1)).opened (pairing_behind code k smoothing m) }
+        → IsPairingOf (points_at code k).opened m → IsPairingOf (points_at code (k + 1)).opened (pairing_behind code k smoothing m) }
     ensures joins { (code : Code) (k smoothing : ℕ) (m : List (ℕ × ℕ)) → HasArcsTwice code.crossings → k < length code.crossings
         → AreAmong (points_at code k).opened m
         → IsNewPairing (step_at code k) (m ++ smoothing_at code k smoothing) (pairing_behind code k smoothing m) }
 {}
 
-/// The circles of a pairing at a state are those of the new pairing and the closed ones: as many, each
-/// on an old circle, no two on one; so sums over them are the same. Arcs that stay alive are together
-/// where they were.
+/// The circles of a pairing at a state are those of the new pairing and the closed ones: they are as
+/// many, and sums over them are the same. Arcs that stay alive are together where they were.
 pub fn circles_stay_circles()
     ensures count { (code : Code) (k smoothing state : ℕ) (m : List (ℕ × ℕ)) → HasArcsTwice code.crossings
         → k < length code.crossings → AreAmong (points_at code k).opened m
         → length (circles_behind code k smoothing state m) + length (closed_at code k smoothing m)
         ≡ length (circles_before code k smoothing state m) }
-    ensures on { (code : Code) (k smoothing state : ℕ) (m : List (ℕ × ℕ)) (x : ℕ) → HasArcsTwice code.crossings
-        → k < length code.crossings → AreAmong (points_at code k).opened m
-        → Contains (circles_behind code k smoothing state m ++ closed_at code k smoothing m) x
-        → Contains (circles_before code k smoothing state m) (circle_before code k smoothing state m x) }
-    ensures apart { (code : Code) (k smoothing state : ℕ) (m : List (ℕ × ℕ)) (x y : ℕ) → HasArcsTwice code.crossings
-        → k < length code.crossings → AreAmong (points_at code k).opened m
-        → Contains (circles_behind code k smoothing state m ++ closed_at code k smoothing m) x
-        → Contains (circles_behind code k smoothing state m ++ closed_at code k smoothing m) y
-        → circle_before code k smoothing state m x ≡ circle_before code k smoothing state m y → x ≡ y }
     ensures together { (code : Code) (k smoothing state : ℕ) (m : List (ℕ × ℕ)) (x y : ℕ) → HasArcsTwice code.crossings
         → k < length code.crossings → AreAmong (points_at code k).opened m → Contains (points_at code (k + 1)).alive x
         → Contains (points_at code (k + 1)).alive y
@@ -110,27 +90,19 @@ pub fn circles_stay_circles()
         ↔ (circle_before code k smoothing state m x ≡ circle_before code k smoothing state m y) }
     ensures sum { (code : Code) (k smoothing state : ℕ) (m : List (ℕ × ℕ)) (f : ℕ → ℕ) → HasArcsTwice code.crossings
         → k < length code.crossings → AreAmong (points_at code k).opened m
-        → Respects f ((m ++ smoothing_at code k smoothing) ++ outer_smoothings code state (k + 1))
+        → Respects f ((m ++ smoothing_at code k smoothing) ++ outer_smoothings code.crossings state (k + 1))
         → sum_by f (circles_behind code k smoothing state m) + sum_by f (closed_at code k smoothing m)
         ≡ sum_by f (circles_before code k smoothing state m) }
 {}
 
-/// A state makes a pairing of the open arcs, whose circles are those of the whole state. In an
-/// accepted code the edge at the next crossing merges or splits them: the saddle's number is the
-/// edge's coefficient.
+/// A state makes a pairing of the open arcs, whose circles are those of the whole state.
 pub fn states_make_pairings()
     ensures paired { (code : Code) (state k : ℕ) → HasArcsTwice code.crossings → k ≤ length code.crossings
-        → IsPaired (points_at code k).opened (pairing_of code state k) }
+        → IsPairingOf (points_at code k).opened (pairing_of code state k) }
     ensures circles { (code : Code) (state k x y : ℕ) → HasArcsTwice code.crossings → k ≤ length code.crossings
         → Contains (points_at code k).alive x → Contains (points_at code k).alive y
         → (circle_with code state (pairing_of code state k) k x ≡ circle_with code state (pairing_of code state k) k y)
         ↔ (circle_of (circles_of code state) x ≡ circle_of (circles_of code state) y) }
-    ensures edges { (code : Code) (state k : ℕ) → IsTrue (accepted code) → k < length code.crossings → bit state k ≡ 0
-        → MergesOrSplitsAt code k state (pairing_of code state k) }
-    ensures coefficient { (code : Code) (state k : ℕ) (label other_label : ℕ → ℕ) → IsTrue (accepted code)
-        → k < length code.crossings → bit state k ≡ 0 → AreBits label other_label
-        → value (saddle_sheet code k state (pairing_of code state k) label (opposite other_label))
-        ≡ edge_at code k state (pairing_of code state k) label other_label }
 {}
 
 /// Labels as numbers and as functions of arcs are the same: a number's bits are the values of a function
@@ -151,9 +123,9 @@ pub fn labels_are_functions()
         → number_of label circles < 2 ^ length circles }
 {}
 
-/// An entry behind the first k crossings, and the coefficient of an edge at the next one, are sums
+/// An entry after the first k crossings, and the coefficient of an edge at the next one, are sums
 /// over the dot sets on the new discs: of what the crossing adds, with the labels of the closed
-/// circles, times the dot set's entry behind one crossing more, with the other labels.
+/// circles, times the dot set's entry after one crossing more, with the other labels.
 pub fn entries_add_up()
     ensures terms { (code : Code) (k state : ℕ) (m n : List (ℕ × ℕ)) (dots label other : ℕ) → ArePairedAt code k m n
         → AreEntriesClosed
@@ -183,15 +155,9 @@ pub fn entries_add_up()
 {}
 
 /// The labels of the circles before a crossing are split into those of the closed circles and those of
-/// the circles behind: both are labels, and together they determine them.
+/// the circles after it: both are labels of as many circles.
 pub fn labels_split()
-    ensures below { (code : Code) (k smoothing state number : ℕ) (m : List (ℕ × ℕ))
+    ensures { (code : Code) (k smoothing state number : ℕ) (m : List (ℕ × ℕ))
         → (closed_label code k smoothing state m number < 2 ^ length (closed_at code k smoothing m))
         × (label_behind code k smoothing state m number < 2 ^ length (circles_behind code k smoothing state m)) }
-    ensures determined { (code : Code) (k smoothing state : ℕ) (m : List (ℕ × ℕ)) (number other : ℕ) → HasArcsTwice code.crossings
-        → k < length code.crossings → AreAmong (points_at code k).opened m
-        → number < 2 ^ length (circles_before code k smoothing state m)
-        → other < 2 ^ length (circles_before code k smoothing state m)
-        → closed_label code k smoothing state m number ≡ closed_label code k smoothing state m other
-        → label_behind code k smoothing state m number ≡ label_behind code k smoothing state m other → number ≡ other }
 {}

@@ -2,12 +2,13 @@
 
 ghost use Rattle.std.specs.Prelude.{◌≡◌, [], ◌∷◌, map};
 ghost use Rattle.kh_types.specs.WorkedCodes.{curl, hopf_link, one_loop, trefoil};
+ghost use Rattle.dotted_surfaces.specs.Surfaces.{HasGenus};
 ghost use Rattle.added_crossings.specs.Codes.{circles_before, closed_at, discs_behind, pairing_behind, points_at};
-ghost use Rattle.added_crossings.specs.Entries.{closed_label, label_behind};
+ghost use Rattle.added_crossings.specs.Entries.{closed_label, label_behind, saddle_surface};
 ghost use Rattle.added_crossings.specs.Saddles.{pairing_of};
 ghost use Rattle.added_crossings.specs.Worked.{edges_to, entries_from, first_saddle, labels_of_two, merging_to, one_pairs, splitting_from, zero_pairs};
 
-/// Behind the trefoil's first crossing its four arcs are open; behind the second, at which arcs 1
+/// After the trefoil's first crossing its four arcs are open; after the second, at which arcs 1
 /// and 4 end, four others are. A loop stays alive, and is never open.
 pub fn open_arcs()
     ensures none { (points_at trefoil 0).opened ≡ [] }
@@ -20,7 +21,8 @@ pub fn open_arcs()
 {}
 
 /// The Hopf link's first crossing pairs four arcs in two ways and closes nothing. Both pairings
-/// together make one disc, and the saddle is this disc without a dot.
+/// together make one disc, and the saddle is this disc without a dot: a sphere by its two half strips
+/// at the crossing, and by those that the open arcs take back.
 pub fn first_crossing()
     ensures zero { pairing_behind hopf_link 0 0 [] ≡ zero_pairs }
     ensures one { pairing_behind hopf_link 0 1 [] ≡ one_pairs }
@@ -28,10 +30,12 @@ pub fn first_crossing()
     ensures closed_one { closed_at hopf_link 0 1 [] ≡ [] }
     ensures discs { discs_behind hopf_link 0 0 1 [] [] ≡ 1 ∷ [] }
     ensures saddle { first_saddle ≡ 1 ∷ 0 ∷ [] }
+    ensures sphere { HasGenus (saddle_surface hopf_link 0 [] 0 0 0) 1 0 }
 {}
 
 /// At the second crossing the 0-smoothing closes two circles of the first pairing, and the
-/// 1-smoothing one: the saddle's numbers are the merge table, and so are the edge's coefficients.
+/// 1-smoothing one: the saddle's numbers are the merge table, and so are the edge's coefficients. With
+/// its five faces and three strips the saddle is a sphere.
 pub fn second_crossing_merges()
     ensures two { closed_at hopf_link 1 0 zero_pairs ≡ 1 ∷ 2 ∷ [] }
     ensures one { closed_at hopf_link 1 1 zero_pairs ≡ 1 ∷ [] }
@@ -40,6 +44,7 @@ pub fn second_crossing_merges()
     ensures to_minus { merging_to 1 ≡ 0 ∷ 1 ∷ 1 ∷ 0 ∷ [] }
     ensures edge_plus { edges_to 0 ≡ 1 ∷ 0 ∷ 0 ∷ 0 ∷ [] }
     ensures edge_minus { edges_to 1 ≡ 0 ∷ 1 ∷ 1 ∷ 0 ∷ [] }
+    ensures sphere { HasGenus (saddle_surface hopf_link 1 zero_pairs 0 0 0) 1 0 }
 {}
 
 /// Of the other pairing it closes one circle, and then two: the numbers are the split table.
@@ -59,7 +64,7 @@ pub fn entries_between()
 {}
 
 /// A curl closes two circles, or one. All labels are those of closed circles: none is left for
-/// circles behind.
+/// circles after it.
 pub fn curls_close_circles()
     ensures circles { circles_before curl 0 0 0 [] ≡ 1 ∷ 2 ∷ [] }
     ensures zero { closed_at curl 0 0 [] ≡ 1 ∷ 2 ∷ [] }

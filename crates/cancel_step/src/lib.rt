@@ -26,7 +26,6 @@ mod updating;
 pub use applying::{apply, apply_fitting, cancel_in_place, cancel_with};
 pub use copying::{Look, copy};
 pub use finishing::finish;
-pub use line_pairs::subtract_into;
 pub use patched::Patch;
 pub use pivot::{Foreign, Pivot};
 pub use reducing::{Reduced, reduce};

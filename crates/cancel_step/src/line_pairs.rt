@@ -14,7 +14,7 @@ use prime_field::{PrimeField, difference};
 use sparse_block::Entry;
 
 /// Makes the entries of a line less a multiple of another line.
-pub fn subtract_into<F: PrimeField>(
+pub(crate) fn subtract_into<F: PrimeField>(
     made: &mut Vec<Entry>,
     line: &[Entry],
     factor: F,

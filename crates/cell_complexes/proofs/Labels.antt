@@ -1,6 +1,6 @@
 -- Labels as numbers, whose bits stand at the places of names in their list; and the label that a label is for the same names in another
 -- list.
-use Rattle.std.proofs.Common.{◌≡◌, ℕ, suc, ◌+◌, ◌*◌, ◌/◌, ◌^◌, ◌<◌, ◌≤◌, ◌∙◌, List, [], ◌∷◌, ◌++◌, length, get_or, map, sym, subst, ap, arith, refl, Bool, ◌&&◌}
+use Rattle.std.proofs.Common.{◌≡◌, ℕ, suc, ◌+◌, ◌*◌, ◌/◌, ◌^◌, ◌<◌, ◌≤◌, ◌∙◌, List, [], ◌∷◌, ◌++◌, length, get_or, map, sym, subst, ap, arith, refl, ◌&&◌}
 use Rattle.std.specs.Prelude.{nat_eq}
 use Rattle.std.specs.List.{position_or_len, sum_by, list_all}
 use Rattle.std.proofs.lemmas.List.{get_or_default, get_or-map, length-map}

@@ -73,12 +73,12 @@ cell-of layers object x has =
     })
 
 -- a cell of objects of which two are none
-record IsCellBeside (layers : Layers) (tail head : ℕ) (x : Layer) : Type 0 where
-  no_tail : x.object ≢ tail
-  no_head : x.object ≢ head
-  state : x.state < layers.states
+pub record IsCellBeside (layers : Layers) (tail head : ℕ) (x : Layer) : Type 0 where
+  pub no_tail : x.object ≢ tail
+  pub no_head : x.object ≢ head
+  pub state : x.state < layers.states
 
-cell-beside : (layers : Layers) (tail head : ℕ) (rest : List ℕ) (x : Layer) → (Contains rest tail → ⊥) → (Contains rest head → ⊥)
+pub cell-beside : (layers : Layers) (tail head : ℕ) (rest : List ℕ) (x : Layer) → (Contains rest tail → ⊥) → (Contains rest head → ⊥)
     → Contains (flat_map (object_cells layers) rest) x → IsCellBeside layers tail head x
 cell-beside layers tail head rest x tail_gone head_gone has =
     let found = Contains-flattened (object_cells layers) rest x has in
@@ -92,30 +92,30 @@ cell-beside layers tail head rest x tail_gone head_gone has =
 module _ (p : ℕ) (layers : Layers) (tail head c : ℕ) (rest : List ℕ) (field : HasInverses p)
     (complex : AreComplex p (cells_of layers)) (listed : AreListed (λ (o : ℕ). o) layers.objects (tail ∷ head ∷ rest))
     (tail_gone : Contains rest tail → ⊥) (head_gone : Contains rest head → ⊥) (times : IsTimesIdentity layers tail head c) where
-  abbrev pair_of : ℕ → ℕ → Layer × Layer
+  abbrev pub pair_of : ℕ → ℕ → Layer × Layer
   pair_of state label = (layer_of tail state label, layer_of head state label)
 
-  abbrev pairs_at : ℕ → List (Layer × Layer)
+  abbrev pub pairs_at : ℕ → List (Layer × Layer)
   pairs_at state = map (pair_of state) (range_with_len 0 (layers.labels tail state))
 
-  abbrev pairs : List (Layer × Layer)
+  abbrev pub pairs : List (Layer × Layer)
   pairs = flat_map pairs_at (range_with_len 0 layers.states)
 
-  abbrev others : List Layer
+  abbrev pub others : List Layer
   others = flat_map (object_cells layers) rest
 
   positive : 0 < p
   positive = omega (arith, field.above_one)
 
   -- the pairs
-  record IsPairAt (pair : Layer × Layer) : Type 0 where
-    state : ℕ
-    label : ℕ
-    state_below : state < layers.states
-    label_below : label < layers.labels tail state
-    is : pair ≡ pair_of state label
+  pub record IsPairAt (pair : Layer × Layer) : Type 0 where
+    pub state : ℕ
+    pub label : ℕ
+    pub state_below : state < layers.states
+    pub label_below : label < layers.labels tail state
+    pub is : pair ≡ pair_of state label
 
-  pair-at : (pair : Layer × Layer) → Contains pairs pair → IsPairAt pair
+  pub pair-at : (pair : Layer × Layer) → Contains pairs pair → IsPairAt pair
   pair-at pair has =
       let by_state = Contains-flattened pairs_at (range_with_len 0 layers.states) pair has in
       let by_label = Contains-made (pair_of by_state.0) (range_with_len 0 (layers.labels tail by_state.0)) pair by_state.2 in
@@ -137,7 +137,7 @@ module _ (p : ℕ) (layers : Layers) (tail head c : ℕ) (rest : List ℕ) (fiel
       let y = Contains-made (pair_of t) (range_with_len 0 (layers.labels tail t)) pair second in
       ap (λ (q : Layer × Layer). q.0.state) (x.2 ∙ sym y.2))
 
-  pivots : ArePivots (layer_coefficient layers) pairs
+  pub pivots : ArePivots (layer_coefficient layers) pairs
   pivots =
       pivots-without_doubles (layer_coefficient layers) pairs once-pairs
       (λ pair has.
@@ -178,7 +178,7 @@ module _ (p : ℕ) (layers : Layers) (tail head c : ℕ) (rest : List ℕ) (fiel
       map-map (λ (q : Layer × Layer). q.1) (pair_of state) (range_with_len 0 (layers.labels tail state))
       ∙ ap (λ n. map (layer_of head state) (range_with_len 0 n)) (sym (times.labels state (omega (arith, below)))))
 
-  cells-listed : AreListed (λ (x : Layer). x) (flat_map (object_cells layers) layers.objects) (all_of pairs others)
+  pub cells-listed : AreListed (λ (x : Layer). x) (flat_map (object_cells layers) layers.objects) (all_of pairs others)
   cells-listed =
       subst (λ zs. AreListed (λ (x : Layer). x) (flat_map (object_cells layers) layers.objects) zs)
       (ap₂ (λ us vs. us ++ (vs ++ others)) (sym tails-listed) (sym heads-listed))
@@ -231,7 +231,7 @@ module _ (p : ℕ) (layers : Layers) (tail head c : ℕ) (rest : List ℕ) (fiel
       (λ state from below. sum_by-map (way_back p (layer_coefficient layers) x y) (pair_of state)
       (range_with_len 0 (layers.labels tail state)))
 
-  eliminated-layers : (x y : Layer) → IsCellBeside layers tail head x → IsCellBeside layers tail head y
+  pub eliminated-layers : (x y : Layer) → IsCellBeside layers tail head x → IsCellBeside layers tail head y
       → eliminated p (layer_coefficient layers) pairs x y ≡ layer_coefficient (layers_left p layers tail head c rest) x y
   eliminated-layers x y x_is y_is = elim (cases_eq x.state y.state) [
     | inl same ↦

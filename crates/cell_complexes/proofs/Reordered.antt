@@ -1,5 +1,5 @@
 -- Lists in another order: their elements and what is counted of them.
-use Rattle.std.proofs.Common.{◌≡◌, ℕ, ◌+◌, ◌∙◌, List, [], ◌∷◌, ◌++◌, length, map, refl, sym, subst, ap, arith, length-append, Bool, cond}
+use Rattle.std.proofs.Common.{◌≡◌, ℕ, ◌∙◌, List, [], ◌∷◌, ◌++◌, length, map, refl, sym, subst, ap, arith, length-append, Bool, cond}
 use Rattle.std.specs.List.{count_by, sum_by}
 use Rattle.std.proofs.lemmas.List.{map-append}
 use Rattle.std.proofs.lemmas.List.Sums.{sum_by-append, sum_by-cons}

@@ -17,7 +17,7 @@ use Rattle.added_crossings.specs.Steps.{Step, those, is_near, is_none_in, after,
 use Rattle.added_crossings.proofs.Members.{those-are, are-those}
 use Rattle.added_crossings.proofs.Pairs.{range-first}
 use Rattle.tangle_surfaces.specs.Orbits.{is_in, count_in}
-use Rattle.tangle_surfaces.specs.Pairings.{has_open, is_closed}
+use Rattle.tangle_surfaces.specs.Pairings.{has_open, is_closed_circle}
 
 abbrev pub on : List ℕ → ℕ → ℕ → ℕ
 on all name x = counted (is_in all name x)
@@ -87,7 +87,7 @@ pub on-closed : (step : Step) (kind : ℕ → Bool) (joins : List (ℕ × ℕ)) 
     → ((y : ℕ) → step.opened_next y ≡ kind y) → ((y : ℕ) → kind y ≡ true → 1 ≤ y)
     → ((x : ℕ) → 1 ≤ x → x < 1 + step.count → is_in all name x ≡ true → is_near step x ≡ true)
     → sum_by (on all name) (closed_circles step joins)
-    ≡ count_in (step.count + 1) all name (is_closed (step.count + 1) kind (classes_of (step.count + 1) joins))
+    ≡ count_in (step.count + 1) all name (is_closed_circle (step.count + 1) kind (classes_of (step.count + 1) joins))
 on-closed step kind joins all name none same positive near =
     let count = step.count in
     let classes = classes_of (count + 1) joins in
@@ -95,7 +95,7 @@ on-closed step kind joins all name none same positive near =
     let is_none : ℕ → Bool = is_none_in (after step).opened classes in
     ap (λ (xs : List ℕ). sum_by (on all name) (filter is_none xs)) (filter-filter (is_near step) least (range_with_len 1 count))
     ∙ ap (λ (xs : List ℕ). sum_by (on all name) xs) (filter-filter (λ x. is_near step x && least x) is_none (range_with_len 1 count))
-    ∙ on-those count (λ x. (is_near step x && least x) && is_none x) (is_closed (count + 1) kind classes) all name none
+    ∙ on-those count (λ x. (is_near step x && least x) && is_none x) (is_closed_circle (count + 1) kind classes) all name none
     (λ x above below there.
     closed-test (is_near step x) (least x) (is_none x) (has_open (count + 1) kind classes x) (near x above below there)
     (λ own. ap not (none-open count step.opened_next kind classes x same positive (eqb-true (slice_index classes x) x own))))

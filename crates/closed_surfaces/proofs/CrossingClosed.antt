@@ -23,15 +23,15 @@ use Rattle.added_crossings.proofs.Classes.{AreAmong-below}
 use Rattle.added_crossings.proofs.CodeSteps.{smoothing-among, count_of}
 use Rattle.added_crossings.proofs.CodeSums.{joins-near}
 use Rattle.tangle_surfaces.specs.Orbits.{count_in, parts_in}
-use Rattle.tangle_surfaces.specs.Surfaces.{Lead, components, is_disc, strips_in}
+use Rattle.tangle_surfaces.specs.Surfaces.{Lead, surface_components, is_disc, strips_in}
 use Rattle.tangle_surfaces.specs.CutCodes.{ends_there, starts_there}
-use Rattle.tangle_surfaces.specs.Pairings.{JoinOpen, JoinOpenAlone, is_closed}
+use Rattle.tangle_surfaces.specs.Pairings.{JoinOpen, JoinOpenAlone, is_closed_circle}
 use Rattle.tangle_surfaces.proofs.CutCodes.{ends-starts}
 use Rattle.tangle_surfaces.proofs.CutSurfaces.{IsSurface-through}
 use Rattle.tangle_surfaces.proofs.GluedCircles.{circles-glued}
 use Rattle.tangle_surfaces.proofs.LeadLemmas.{either}
 use Rattle.tangle_surfaces.proofs.PartCounts.{AreFiner}
-use Rattle.tangle_surfaces.proofs.SurfaceGenus.{HasGenus-surface, open-counted}
+use Rattle.tangle_surfaces.proofs.SurfaceGenus.{HaveWholeGenus-surface, open-counted}
 use Rattle.closed_surfaces.specs.Led.{IsLedAt}
 use Rattle.closed_surfaces.proofs.Counted.{on, on-those, on-least}
 use Rattle.closed_surfaces.proofs.Halves.{discs-half, open-twice}
@@ -90,7 +90,7 @@ crossing-euler : (code : Code) (choice k smoothing : ℕ) (m l : List (ℕ × �
     → IsColoured code.crossings choice → k < length code.crossings → IsLedAt code choice k m → IsLedAt code choice k l
     → HasEuler (step_at code k) (open_at code choice (k + 1)) (m ++ smoothing_at code k smoothing) (l ++ smoothing_at code k smoothing)
     (pairing_behind code k smoothing m ++ pairing_behind code k smoothing l) (discs (points_at code k) m l) (points_at code k).opened
-    (components (count_of code + 1) m l (smoothing_at code k smoothing ++ pairing_behind code k smoothing l))
+    (surface_components (count_of code + 1) m l (smoothing_at code k smoothing ++ pairing_behind code k smoothing l))
 crossing-euler code choice k smoothing m l twice coloured within m_led l_led = record {
   genus = λ name is own none.
       let n = count_of code + 1 in
@@ -106,7 +106,7 @@ crossing-euler code choice k smoothing m l twice coloured within m_led l_led = r
       let m_join = JoinOpen-behind code choice k smoothing m coloured twice within m_led.paired.among in
       let l_join = JoinOpen-behind code choice k smoothing l coloured twice within l_led.paired.among in
       let w = s ++ l_new in
-      let all = components n m l w in
+      let all = surface_components n m l w in
       let name_below : name < n = omega (arith, is.below) in
       let surface = IsSurface-through code choice k smoothing m l l_new coloured within m_led.leads l_led.leads after.leads in
       let s_below = smoothing-below code k smoothing twice within in
@@ -124,7 +124,7 @@ crossing-euler code choice k smoothing m l twice coloured within m_led l_led = r
       let alone = alone-lead n new_ends new_starts l_new after.leads in
       let one_side : (o o_new : List (ℕ × ℕ)) → AreBelow n o → Respects class o → JoinOpen n opened (classes_of n (o ++ s)) o_new
       → parts_in n all name (classes_of n (o ++ w))
-      ≡ count_in n all name (is_closed n opened (classes_of n (o ++ s)))
+      ≡ count_in n all name (is_closed_circle n opened (classes_of n (o ++ s)))
       + count_in n all name (λ x. opened x && is_least (classes_of n (o_new ++ l_new)) x) =
       λ o o_new o_below all_o join.
       let side_below = AreBelow-append n o s o_below s_below in
@@ -140,13 +140,13 @@ crossing-euler code choice k smoothing m l twice coloured within m_led l_led = r
       (λ x above below there. opens x) in
       let strip_count : sum_by (on all name) (points_at code k).opened ≡ count_in n all name (either ends starts) =
       on-those (count_of code) ((step_at code k).opened) (either ends starts) all name none (λ x above below there. opens x) in
-      let found = HasGenus-surface n ends starts m l w surface name name_below own in (
+      let found = HaveWholeGenus-surface n ends starts m l w surface name name_below own in (
         found.genus,
         euler (sum_by (on all name) (discs (points_at code k) m l)) (parts_in n all name (classes_of n (m ++ w)))
             (parts_in n all name (classes_of n (l ++ w))) found.genus (strips_in n ends m l w name)
-            (count_in n all name (is_closed n opened (classes_of n (m ++ s))))
+            (count_in n all name (is_closed_circle n opened (classes_of n (m ++ s))))
             (count_in n all name (λ x. opened x && is_least (classes_of n (m_new ++ l_new)) x))
-            (count_in n all name (is_closed n opened (classes_of n (l ++ s))))
+            (count_in n all name (is_closed_circle n opened (classes_of n (l ++ s))))
             (count_in n all name (λ x. opened x && is_least (classes_of n (l_new ++ l_new)) x)) (count_in n all name new_ends)
             (sum_by (on all name) (points_at code k).opened) (count_in n all name opened)
             (ap (λ d. (d + (parts_in n all name (classes_of n (m ++ w)) + parts_in n all name (classes_of n (l ++ w)))) + 2 * found.genus)
@@ -159,11 +159,11 @@ crossing-euler code choice k smoothing m l twice coloured within m_led l_led = r
 }
 
 -- its components are those of the sheet with the new pairing
-crossing-components : (code : Code) (choice k smoothing : ℕ) (m l : List (ℕ × ℕ)) → HasArcsTwice code.crossings
+crossing-surface_components : (code : Code) (choice k smoothing : ℕ) (m l : List (ℕ × ℕ)) → HasArcsTwice code.crossings
     → IsColoured code.crossings choice → k < length code.crossings → IsLedAt code choice k m → IsLedAt code choice k l
     → classes_of (count_of code + 1) ((m ++ smoothing_at code k smoothing) ++ (l ++ smoothing_at code k smoothing))
-    ≡ components (count_of code + 1) m l (smoothing_at code k smoothing ++ pairing_behind code k smoothing l)
-crossing-components code choice k smoothing m l twice coloured within m_led l_led =
+    ≡ surface_components (count_of code + 1) m l (smoothing_at code k smoothing ++ pairing_behind code k smoothing l)
+crossing-surface_components code choice k smoothing m l twice coloured within m_led l_led =
     let n = count_of code + 1 in
     let s = smoothing_at code k smoothing in
     let l_new = pairing_behind code k smoothing l in
@@ -200,7 +200,7 @@ crossing-closed code choice k smoothing m l faces twice coloured within m_led l_
     let s = smoothing_at code k smoothing in
     let l_new = pairing_behind code k smoothing l in
     near-closed (step_at code k) (open_at code choice (k + 1)) (m ++ s) (l ++ s) (pairing_behind code k smoothing m ++ l_new) faces
-    (discs (points_at code k) m l) (points_at code k).opened (components (count_of code + 1) m l (s ++ l_new))
+    (discs (points_at code k) m l) (points_at code k).opened (surface_components (count_of code + 1) m l (s ++ l_new))
     (IsNear-at code choice k smoothing smoothing m l twice coloured within m_led l_led) places
-    (crossing-components code choice k smoothing m l twice coloured within m_led l_led)
+    (crossing-surface_components code choice k smoothing m l twice coloured within m_led l_led)
     (crossing-euler code choice k smoothing m l twice coloured within m_led l_led)

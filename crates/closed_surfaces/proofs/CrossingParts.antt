@@ -1,22 +1,19 @@
--- Both parts of a code that is cut behind a crossing are closed: by marks of arcs, and by numbers.
-use Rattle.std.proofs.Common.{◌≡◌, ℕ, ◌+◌, ◌<◌, ◌∙◌, List, ◌++◌, length, map, IsTrue, ap, ap₂, arith}
+-- Both parts of a code that is cut after a crossing are closed: by marks of arcs, and by numbers.
+use Rattle.std.proofs.Common.{◌≡◌, ℕ, ◌+◌, ◌<◌, ◌∙◌, List, ◌++◌, length, map, IsTrue, ap₂, arith}
 use Rattle.std.proofs.lemmas.List.{map-append}
 use Rattle.kh_types.specs.Acceptance.{accepted}
 use Rattle.kh_types.specs.Code.{Code}
 use Rattle.kh_types.specs.Colours.{IsColoured}
 use Rattle.kh_types.proofs.AcceptedLemmas.{HasArcsTwice-accepted}
 use Rattle.dotted_surfaces.specs.Surfaces.{IsClosed}
-use Rattle.dotted_surfaces.specs.Cuts.{second_caps}
-use Rattle.dotted_surfaces.specs.Overlays.{at_places}
 use Rattle.dotted_surfaces.proofs.OneCut.{place_of_face}
-use Rattle.dotted_maps.proofs.Sheets.{places-marked, places-marked_else, second_caps-marked, places-three}
+use Rattle.dotted_maps.proofs.Sheets.{places-marked, places-marked_else, places-three}
 use Rattle.dotted_surfaces.specs.Points.{discs}
-use Rattle.added_crossings.specs.Pairings.{marked_by}
-use Rattle.added_crossings.specs.Codes.{points_at, pairing_behind, closed_at, outside_at, added_at, discs_behind, AreClosed}
+use Rattle.added_crossings.specs.Codes.{points_at, pairing_behind, closed_at, discs_behind}
 use Rattle.added_crossings.specs.Entries.{entry_sheet, added_surface, AreEntriesClosed}
 use Rattle.dotted_surfaces.specs.Sheets.{marked, marked_else}
 use Rattle.closed_surfaces.specs.Led.{IsLedAt}
-use Rattle.closed_surfaces.proofs.CodeSheets.{places-marked_by, outside-closed, entry-closed}
+use Rattle.closed_surfaces.proofs.CodeSheets.{entry-closed}
 use Rattle.closed_surfaces.proofs.CrossingClosed.{crossing-closed}
 use Rattle.closed_surfaces.proofs.LedPairings.{led-next}
 
@@ -25,33 +22,6 @@ pub places-four : (ws xs ys zs : List (ℕ × ℕ)) (a b c d : List ℕ) → map
 places-four ws xs ys zs a b c d is_a is_b is_c is_d =
     map-append place_of_face ws (xs ++ (ys ++ zs))
     ∙ ap₂ (λ (us vs : List ℕ). us ++ vs) is_a (places-three xs ys zs b c d is_b is_c is_d)
-
-pub places-second : (xs : List ℕ) → map place_of_face (second_caps (at_places xs) 0) ≡ xs
-places-second xs = ap (λ (faces : List (ℕ × ℕ)). map place_of_face faces) (second_caps-marked 0 xs) ∙ places-marked_else 0 xs
-
-pub parts-closed : (code : Code) (choice k state smoothing : ℕ) (m n : List (ℕ × ℕ)) (dots label other_label : ℕ → ℕ)
-    → IsTrue (accepted code) → IsColoured code.crossings choice → k < length code.crossings → IsLedAt code choice k m
-    → IsLedAt code choice k n
-    → AreClosed (outside_at code k state (pairing_behind code k smoothing m) (pairing_behind code k smoothing n) label other_label)
-    (added_at code k smoothing m n dots label other_label) (discs_behind code k smoothing smoothing m n)
-parts-closed code choice k state smoothing m n dots label other_label is coloured within first second =
-    let twice = HasArcsTwice-accepted code is in
-    let hats = discs_behind code k smoothing smoothing m n in
-    let inside = discs (points_at code k) m n in
-    let closed = closed_at code k smoothing m in
-    let other_closed = closed_at code k smoothing n in
-    record {
-      first_closed = outside-closed code choice k state (pairing_behind code k smoothing m) (pairing_behind code k smoothing n) label
-          other_label is coloured within (led-next code choice k smoothing m coloured twice within first)
-          (led-next code choice k smoothing n coloured twice within second);
-      second_closed = crossing-closed code choice k smoothing m n
-          (second_caps (at_places hats) 0 ++ (marked_by dots inside ++ (marked_by label closed ++ marked_by other_label other_closed)))
-          twice coloured within first second
-          (places-four (second_caps (at_places hats) 0) (marked_by dots inside) (marked_by label closed)
-          (marked_by other_label other_closed)
-          hats inside closed other_closed (places-second hats) (places-marked_by dots inside) (places-marked_by label closed)
-          (places-marked_by other_label other_closed));
-    }
 
 pub term-closed : (code : Code) (choice k smoothing : ℕ) (m n : List (ℕ × ℕ)) (dots closed other_closed kept : ℕ)
     → IsTrue (accepted code) → IsColoured code.crossings choice → k < length code.crossings → IsLedAt code choice k m

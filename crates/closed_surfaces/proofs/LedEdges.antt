@@ -1,6 +1,6 @@
 -- At a pairing that leads from ends to starts the edge at the next crossing merges or splits circles.
 --
--- The two smoothings of the crossing lead its ends to its starts in both ways, and the pairing with the crossings behind leads the starts
+-- The two smoothings of the crossing lead its ends to its starts in both ways, and the pairing with the crossings still to come leads the starts
 -- back to the ends (`Lead-around`). So the classes with one smoothing come from those with the other by joining two, one way or the other
 -- (`saddle-joined`). The colour of the crossing says at which slots its ends are; in either case the classes of the slots 0 and 2 are those
 -- two (`led-merged`), which is what the record of names and touched circles asks (`become-one`).
@@ -18,7 +18,8 @@ use Rattle.kh_types.proofs.Lists.{AllByRecursion-second}
 use Rattle.kh_types.proofs.JoinedSlots.{arc_at-slot}
 use Rattle.kh_types.proofs.ClassLemmas.{Respects-append, Respects-first, Respects-second, AreBelow-append}
 use Rattle.kh_types.proofs.BitLemmas.{bit-cases}
-use Rattle.added_crossings.specs.Codes.{is_alive, smoothing_at, outer_smoothings}
+use Rattle.tangle_surfaces.specs.CutCodes.{outer_smoothings}
+use Rattle.added_crossings.specs.Codes.{is_alive, smoothing_at}
 use Rattle.added_crossings.specs.Saddles.{MergesOrSplitsAt, IsPairedAt}
 use Rattle.added_crossings.proofs.Classes.{AreAmong-below}
 use Rattle.added_crossings.proofs.Members.{IsOneOf}
@@ -105,12 +106,12 @@ one-turned code k = record { joins = λ g respects. (respects.1.0, sym respects.
 -- the classes at a pairing, with the smoothing first
 with-first : (code : Code) (choice k state smoothing : ℕ) (m : List (ℕ × ℕ)) → IsTrue (accepted code) → k < length code.crossings
     → IsLedAt code choice k m → IsPairedAt code k m
-    → classes_of (count_of code + 1) (smoothing_at code k smoothing ++ (m ++ outer_smoothings code state (k + 1)))
+    → classes_of (count_of code + 1) (smoothing_at code k smoothing ++ (m ++ outer_smoothings code.crossings state (k + 1)))
     ≡ classes_with code k state m smoothing
 with-first code choice k state smoothing m is within led at =
     let n = count_of code + 1 in
     let s = smoothing_at code k smoothing in
-    let w = outer_smoothings code state (k + 1) in
+    let w = outer_smoothings code.crossings state (k + 1) in
     let all_below = AreAmong-below (count_of code) (is_alive code k) (joins_with code k state m smoothing)
     (joins-alive code k state smoothing m at) in
     let w_below = AreBelow-second n (m ++ s) w all_below in
@@ -159,7 +160,7 @@ edge-at_slots code choice k state u v r t a b c d m is next ends starts led at a
     let twice = HasArcsTwice-accepted code is in
     let s = smoothing_at code k 0 in
     let o = smoothing_at code k 1 in
-    let w = m ++ outer_smoothings code state (k + 1) in
+    let w = m ++ outer_smoothings code.crossings state (k + 1) in
     let crossings = code.crossings in
     let au = arc_at crossings u in
     let ar = arc_at crossings r in

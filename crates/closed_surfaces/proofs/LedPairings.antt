@@ -14,7 +14,7 @@ use Rattle.added_crossings.proofs.CodeSums.{joins-near}
 use Rattle.added_crossings.proofs.CodeSteps.{IsStep-at, count_of}
 use Rattle.added_crossings.proofs.Members.{those-are, are-those}
 use Rattle.added_crossings.proofs.NewPairing.{IsPair, pairs-are, IsNewPairing-made}
-use Rattle.added_crossings.proofs.Pairs.{IsPaired-behind}
+use Rattle.added_crossings.proofs.Pairs.{IsPairingOf-behind}
 use Rattle.tangle_surfaces.specs.CutCodes.{ends_there, starts_there}
 use Rattle.tangle_surfaces.specs.Pairings.{JoinOpen}
 use Rattle.tangle_surfaces.proofs.CutSteps.{Lead-more}
@@ -64,5 +64,5 @@ pub led-next : (code : Code) (choice k smoothing : ℕ) (m : List (ℕ × ℕ)) 
 led-next code choice k smoothing m coloured twice within led = record {
   leads = Lead-more code choice k smoothing m (pairing_behind code k smoothing m) coloured within led.leads
       (JoinOpen-behind code choice k smoothing m coloured twice within led.paired.among);
-  paired = IsPaired-behind code k smoothing m twice within led.paired;
+  paired = IsPairingOf-behind code k smoothing m twice within led.paired;
 }

@@ -1,43 +1,21 @@
 -- The sums over dots, for pairings that lead from ends to starts.
-use Rattle.std.proofs.Common.{◌≡◌, ℕ, ◌+◌, ◌*◌, ◌^◌, ◌<◌, ◌∙◌, List, ◌++◌, length, IsTrue}
+use Rattle.std.proofs.Common.{◌≡◌, ℕ, ◌+◌, ◌*◌, ◌^◌, ◌<◌, List, length, IsTrue}
 use Rattle.kh_types.specs.Acceptance.{accepted}
 use Rattle.kh_types.specs.Bits.{bit}
-use Rattle.kh_types.specs.Classes.{Respects}
 use Rattle.kh_types.specs.Code.{Code}
 use Rattle.kh_types.specs.Colours.{IsColoured}
 use Rattle.kh_types.specs.Products.{sum_below}
 use Rattle.kh_types.proofs.AcceptedLemmas.{HasArcsTwice-accepted}
 use Rattle.dotted_surfaces.specs.Surfaces.{value}
-use Rattle.added_crossings.specs.Codes.{smoothing_at, outer_smoothings, pairing_behind, sheet_at, outside_at, added_at, saddle_sheet, saddle_added, discs_behind, sum_over_dots}
+use Rattle.added_crossings.specs.Codes.{pairing_behind, saddle_sheet, discs_behind}
 use Rattle.added_crossings.specs.Entries.{entry_at, added_surface, saddle_surface, label_before, closed_label, label_behind}
 use Rattle.added_crossings.specs.Saddles.{edge_at, IsPairedAt, AreBits, opposite}
-use Rattle.added_crossings.proofs.CodeSums.{sum-crossing, sum-saddle}
 use Rattle.added_crossings.proofs.Entries.{entries-add_up, saddle-adds_up}
 use Rattle.added_crossings.proofs.SaddleValues.{value-saddle}
 use Rattle.closed_surfaces.specs.Led.{IsLedAt}
-use Rattle.closed_surfaces.proofs.CrossingParts.{parts-closed, entries-closed}
+use Rattle.closed_surfaces.proofs.CrossingParts.{entries-closed}
 use Rattle.closed_surfaces.proofs.LedEdges.{led-edges}
-use Rattle.closed_surfaces.proofs.SaddleClosed.{saddle_parts-closed, saddle_entries-closed}
-
-pub led-crossing_sum : (code : Code) (choice k state : ℕ) (m n : List (ℕ × ℕ)) (dots label other_label : ℕ → ℕ)
-    → IsTrue (accepted code) → IsColoured code.crossings choice → k < length code.crossings → IsLedAt code choice k m
-    → IsLedAt code choice k n → Respects label (m ++ outer_smoothings code state k)
-    → Respects other_label (n ++ outer_smoothings code state k)
-    → sum_over_dots
-    (outside_at code k state (pairing_behind code k (bit state k) m) (pairing_behind code k (bit state k) n) label other_label)
-    (added_at code k (bit state k) m n dots label other_label) (discs_behind code k (bit state k) (bit state k) m n)
-    ≡ value (sheet_at code k state m n dots label other_label)
-led-crossing_sum code choice k state m n dots label other_label is coloured within first second label_is other_is =
-    sum-crossing code k state m n dots label other_label
-    record {
-      twice = HasArcsTwice-accepted code is;
-      crossing = within;
-      first = first.paired.among;
-      second = second.paired.among;
-      first_label = label_is;
-      second_label = other_is;
-    }
-    (parts-closed code choice k state (bit state k) m n dots label other_label is coloured within first second)
+use Rattle.closed_surfaces.proofs.SaddleClosed.{saddle_entries-closed}
 
 pub led-entries : (code : Code) (choice k state : ℕ) (m n : List (ℕ × ℕ)) (dots label other : ℕ) → IsTrue (accepted code)
     → IsColoured code.crossings choice → k < length code.crossings → IsLedAt code choice k m → IsLedAt code choice k n
@@ -66,25 +44,6 @@ pub led-number : (code : Code) (choice k state : ℕ) (m : List (ℕ × ℕ)) (l
 led-number code choice k state m label other_label is coloured within led bits =
     value-saddle code k state m label other_label (paired-at code choice k m is within led) bits
     (led-edges code choice k state m is coloured within led)
-
-pub led-saddle_sum : (code : Code) (choice k state : ℕ) (m : List (ℕ × ℕ)) (label other_label : ℕ → ℕ) → IsTrue (accepted code)
-    → IsColoured code.crossings choice → k < length code.crossings → IsLedAt code choice k m → AreBits label other_label
-    → Respects label ((m ++ smoothing_at code k 0) ++ outer_smoothings code state (k + 1))
-    → Respects (opposite other_label) ((m ++ smoothing_at code k 1) ++ outer_smoothings code state (k + 1))
-    → sum_over_dots (outside_at code k state (pairing_behind code k 0 m) (pairing_behind code k 1 m) label (opposite other_label))
-    (saddle_added code k m label (opposite other_label)) (discs_behind code k 0 1 m m)
-    ≡ edge_at code k state m label other_label
-led-saddle_sum code choice k state m label other_label is coloured within led bits label_is other_is =
-    sum-saddle code k state m label (opposite other_label)
-    record {
-      twice = HasArcsTwice-accepted code is;
-      crossing = within;
-      pairing = led.paired.among;
-      first_label = label_is;
-      second_label = other_is;
-    }
-    (saddle_parts-closed code choice k state m label (opposite other_label) is coloured within led)
-    ∙ led-number code choice k state m label other_label is coloured within led bits
 
 pub led-saddle_entries : (code : Code) (choice k state : ℕ) (m : List (ℕ × ℕ)) (label other : ℕ) → IsTrue (accepted code)
     → IsColoured code.crossings choice → k < length code.crossings → IsLedAt code choice k m

@@ -11,7 +11,8 @@ use Rattle.kh_types.specs.Colours.{IsColoured}
 use Rattle.kh_types.specs.Darts.{HasArcsTwice}
 use Rattle.kh_types.proofs.AcceptedLemmas.{HasArcsTwice-accepted}
 use Rattle.kh_types.proofs.DartColours.{IsColoured-accepted}
-use Rattle.added_crossings.specs.Codes.{outer_smoothings, pairing_behind, points_at}
+use Rattle.tangle_surfaces.specs.CutCodes.{outer_smoothings}
+use Rattle.added_crossings.specs.Codes.{pairing_behind, points_at}
 use Rattle.added_crossings.specs.Saddles.{pairing_of}
 use Rattle.added_crossings.proofs.StatePairings.{made}
 use Rattle.dotted_maps.specs.Terms.{AreGlued}
@@ -34,7 +35,7 @@ led-made code choice state (suc k) twice coloured within =
     (led-next code choice k (bit state k) (pairing_of code state k) coloured twice (omega (arith, within))
     (led-made code choice state k twice coloured (omega (arith, within))))
 
--- an outer state whose bits begin with the first crossing behind, and one whose bits stand at the crossings' own places
+-- an outer state whose bits begin with the next crossing, and one whose bits stand at the crossings' own places
 
 abbrev along : ℕ → ℕ × List ℕ → List (ℕ × ℕ)
 along state at = smoothing_of (bit state at.0) at.1
@@ -66,7 +67,7 @@ bit-raised k u i =
     (ap (λ n. n / 2 ^ k) (none_more (2 ^ k * u)) ∙ add-mul-div_left 0 u (pow_pos k) ∙ ap (λ n. n + u) (zero-div (2 ^ k))
     ∙ sym (none_more u)))
 
-pub outer-raised : (code : Code) (k u : ℕ) → outer_smoothings code (2 ^ k * u) k ≡ joined_outside code k u
+pub outer-raised : (code : Code) (k u : ℕ) → outer_smoothings code.crossings (2 ^ k * u) k ≡ joined_outside code k u
 outer-raised code k u =
     smoothings-moved k 0 (2 ^ k * u) u (drop k code.crossings) (λ i. bit-raised k u i ∙ ap (bit u) (none_more i))
 

@@ -12,10 +12,10 @@ use Rattle.added_crossings.specs.Steps.{Step, after, near, is_near, closed_circl
 use Rattle.added_crossings.proofs.Classes.{class_in, AreAmong-append, AreAmong-below, class-is, class-own, together-is}
 use Rattle.added_crossings.proofs.Members.{IsOneOf, those-are}
 use Rattle.tangle_surfaces.specs.Orbits.{is_in, count_in}
-use Rattle.tangle_surfaces.specs.Pairings.{is_closed}
+use Rattle.tangle_surfaces.specs.Pairings.{is_closed_circle}
 use Rattle.closed_surfaces.proofs.Counted.{on, faces-by, on-those, on-least, on-closed, zero-outside}
 
--- joins near a crossing on either side, and a test of what is open behind it
+-- joins near a crossing on either side, and a test of what is open after it
 pub record IsNear (step : Step) (opened : ℕ → Bool) (joins others : List (ℕ × ℕ)) : Type 0 where
   pub open_is : (x : ℕ) → step.opened_next x ≡ opened x
   pub positive : (x : ℕ) → opened x ≡ true → 1 ≤ x
@@ -42,7 +42,7 @@ abbrev pub near_faces : Step → (ℕ → Bool) → List (ℕ × ℕ) → List (
 near_faces step opened joins others pairs all name =
     let n = step.count + 1 in
     count_in n all name (λ x. opened x && is_least (classes_of n pairs) x)
-    + (count_in n all name (is_closed n opened (classes_of n joins)) + count_in n all name (is_closed n opened (classes_of n others)))
+    + (count_in n all name (is_closed_circle n opened (classes_of n joins)) + count_in n all name (is_closed_circle n opened (classes_of n others)))
 
 -- the Euler count on each component of some classes
 pub record HasEuler (step : Step) (opened : ℕ → Bool) (joins others pairs : List (ℕ × ℕ)) (middle lowers all : List ℕ) : Type 0 where
@@ -82,8 +82,8 @@ near-closed step opened joins others pairs faces middle lowers all_classes is pl
       let f : ℕ → ℕ = on all name in
       let opens = λ (x : ℕ) (above : 1 ≤ x) (x_below : x < 1 + count) (on_it : is_in all name x ≡ true). is.open_is x in
       let discs = count_in n all name (λ x. opened x && is_least (classes_of n pairs) x) in
-      let closed = count_in n all name (is_closed n opened (classes_of n joins)) in
-      let other_closed = count_in n all name (is_closed n opened (classes_of n others)) in
+      let closed = count_in n all name (is_closed_circle n opened (classes_of n joins)) in
+      let other_closed = count_in n all name (is_closed_circle n opened (classes_of n others)) in
       let face_count : faces_on surface name ≡ discs + (sum_by f middle + (closed + other_closed)) =
       faces-by surface name ∙ ap (λ (xs : List ℕ). sum_by f xs) places
       ∙ sum_by-append f (least_points n (after step).opened pairs) (middle ++ (closed_circles step joins ++ closed_circles step others))

@@ -1,6 +1,6 @@
--- A pairing and the crossings behind the next one lead from the starts of the next crossing back to its ends.
+-- A pairing and the crossings after the next one lead from the starts of the next crossing back to its ends.
 --
--- The smoothings behind lead from every arc but those that end inside alone to every arc but those that start there alone. They leave alone
+-- The smoothings of the crossings still to come lead from every arc but those that end inside alone to every arc but those that start there alone. They leave alone
 -- what is inside with both ends (`inside-alone`), so the rest of them leads from what ends outside to what starts outside (`Lead-outer`).
 -- With the pairing, which leads from what ends inside to what starts there, that is all but the ends and the starts at the next crossing
 -- (`Lead-around`).
@@ -16,10 +16,10 @@ use Rattle.kh_types.specs.Colours.{IsColoured}
 use Rattle.kh_types.proofs.AcceptedLemmas.{HasArcsTwice-accepted}
 use Rattle.kh_types.proofs.Lists.{AllByRecursion-weaker}
 use Rattle.kh_types.proofs.RangeCounts.{counted}
-use Rattle.added_crossings.specs.Codes.{ends_before, is_alive, points_at, outer_smoothings}
+use Rattle.added_crossings.specs.Codes.{ends_before, is_alive, points_at}
 use Rattle.added_crossings.proofs.CodeSteps.{outer-among, count_of}
 use Rattle.added_crossings.proofs.Members.{those-are}
-use Rattle.tangle_surfaces.specs.CutCodes.{is_inside, ends_there, starts_there}
+use Rattle.tangle_surfaces.specs.CutCodes.{is_inside, ends_there, starts_there, outer_smoothings}
 use Rattle.tangle_surfaces.specs.Surfaces.{Lead, other_than}
 use Rattle.tangle_surfaces.proofs.CutCodes.{Lead-outside}
 use Rattle.tangle_surfaces.proofs.CutSteps.{IsNext, IsPairAt, inside-more, new-outside}
@@ -102,9 +102,9 @@ Lead-behind n inner outer pairs lead alone =
 -- what is inside with both its ends is joined with nothing outside
 inside-alone : (code : Code) (choice k state x y : ℕ) → IsTrue (accepted code) → IsColoured code.crossings choice
     → k ≤ length code.crossings → is_inside code.crossings choice k 1 x ≡ true → is_inside code.crossings choice k 0 x ≡ true
-    → ((g : ℕ → ℕ) → Respects g (outer_smoothings code state k) → g x ≡ g y) → y ≡ x
+    → ((g : ℕ → ℕ) → Respects g (outer_smoothings code.crossings state k) → g x ≡ g y) → y ≡ x
 inside-alone code choice k state x y is coloured enough end start same =
-    let w = outer_smoothings code state k in
+    let w = outer_smoothings code.crossings state k in
     let alive = (points_at code k).alive in
     let mark : ℕ → ℕ = λ z. counted (nat_eq z x) in
     let count : ends_before code.crossings k x ≡ 2 =
@@ -125,11 +125,11 @@ inside-alone code choice k state x y is coloured enough end start same =
 Lead-outer : (code : Code) (choice k state : ℕ) → IsTrue (accepted code) → IsColoured code.crossings choice
     → k ≤ length code.crossings
     → Lead (count_of code + 1) (λ x. not (is_inside code.crossings choice k 1 x)) (λ x. not (is_inside code.crossings choice k 0 x))
-    (outer_smoothings code state k)
+    (outer_smoothings code.crossings state k)
 Lead-outer code choice k state is coloured enough =
     let lead = Lead-outside code choice k state is coloured enough in
     Lead-behind (count_of code + 1) (is_inside code.crossings choice k 1) (is_inside code.crossings choice k 0)
-    (outer_smoothings code state k) lead
+    (outer_smoothings code.crossings state k) lead
     (λ x below end start.
     inside-alone code choice k state x (lead.next x) is coloured enough end start
     (λ g respects. lead.joins g respects x below
@@ -161,11 +161,11 @@ turned false o is = absurd (false_true is)
 pub Lead-around : (code : Code) (choice k state u v r t : ℕ) (m : List (ℕ × ℕ)) → IsTrue (accepted code) → IsNext code choice k
     → IsPairAt choice k 1 u v → IsPairAt choice k 0 r t → IsLedAt code choice k m
     → Lead (count_of code + 1) (other_than (is_either code u v)) (other_than (is_either code r t))
-    (m ++ outer_smoothings code state (k + 1))
+    (m ++ outer_smoothings code.crossings state (k + 1))
 Lead-around code choice k state u v r t m is next ends starts led =
     let crossings = code.crossings in
     let n = count_of code + 1 in
-    let w = outer_smoothings code state (k + 1) in
+    let w = outer_smoothings code.crossings state (k + 1) in
     let in_end : ℕ → Bool = is_inside crossings choice k 1 in
     let in_start : ℕ → Bool = is_inside crossings choice k 0 in
     let then_end : ℕ → Bool = is_inside crossings choice (k + 1) 1 in

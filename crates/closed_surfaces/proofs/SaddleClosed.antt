@@ -18,26 +18,23 @@ use Rattle.kh_types.proofs.JoinedClasses.{classes_of-same}
 use Rattle.kh_types.proofs.Lists.{AllByRecursion-weaker}
 use Rattle.kh_types.proofs.RangeCounts.{counted}
 use Rattle.dotted_surfaces.specs.Surfaces.{IsClosed}
-use Rattle.dotted_surfaces.specs.Cuts.{second_caps}
-use Rattle.dotted_surfaces.specs.Overlays.{at_places}
 use Rattle.dotted_surfaces.proofs.OneCut.{place_of_face}
 use Rattle.dotted_maps.proofs.Sheets.{places-marked, places-marked_else}
-use Rattle.added_crossings.specs.Pairings.{marked_by}
-use Rattle.added_crossings.specs.Codes.{is_open, points_at, step_at, smoothing_at, pairing_behind, closed_at, disc_of, arc_there, saddle_strips, outside_at, saddle_added, discs_behind, AreClosed}
+use Rattle.added_crossings.specs.Codes.{is_open, points_at, step_at, smoothing_at, pairing_behind, closed_at, disc_of, arc_there, saddle_strips, discs_behind}
 use Rattle.added_crossings.specs.Entries.{entry_sheet, saddle_surface, AreEntriesClosed}
 use Rattle.dotted_surfaces.specs.Sheets.{marked, marked_else}
 use Rattle.added_crossings.proofs.Pants.{sum-paired}
 use Rattle.tangle_surfaces.specs.Orbits.{count_in}
 use Rattle.tangle_surfaces.specs.CutCodes.{ends_there, starts_there}
-use Rattle.tangle_surfaces.specs.Pairings.{is_closed}
+use Rattle.tangle_surfaces.specs.Pairings.{is_closed_circle}
 use Rattle.tangle_surfaces.proofs.CutCodes.{ends-starts}
 use Rattle.tangle_surfaces.proofs.SaddleCodes.{saddle-code}
 use Rattle.added_crossings.proofs.CodeSteps.{count_of}
 use Rattle.closed_surfaces.specs.Led.{IsLedAt}
-use Rattle.closed_surfaces.proofs.CodeSheets.{places-marked_by, outside-closed, entry-closed}
+use Rattle.closed_surfaces.proofs.CodeSheets.{entry-closed}
 use Rattle.closed_surfaces.proofs.Counted.{on}
 use Rattle.closed_surfaces.proofs.CrossingClosed.{new-respects, IsNear-at, smoothing-below}
-use Rattle.closed_surfaces.proofs.CrossingParts.{places-four, places-second}
+use Rattle.closed_surfaces.proofs.CrossingParts.{places-four}
 use Rattle.closed_surfaces.proofs.Halves.{discs-half, open-twice}
 use Rattle.closed_surfaces.proofs.LedPairings.{open_at, JoinOpen-behind, led-next}
 use Rattle.closed_surfaces.proofs.NearClosed.{near_sheet, near_places, HasEuler, near-closed}
@@ -103,8 +100,8 @@ saddle-euler code choice k m twice coloured within led = record {
       let points = (points_at code k).opened in (
         0,
         euler (count_in n all name (λ x. opened x && is_least (classes_of n (m0 ++ m1)) x))
-            (count_in n all name (is_closed n opened (classes_of n (m ++ s))))
-            (count_in n all name (is_closed n opened (classes_of n (m ++ t))))
+            (count_in n all name (is_closed_circle n opened (classes_of n (m ++ s))))
+            (count_in n all name (is_closed_circle n opened (classes_of n (m ++ t))))
             (count_in n all name (λ x. opened x && is_least (classes_of n (m1 ++ m1)) x)) (count_in n all name new_ends)
             (f arc) (sum_by f (map first_end m)) (sum_by f points) (count_in n all name opened) (sum_by f (saddle_strips code k))
             (saddle-code code choice k m m0 m1 coloured within led.leads zero_join one_join name name_below own)
@@ -157,27 +154,6 @@ saddle-closed code choice k m faces twice coloured within led places =
 places-discs : (m : List (ℕ × ℕ)) → map place_of_face (map disc_of m) ≡ map first_end m
 places-discs [] = refl
 places-discs (pair ∷ m) = ap (λ (xs : List ℕ). pair.0 ∷ xs) (places-discs m)
-
-pub saddle_parts-closed : (code : Code) (choice k state : ℕ) (m : List (ℕ × ℕ)) (label other_label : ℕ → ℕ)
-    → IsTrue (accepted code) → IsColoured code.crossings choice → k < length code.crossings → IsLedAt code choice k m
-    → AreClosed (outside_at code k state (pairing_behind code k 0 m) (pairing_behind code k 1 m) label other_label)
-    (saddle_added code k m label other_label) (discs_behind code k 0 1 m m)
-saddle_parts-closed code choice k state m label other_label is coloured within led =
-    let twice = HasArcsTwice-accepted code is in
-    let hats = discs_behind code k 0 1 m m in
-    let closed = closed_at code k 0 m in
-    let other_closed = closed_at code k 1 m in
-    record {
-      first_closed = outside-closed code choice k state (pairing_behind code k 0 m) (pairing_behind code k 1 m) label
-          other_label is coloured within (led-next code choice k 0 m coloured twice within led)
-          (led-next code choice k 1 m coloured twice within led);
-      second_closed = saddle-closed code choice k m
-          (second_caps (at_places hats) 0 ++ (map disc_of m ++ (marked_by label closed ++ marked_by other_label other_closed)))
-          twice coloured within led
-          (places-four (second_caps (at_places hats) 0) (map disc_of m) (marked_by label closed) (marked_by other_label other_closed)
-          hats (map first_end m) closed other_closed (places-second hats) (places-discs m) (places-marked_by label closed)
-          (places-marked_by other_label other_closed));
-    }
 
 pub saddle_term-closed : (code : Code) (choice k : ℕ) (m : List (ℕ × ℕ)) (closed other_closed kept : ℕ)
     → IsTrue (accepted code) → IsColoured code.crossings choice → k < length code.crossings → IsLedAt code choice k m

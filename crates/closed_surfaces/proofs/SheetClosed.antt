@@ -11,9 +11,9 @@ use Rattle.added_crossings.specs.Steps.{those}
 use Rattle.added_crossings.proofs.Classes.{class_in, AreAmong-wider, AreAmong-append, AreAmong-below, class-is, class-own, class-below, together-is}
 use Rattle.added_crossings.proofs.Members.{those-are}
 use Rattle.tangle_surfaces.specs.Orbits.{is_in, count_in}
-use Rattle.tangle_surfaces.specs.Surfaces.{IsSurface, components, faces_in, strips_in}
+use Rattle.tangle_surfaces.specs.Surfaces.{IsSurface, surface_components, faces_in, strips_in}
 use Rattle.tangle_surfaces.proofs.LeadLemmas.{either}
-use Rattle.tangle_surfaces.proofs.SurfaceGenus.{HasGenus-surface, open-counted}
+use Rattle.tangle_surfaces.proofs.SurfaceGenus.{HaveWholeGenus-surface, open-counted}
 use Rattle.closed_surfaces.proofs.Counted.{on, faces-by, on-those, on-least, zero-outside}
 
 -- two pairings of opened points and what is joined outside, by tests of the numbers 1 to a count
@@ -59,7 +59,7 @@ sheet-closed count ends starts opened alive m k w faces is places = record {
       let n = count + 1 in
       let surface = sheet_of count opened alive m k w faces in
       let joins = m ++ (k ++ w) in
-      let all = components n m k w in
+      let all = surface_components n m k w in
       let among = sheet-among count ends starts opened alive m k w is in
       let below = AreAmong-below count alive joins among in
       let place_is = those-are count alive place has in
@@ -85,7 +85,7 @@ sheet-closed count ends starts opened alive m k w faces is places = record {
       (on-least count alive (λ x. true) (k ++ w) all name none there)) in
       let strips : lowers_on surface name ≡ count_in n all name (either ends starts) =
       on-those count opened (either ends starts) all name none opens in
-      let found = HasGenus-surface n ends starts m k w is.surface name name_below own in (
+      let found = HaveWholeGenus-surface n ends starts m k w is.surface name name_below own in (
         found.genus,
         euler (faces_on surface name) (faces_in n ends starts m k w name) found.genus (strips_in n ends m k w name)
             (lowers_on surface name) (count_in n all name (either ends starts)) face_count strips

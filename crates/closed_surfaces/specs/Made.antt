@@ -9,11 +9,11 @@ use Rattle.dotted_surfaces.specs.Points.{inner}
 use Rattle.dotted_maps.specs.Terms.{AreGlued}
 use Rattle.added_crossings.specs.Codes.{points_at}
 
--- what the smoothings of an outer state join behind the first k crossings: its lowest bit is that of the first crossing behind them
+-- what the smoothings of an outer state join at the crossings still to come after the first k: its lowest bit is that of the next one
 abbrev pub joined_outside : Code → ℕ → ℕ → List (ℕ × ℕ)
 joined_outside code k state = smoothings_of (drop k code.crossings) state
 
--- for the pairings that states make behind the first k crossings, these surfaces are closed: two of them and what a state joins outside;
+-- for the pairings that states make after the first k crossings, these surfaces are closed: two of them and what a state joins outside;
 -- three of them; two of them and what the next crossing adds; and the saddle of one at the next crossing
 pub record HaveSurfaces (code : Code) : Type 0 where
   pub glued : (k s t u : ℕ) → k ≤ length code.crossings

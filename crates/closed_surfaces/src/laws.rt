@@ -12,13 +12,14 @@ ghost use Rattle.kh_types.specs.Products.{sum_below};
 ghost use Rattle.dotted_surfaces.specs.Surfaces.{IsClosed, value};
 ghost use Rattle.dotted_surfaces.specs.Points.{inner};
 ghost use Rattle.dotted_maps.specs.Terms.{AreGlued};
-ghost use Rattle.added_crossings.specs.Codes.{smoothing_at, outer_smoothings, pairing_behind, sheet_at, outside_at, added_at, saddle_sheet, saddle_added, discs_behind, AreClosed, sum_over_dots, points_at};
+ghost use Rattle.tangle_surfaces.specs.CutCodes.{outer_smoothings};
+ghost use Rattle.added_crossings.specs.Codes.{smoothing_at, pairing_behind, sheet_at, outside_at, added_at, saddle_sheet, saddle_added, discs_behind, AreClosed, sum_over_dots, points_at};
 ghost use Rattle.added_crossings.specs.Entries.{entry_sheet, entry_at, added_surface, saddle_surface, label_before, closed_label, label_behind, AreEntriesClosed};
 ghost use Rattle.added_crossings.specs.Saddles.{edge_at, MergesOrSplitsAt, AreBits, opposite, pairing_of};
 ghost use Rattle.closed_surfaces.specs.Made.{HaveSurfaces};
 ghost use Rattle.closed_surfaces.specs.Led.{IsLedAt};
 
-/// A pairing that leads from ends to starts has become another one behind one crossing more, with
+/// A pairing that leads from ends to starts has become another one after one crossing more, with
 /// either smoothing.
 pub fn pairings_stay_led()
     ensures { (code : Code) (choice k smoothing : ℕ) (m : List (ℕ × ℕ)) → HasArcsTwice code.crossings
@@ -26,18 +27,15 @@ pub fn pairings_stay_led()
         → IsLedAt code choice (k + 1) (pairing_behind code k smoothing m) }
 {}
 
-/// Two pairings that lead from ends to starts, with the crossings behind in any state, make a closed
-/// surface, whatever is marked on it; and three such pairings make one inside.
+/// Two pairings that lead from ends to starts, with the crossings still to come in any state, make a
+/// closed surface, whatever is marked on it; and three such pairings make one inside.
 pub fn cut_codes_are_closed()
     ensures glued { (code : Code) (choice k state : ℕ) (m n : List (ℕ × ℕ)) → IsTrue (accepted code)
         → IsColoured code.crossings choice → k ≤ length code.crossings → IsLedAt code choice k m → IsLedAt code choice k n
-        → AreGlued (points_at code k) m n (outer_smoothings code state k) }
+        → AreGlued (points_at code k) m n (outer_smoothings code.crossings state k) }
     ensures inside { (code : Code) (choice k : ℕ) (m n l : List (ℕ × ℕ)) → IsColoured code.crossings choice
         → k ≤ length code.crossings → IsLedAt code choice k m → IsLedAt code choice k n → IsLedAt code choice k l
         → AreGlued (inner (points_at code k)) m n l }
-    ensures sheet { (code : Code) (choice k state : ℕ) (m n : List (ℕ × ℕ)) (dots label other_label : ℕ → ℕ)
-        → IsTrue (accepted code) → IsColoured code.crossings choice → k ≤ length code.crossings → IsLedAt code choice k m
-        → IsLedAt code choice k n → IsClosed (sheet_at code k state m n dots label other_label) }
     ensures entry { (code : Code) (choice k state : ℕ) (m n : List (ℕ × ℕ)) (dots label other : ℕ)
         → IsTrue (accepted code) → IsColoured code.crossings choice → k ≤ length code.crossings → IsLedAt code choice k m
         → IsLedAt code choice k n → IsClosed (entry_sheet code k state m n dots label other) }
@@ -46,11 +44,6 @@ pub fn cut_codes_are_closed()
 /// With one crossing more both parts of what the sum over the dots is cut in are closed: the surface
 /// outside, between the new pairings, and what the crossing adds; whatever is marked on them.
 pub fn added_crossings_are_closed()
-    ensures parts { (code : Code) (choice k state smoothing : ℕ) (m n : List (ℕ × ℕ)) (dots label other_label : ℕ → ℕ)
-        → IsTrue (accepted code) → IsColoured code.crossings choice → k < length code.crossings → IsLedAt code choice k m
-        → IsLedAt code choice k n
-        → AreClosed (outside_at code k state (pairing_behind code k smoothing m) (pairing_behind code k smoothing n) label other_label)
-        (added_at code k smoothing m n dots label other_label) (discs_behind code k smoothing smoothing m n) }
     ensures entries { (code : Code) (choice k state smoothing : ℕ) (m n : List (ℕ × ℕ)) (dots label other closed other_closed : ℕ)
         → IsTrue (accepted code) → IsColoured code.crossings choice → k < length code.crossings → IsLedAt code choice k m
         → IsLedAt code choice k n
@@ -64,10 +57,6 @@ pub fn added_crossings_are_closed()
 
 /// So are both parts of the saddle at a pairing that leads from ends to starts.
 pub fn added_saddles_are_closed()
-    ensures parts { (code : Code) (choice k state : ℕ) (m : List (ℕ × ℕ)) (label other_label : ℕ → ℕ)
-        → IsTrue (accepted code) → IsColoured code.crossings choice → k < length code.crossings → IsLedAt code choice k m
-        → AreClosed (outside_at code k state (pairing_behind code k 0 m) (pairing_behind code k 1 m) label other_label)
-        (saddle_added code k m label other_label) (discs_behind code k 0 1 m m) }
     ensures entries { (code : Code) (choice k state : ℕ) (m : List (ℕ × ℕ)) (label other closed other_closed : ℕ)
         → IsTrue (accepted code) → IsColoured code.crossings choice → k < length code.crossings → IsLedAt code choice k m
         → AreEntriesClosed (entry_sheet code (k + 1) state (pairing_behind code k 0 m) (pairing_behind code k 1 m) 0 label other)
@@ -94,18 +83,10 @@ pub fn edges_merge_or_split()
         → k < length code.crossings → IsLedAt code choice k m → MergesOrSplitsAt code k state m }
 {}
 
-/// So an entry behind the first k crossings is the sum over the dot sets on the discs of the new
-/// pairings: with labels as functions of arcs, and with labels as numbers.
+/// So an entry after the first k crossings is the sum over the dot sets on the discs of the new
+/// pairings.
 pub fn led_crossings_add_up()
-    ensures labels { (code : Code) (choice k state : ℕ) (m n : List (ℕ × ℕ)) (dots label other_label : ℕ → ℕ)
-        → IsTrue (accepted code) → IsColoured code.crossings choice → k < length code.crossings → IsLedAt code choice k m
-        → IsLedAt code choice k n → Respects label (m ++ outer_smoothings code state k)
-        → Respects other_label (n ++ outer_smoothings code state k)
-        → sum_over_dots
-        (outside_at code k state (pairing_behind code k (bit state k) m) (pairing_behind code k (bit state k) n) label other_label)
-        (added_at code k (bit state k) m n dots label other_label) (discs_behind code k (bit state k) (bit state k) m n)
-        ≡ value (sheet_at code k state m n dots label other_label) }
-    ensures numbers { (code : Code) (choice k state : ℕ) (m n : List (ℕ × ℕ)) (dots label other : ℕ) → IsTrue (accepted code)
+    ensures { (code : Code) (choice k state : ℕ) (m n : List (ℕ × ℕ)) (dots label other : ℕ) → IsTrue (accepted code)
         → IsColoured code.crossings choice → k < length code.crossings → IsLedAt code choice k m → IsLedAt code choice k n
         → entry_at code k state m n dots label other
         ≡ sum_below (2 ^ length (discs_behind code k (bit state k) (bit state k) m n))
@@ -122,14 +103,7 @@ pub fn led_saddles_add_up()
     ensures number { (code : Code) (choice k state : ℕ) (m : List (ℕ × ℕ)) (label other_label : ℕ → ℕ) → IsTrue (accepted code)
         → IsColoured code.crossings choice → k < length code.crossings → IsLedAt code choice k m → AreBits label other_label
         → value (saddle_sheet code k state m label (opposite other_label)) ≡ edge_at code k state m label other_label }
-    ensures labels { (code : Code) (choice k state : ℕ) (m : List (ℕ × ℕ)) (label other_label : ℕ → ℕ) → IsTrue (accepted code)
-        → IsColoured code.crossings choice → k < length code.crossings → IsLedAt code choice k m → AreBits label other_label
-        → Respects label ((m ++ smoothing_at code k 0) ++ outer_smoothings code state (k + 1))
-        → Respects (opposite other_label) ((m ++ smoothing_at code k 1) ++ outer_smoothings code state (k + 1))
-        → sum_over_dots (outside_at code k state (pairing_behind code k 0 m) (pairing_behind code k 1 m) label (opposite other_label))
-        (saddle_added code k m label (opposite other_label)) (discs_behind code k 0 1 m m)
-        ≡ edge_at code k state m label other_label }
-    ensures numbers { (code : Code) (choice k state : ℕ) (m : List (ℕ × ℕ)) (label other : ℕ) → IsTrue (accepted code)
+    ensures sum { (code : Code) (choice k state : ℕ) (m : List (ℕ × ℕ)) (label other : ℕ) → IsTrue (accepted code)
         → IsColoured code.crossings choice → k < length code.crossings → IsLedAt code choice k m
         → edge_at code k state m (label_before code k 0 state m label) (label_before code k 1 state m other)
         ≡ sum_below (2 ^ length (discs_behind code k 0 1 m m))

@@ -1,4 +1,4 @@
--- The pairing behind a crossing and its closed circles, by classes of any size that the arcs fit in.
+-- The pairing after a crossing and its closed circles, by classes of any size that the arcs fit in.
 use Rattle.std.proofs.Common.{◌≡◌, ℕ, ◌+◌, ◌<◌, ◌∙◌, List, [], ◌∷◌, ◌++◌, map, not, refl, sym, subst, ap, ap₂, arith, Bool, cond, ◌&&◌}
 use Rattle.std.specs.Prelude.{nat_eq, nat_lt, slice_index}
 use Rattle.std.specs.List.{filter, flat_map, AllByRecursion, Contains}
@@ -7,11 +7,11 @@ use Rattle.kh_types.specs.Classes.{classes_of, is_least}
 use Rattle.kh_types.specs.Code.{Code, arc_count}
 use Rattle.dotted_surfaces.proofs.Components.{list_any-on}
 use Rattle.dotted_surfaces.specs.Points.{AreAmong}
-use Rattle.added_crossings.specs.Pairings.{IsPaired}
+use Rattle.added_crossings.specs.Pairings.{IsPairingOf}
 use Rattle.added_crossings.specs.Steps.{is_mate, is_none_in, near, pair_with, pairs_among, pairs_at}
 use Rattle.added_crossings.specs.Codes.{closed_at, pairing_behind, points_at, smoothing_at, step_at}
 use Rattle.added_crossings.proofs.Members.{All-contained}
-use Rattle.added_crossings.proofs.Pairs.{IsPaired-behind}
+use Rattle.added_crossings.proofs.Pairs.{IsPairingOf-behind}
 use Rattle.tangle_maps.specs.declared.pairing.TheConstants.{POINTS}
 use Rattle.tangle_maps.proofs.SizeLemmas.{class-sizes, least_points-sizes}
 use Rattle.crossing_maps.specs.Sites.{IsPlace, IsSite, closed_in}
@@ -86,20 +86,20 @@ closed-serve code k smoothing m place among =
 -- what code computes
 
 pub split-pairs : (code : Code) (k smoothing : ℕ) (m made : List (ℕ × ℕ)) (classes opened around next slots : List ℕ) → IsPlace code k
-    → IsSite code k opened around next slots → IsPaired (points_at code k).opened m
+    → IsSite code k opened around next slots → IsPairingOf (points_at code k).opened m
     → classes ≡ classes_of POINTS (m ++ smoothing_of smoothing slots)
-    → (IsPaired next (pairs_among next classes) → made ≡ pairs_among next classes) → made ≡ pairing_behind code k smoothing m
+    → (IsPairingOf next (pairs_among next classes) → made ≡ pairs_among next classes) → made ≡ pairing_behind code k smoothing m
 split-pairs code k smoothing m made classes opened around next slots place site paired are makes =
     let same : pairs_among next classes ≡ pairing_behind code k smoothing m =
     ap₂ pairs_among site.behind (are ∙ ap (λ s. classes_of POINTS (m ++ smoothing_of smoothing s)) site.crossing)
     ∙ pairs-serve code k smoothing m place paired.among in
-    let behind = IsPaired-behind code k smoothing m place.twice place.crossing paired in
-    makes (subst (λ xs. IsPaired xs (pairs_among next classes)) (sym site.behind)
-    (subst (λ pairs. IsPaired (points_at code (k + 1)).opened pairs) (sym same) behind))
+    let behind = IsPairingOf-behind code k smoothing m place.twice place.crossing paired in
+    makes (subst (λ xs. IsPairingOf xs (pairs_among next classes)) (sym site.behind)
+    (subst (λ pairs. IsPairingOf (points_at code (k + 1)).opened pairs) (sym same) behind))
     ∙ same
 
 pub split-closed : (code : Code) (k smoothing : ℕ) (m : List (ℕ × ℕ)) (closed classes opened around next slots : List ℕ) → IsPlace code k
-    → IsSite code k opened around next slots → IsPaired (points_at code k).opened m
+    → IsSite code k opened around next slots → IsPairingOf (points_at code k).opened m
     → classes ≡ classes_of POINTS (m ++ smoothing_of smoothing slots)
     → closed ≡ closed_in next around classes → closed ≡ closed_at code k smoothing m
 split-closed code k smoothing m closed classes opened around next slots place site paired are is =

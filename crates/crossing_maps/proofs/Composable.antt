@@ -64,7 +64,7 @@ sides-joined site from to first second can = record {
         (λ x has. AllByRecursion-at (λ y. Contains site.near.now y) site.opened.now x can.around.before has) among)
         (slots-among site.near.now smoothing site.crossing.now can.around.slots)
 
--- the least points of arcs behind are near
+-- the least points of arcs that are open after a crossing are near it
 pub rims-near : (p : ℕ → Bool) (site : Site) (rims : List ℕ) → IsAround site → rims ≡ filter p site.next.now
     → AllByRecursion (λ x. Contains site.near.now x) rims
 rims-near p site rims is are =

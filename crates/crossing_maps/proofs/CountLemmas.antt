@@ -8,7 +8,7 @@ use Rattle.kh_types.specs.Classes.{classes_of}
 use Rattle.kh_types.proofs.Lists.{count_by-map}
 use Rattle.dotted_surfaces.specs.Surfaces.{genus_on, marks_on}
 use Rattle.dotted_surfaces.specs.Sheets.{marked, marked_else}
-use Rattle.crossing_maps.specs.Counts.{among, genus_by, marks_by, surface_of}
+use Rattle.crossing_maps.specs.Counts.{among, genus_among, marks_by, surface_of}
 
 abbrev one_if : Bool → ℕ
 one_if b = cond b 1 0
@@ -27,7 +27,7 @@ formula lowers faces raises = (lowers + 4 - (2 * faces + raises)) / 4
 pub counted : (size : ℕ) (places : List ℕ) (joins : List (ℕ × ℕ)) (rims discs closed others lowers raises : List ℕ)
     (kept dots label other component : ℕ)
     → genus_on (surface_of size places joins rims discs closed others lowers raises kept dots label other) component
-    ≡ genus_by component (map (slice_index (classes_of size joins)) rims) (map (slice_index (classes_of size joins)) discs)
+    ≡ genus_among component (map (slice_index (classes_of size joins)) rims) (map (slice_index (classes_of size joins)) discs)
     (map (slice_index (classes_of size joins)) closed) (map (slice_index (classes_of size joins)) others)
     (map (slice_index (classes_of size joins)) lowers) (map (slice_index (classes_of size joins)) raises)
 counted size places joins rims discs closed others lowers raises kept dots label other component =

@@ -32,10 +32,10 @@ use Rattle.added_crossings.proofs.Members.{All-contained}
 use Rattle.tangle_maps.specs.declared.pairing.TheConstants.{POINTS}
 use Rattle.tangle_maps.specs.declared.seam.Seam.{Seam}
 use Rattle.tangle_maps.specs.Seams.{seam_behind, seam_listed, seam_terms}
-use Rattle.tangle_maps.specs.Sums.{AreReduced, HaveDotsBelow, IsSum, has_dots, term_of}
+use Rattle.tangle_maps.specs.Sums.{AreReduced, HaveDotsBelow, IsSum, has_dots, dotted_term, dotted_times}
 use Rattle.crossing_maps.specs.AddedSeams.{AreMarks, ArePairs, IsSeamAt, joins_there, places_there}
 use Rattle.crossing_maps.specs.Counts.{load_at, on}
-use Rattle.crossing_maps.specs.NewTerms.{all_terms, first_end, new_map, saddle_map, sets_behind, term_with}
+use Rattle.crossing_maps.specs.NewTerms.{all_terms, first_end, new_map, saddle_map, sets_behind}
 use Rattle.crossing_maps.proofs.Placed.{joins-there, near-distinct, opened-near, value-sized, within-there}
 use Rattle.crossing_maps.proofs.SeamTerms.{coefficient-chosen, terms-same}
 use Rattle.crossing_maps.proofs.SpreadTerms.{HaveCoefficients, IsSum-spread}
@@ -43,7 +43,7 @@ use Rattle.crossing_maps.proofs.Values.{factor_at, places-named, sets_at}
 
 -- dots of chosen sets
 terms-below : (c limit count : ℕ) (sets : List ℕ) → count ≡ limit → AllByRecursion (λ s. s < count) sets
-    → HaveDotsBelow limit (map (term_with c) sets)
+    → HaveDotsBelow limit (map (dotted_times c) sets)
 terms-below c limit count [] same all = tt
 terms-below c limit count (s ∷ sets) same all = (omega (arith, same, all.0), terms-below c limit count sets same all.1)
 
@@ -52,7 +52,7 @@ pub coefficients-made : (code : Code) (k first second : ℕ) (m n : List (ℕ ×
     → AllByRecursion (λ x. Contains (near (step_at code k)) x) lowers → IsSeamAt code k first second m n ds lowers label other seam marks
     → HaveCoefficients (sets_behind code k first second m n)
     (λ kept. term.coefficient * value (coefficient_sheet code k first second m n (marked term.dots ds) lowers label other kept))
-    (seam_behind seam (term_of marks 1 ∷ []) term)
+    (seam_behind seam (dotted_term marks 1 ∷ []) term)
 coefficients-made code k first second m n ds lowers label other seam marks term are all_ds all_lowers is =
     let joins = joins_there code k first second m n in
     let around = near (step_at code k) in
@@ -72,8 +72,8 @@ coefficients-made code k first second m n ds lowers label other seam marks term 
     let unit = product_over (factor_at here term.dots label other) names in
     let marked : AreMarks (length here.closed) (length here.others) label other marks =
     subst₂ (λ x y. AreMarks x y label other marks) (sym (length-map at.closed class)) (sym (length-map at.others class)) is.labels in
-    let same : seam_behind seam (term_of marks 1 ∷ []) term ≡ map (term_with (term.coefficient * 1 * unit)) sets =
-    append-nil (seam_terms seam term (term_of marks 1))
+    let same : seam_behind seam (dotted_term marks 1 ∷ []) term ≡ map (dotted_times (term.coefficient * 1 * unit)) sets =
+    append-nil (seam_terms seam term (dotted_term marks 1))
     ∙ terms-same names here label other marks seam term is.added marked (places-named POINTS around joins at.rims wide within.rims) in
     record {
       each = λ kept below.
@@ -100,7 +100,7 @@ pub map_made : (p f : ℕ) (code : Code) (k smoothing : ℕ) (m n : List (ℕ ×
     (terms old new : List Term)
     → ArePairs code k m n
     → IsSeamAt code k smoothing smoothing m n (discs (points_at code k) m n) (points_at code k).opened label other seam marks
-    → IsSum p old (scaled f (seam_listed seam terms (term_of marks 1 ∷ []))) new
+    → IsSum p old (scaled f (seam_listed seam terms (dotted_term marks 1 ∷ []))) new
     → IsSum p old (scaled f (new_map code k smoothing m n label other terms)) new
 map_made p f code k smoothing m n label other seam marks terms old new are is sum =
     let points = points_at code k in
@@ -112,23 +112,23 @@ map_made p f code k smoothing m n label other seam marks terms old new are is su
     IsSum-spread p f (sets_behind code k smoothing smoothing m n)
     (λ term kept. term.coefficient
     * value (coefficient_sheet code k smoothing smoothing m n (marked term.dots (discs points m n)) points.opened label other kept))
-    (seam_behind seam (term_of marks 1 ∷ [])) terms old new (some-sets (length (discs_behind code k smoothing smoothing m n)))
+    (seam_behind seam (dotted_term marks 1 ∷ [])) terms old new (some-sets (length (discs_behind code k smoothing smoothing m n)))
     (λ term. coefficients-made code k smoothing smoothing m n (discs points m n) points.opened label other seam marks term are faces lowers is) sum
 
 -- one term alone is reduced
-AreReduced-one : (p dots : ℕ) → 1 < p → AreReduced p (term_of dots 1 ∷ [])
+AreReduced-one : (p dots : ℕ) → 1 < p → AreReduced p (dotted_term dots 1 ∷ [])
 AreReduced-one p dots above = record {
-  some = All-from_recursion (λ term. 0 < term.coefficient) (term_of dots 1 ∷ []) (omega arith, tt);
-  below = All-from_recursion (λ term. term.coefficient < p) (term_of dots 1 ∷ []) (omega (arith, above), tt);
-  once = λ d. few (has_dots d (term_of dots 1)) (count_by (has_dots d) (term_of dots 1 ∷ []))
-      (sum_by-cons (λ (t : Term). cond (has_dots d t) 1 0) (term_of dots 1) []);
+  some = All-from_recursion (λ term. 0 < term.coefficient) (dotted_term dots 1 ∷ []) (omega arith, tt);
+  below = All-from_recursion (λ term. term.coefficient < p) (dotted_term dots 1 ∷ []) (omega (arith, above), tt);
+  once = λ d. few (has_dots d (dotted_term dots 1)) (count_by (has_dots d) (dotted_term dots 1 ∷ []))
+      (sum_by-cons (λ (t : Term). cond (has_dots d t) 1 0) (dotted_term dots 1) []);
 }
   where
     few : (b : Bool) (n : ℕ) → n ≡ cond b 1 0 + 0 → n ≤ 1
     few true n is = omega (arith, is)
     few false n is = omega (arith, is)
 
-pub AreReduced_one : (p dots : ℕ) (term : Term) → 1 < p → term ≡ term_of dots 1 → AreReduced p (term ∷ [])
+pub AreReduced_one : (p dots : ℕ) (term : Term) → 1 < p → term ≡ dotted_term dots 1 → AreReduced p (term ∷ [])
 AreReduced_one p dots term above is = subst (λ t. AreReduced p (t ∷ [])) (sym is) (AreReduced-one p dots above)
 
 -- the saddle's faces have no marks
@@ -141,13 +141,13 @@ unmarked j (pair ∷ m) = ap₂ (λ (b : ℕ) (xs : List (ℕ × ℕ)). (pair.0,
     none : (x : ℕ) → 0 / x % 2 ≡ 0
     none x = ap (λ z. z % 2) (zero-div x)
 
-terms-alike : (f g : ℕ → ℕ) (xs : List ℕ) → ((x : ℕ) → f x ≡ g x) → map (λ x. term_of x (f x)) xs ≡ map (λ x. term_of x (g x)) xs
+terms-alike : (f g : ℕ → ℕ) (xs : List ℕ) → ((x : ℕ) → f x ≡ g x) → map (λ x. dotted_term x (f x)) xs ≡ map (λ x. dotted_term x (g x)) xs
 terms-alike f g [] alike = refl
-terms-alike f g (x ∷ xs) alike = ap₂ (λ (c : ℕ) (ts : List Term). term_of x c ∷ ts) (alike x) (terms-alike f g xs alike)
+terms-alike f g (x ∷ xs) alike = ap₂ (λ (c : ℕ) (ts : List Term). dotted_term x c ∷ ts) (alike x) (terms-alike f g xs alike)
 
 pub saddle_made : (p f : ℕ) (code : Code) (k : ℕ) (m : List (ℕ × ℕ)) (label other : ℕ) (seam : Seam) (marks : ℕ) (old new : List Term)
     → ArePairs code k m m → IsSeamAt code k 0 1 m m (map first_end m) (saddle_strips code k) label other seam marks
-    → IsSum p old (scaled f (seam_listed seam (term_of 0 1 ∷ []) (term_of marks 1 ∷ []))) new
+    → IsSum p old (scaled f (seam_listed seam (dotted_term 0 1 ∷ []) (dotted_term marks 1 ∷ []))) new
     → IsSum p old (scaled f (saddle_map code k m label other)) new
 saddle_made p f code k m label other seam marks old new are is sum =
     let points = points_at code k in
@@ -164,11 +164,11 @@ saddle_made p f code k m label other seam marks old new are is sum =
     let worth : Term → ℕ → ℕ =
     λ term kept. term.coefficient * value (coefficient_sheet code k 0 1 m m (marked term.dots ds) strips label other kept) in
     subst (λ ts. IsSum p old (scaled f ts) new)
-    (append-nil (all_terms count (worth (term_of 0 1)))
-    ∙ terms-alike (worth (term_of 0 1)) (λ kept. value (saddle_surface code k m label other kept)) (range_with_len 0 count)
+    (append-nil (all_terms count (worth (dotted_term 0 1)))
+    ∙ terms-alike (worth (dotted_term 0 1)) (λ kept. value (saddle_surface code k m label other kept)) (range_with_len 0 count)
     (λ kept. one_time (value (coefficient_sheet code k 0 1 m m (marked 0 ds) strips label other kept))
     ∙ ap (λ faces. value (coefficient_sheet code k 0 1 m m faces strips label other kept)) (unmarked 0 m)))
-    (IsSum-spread p f count worth (seam_behind seam (term_of marks 1 ∷ [])) (term_of 0 1 ∷ []) old new
+    (IsSum-spread p f count worth (seam_behind seam (dotted_term marks 1 ∷ [])) (dotted_term 0 1 ∷ []) old new
     (some-sets (length (discs_behind code k 0 1 m m)))
     (λ term. coefficients-made code k 0 1 m m ds strips label other seam marks term are faces lowers is) sum)
   where

@@ -7,9 +7,9 @@ use Rattle.std.proofs.lemmas.Bool.Decides.{nat_tests}
 use Rattle.std.proofs.lemmas.List.Sorted.{sum_by-IsPermutation}
 use Rattle.std.proofs.lemmas.List.Sums.{sum_by-cons}
 use Rattle.kh_types.proofs.ListSums.{sum_by-alike, sum_by-flat_map}
-use Rattle.dotted_surfaces.specs.Points.{Points, AreAmong, IsPairing, ends_of}
+use Rattle.dotted_surfaces.specs.Points.{Points, AreAmong, IsOpenPairing, ends_of}
 use Rattle.dotted_maps.proofs.ComponentParts.{one_at}
-use Rattle.added_crossings.specs.Pairings.{IsPaired, end_count, ends_in}
+use Rattle.added_crossings.specs.Pairings.{IsPairingOf, end_count, ends_in}
 use Rattle.added_crossings.proofs.Members.{Contains-cons_cases}
 use Rattle.tangle_maps.specs.Pairings.{ArePartners, joins_of, opened_points, paired_arcs}
 use Rattle.tangle_maps.proofs.PairedLemmas.{paired, paired-among}
@@ -39,9 +39,9 @@ counted x (y ∷ xs) has = elim (Contains-cons_cases y x xs has) [
   | inr later ↦ omega (arith, sum_by-cons (one_at x) y xs, counted x xs later)
 ]
 
-IsPaired-of : (points : Points) (pairs : List (ℕ × ℕ)) → IsPairing points pairs → AreAmong points.opened pairs
-    → IsPaired points.opened pairs
-IsPaired-of points pairs pairing among = record {
+IsPairingOf-of : (points : Points) (pairs : List (ℕ × ℕ)) → IsOpenPairing points pairs → AreAmong points.opened pairs
+    → IsPairingOf points.opened pairs
+IsPairingOf-of points pairs pairing among = record {
   among = among;
   once = λ x has.
       omega (
@@ -54,8 +54,8 @@ IsPaired-of points pairs pairing among = record {
 }
 
 pub partners-paired : (partners opened : List ℕ) → opened ≡ paired_arcs partners → ArePartners partners
-    → IsPaired opened (joins_of partners opened)
+    → IsPairingOf opened (joins_of partners opened)
 partners-paired partners opened are is =
-    subst (λ xs. IsPaired xs (joins_of partners xs)) (sym are)
-    (IsPaired-of (opened_points (paired_arcs partners)) (joins_of partners (paired_arcs partners)) (paired partners is)
+    subst (λ xs. IsPairingOf xs (joins_of partners xs)) (sym are)
+    (IsPairingOf-of (opened_points (paired_arcs partners)) (joins_of partners (paired_arcs partners)) (paired partners is)
     (paired-among partners is))

@@ -15,7 +15,7 @@ use Rattle.std.proofs.lemmas.List.Sums.{sum_by-cons}
 use Rattle.kh_types.proofs.ListSums.{sum_by-flat_map}
 use Rattle.kh_types.proofs.Lists.{Contains-filter, Contains-map, Contains-flat_map}
 use Rattle.dotted_surfaces.proofs.Components.{AllByRecursion-at}
-use Rattle.added_crossings.specs.Pairings.{IsPaired, end_count, ends_in}
+use Rattle.added_crossings.specs.Pairings.{IsPairingOf, end_count, ends_in}
 use Rattle.added_crossings.specs.Steps.{is_mate, pair_with, pairs_among, pairs_at}
 use Rattle.added_crossings.proofs.Members.{All-contained, Contains-cons_cases, Contains-next}
 use Rattle.added_crossings.proofs.NewPairing.{IsPair, pairs-are}
@@ -230,7 +230,7 @@ nothing x (k, below, is) = omega (arith, below)
 abbrev pub made_of : List ℕ → List ℕ → List ℕ
 made_of points classes = fold paired_up (range_with_len 0 POINTS) (pairs_among points classes)
 
-pub made-own : (points classes : List ℕ) (a b : ℕ) → IsOpened points → IsPaired points (pairs_among points classes)
+pub made-own : (points classes : List ℕ) (a b : ℕ) → IsOpened points → IsPairingOf points (pairs_among points classes)
     → Contains (pairs_among points classes) (a, b) → IsPair points classes (a, b) → ArePartnersIn (made_of points classes) a b
 made-own points classes a b opened paired has is =
     own (range_with_len 0 POINTS) (pairs_among points classes) a b
@@ -238,7 +238,7 @@ made-own points classes a b opened paired has is =
     (AllByRecursion-at (λ z. z < POINTS) points b opened is.second) (λ same. absurd (omega (arith, same, is.rises))))
     has (paired.once a is.first) (paired.once b is.second)
 
-here : (points classes : List ℕ) (x : ℕ) → IsOpened points → IsPaired points (pairs_among points classes) → Contains points x
+here : (points classes : List ℕ) (x : ℕ) → IsOpened points → IsPairingOf points (pairs_among points classes) → Contains points x
     → pairs_at points classes x
     ≡ cond (leads (made_of points classes) x) (with_partner (made_of points classes) x ∷ []) []
 here points classes x opened paired has =
@@ -305,7 +305,7 @@ gathered {Y} g w l (x ∷ xs) all =
     each true later = ap (λ (ys : List Y). w x ∷ ys) later
     each false later = later
 
-pub made-pairs : (points classes : List ℕ) → IsOpened points → IsPaired points (pairs_among points classes)
+pub made-pairs : (points classes : List ℕ) → IsOpened points → IsPairingOf points (pairs_among points classes)
     → joins_of (made_of points classes) points ≡ pairs_among points classes
 made-pairs points classes opened paired =
     gathered (pairs_at points classes) (with_partner (made_of points classes)) (leads (made_of points classes)) points
@@ -314,7 +314,7 @@ made-pairs points classes opened paired =
     (λ x has. here points classes x opened paired has))
 
 pub pairs-of-made : (partners points classes : List ℕ) → partners ≡ made_of points classes → IsOpened points
-    → IsPaired points (pairs_among points classes) → joins_of partners points ≡ pairs_among points classes
+    → IsPairingOf points (pairs_among points classes) → joins_of partners points ≡ pairs_among points classes
 pairs-of-made partners points classes made opened paired =
     ap (λ ps. joins_of ps points) made ∙ made-pairs points classes opened paired
 

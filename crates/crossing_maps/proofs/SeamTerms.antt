@@ -12,13 +12,12 @@ use Rattle.dotted_maps.specs.Maps.{coefficient_in}
 use Rattle.dotted_maps.specs.Parts.{product_over}
 use Rattle.tangle_maps.specs.declared.seam.Seam.{Seam}
 use Rattle.tangle_maps.specs.Seams.{dots_on, factor_by, factor_for, left_by, load_by, seam_terms}
-use Rattle.tangle_maps.specs.Sums.{term_of}
+use Rattle.tangle_maps.specs.Sums.{dotted_term, dotted_times}
 use Rattle.tangle_maps.proofs.ChoiceLemmas.{choices-on}
 use Rattle.tangle_maps.proofs.ComposeLemmas.{product-on}
 use Rattle.crossing_maps.specs.AddedSeams.{AreMarks, IsAddedSeam}
 use Rattle.crossing_maps.specs.Counts.{Places, blanks_on, load_at}
 use Rattle.crossing_maps.proofs.Values.{factor_at, sets_at}
-use Rattle.crossing_maps.specs.NewTerms.{term_with}
 
 abbrev one_if : Bool → ℕ
 one_if b = cond b 1 0
@@ -82,8 +81,8 @@ load-same names at dots label other marks k seam is are has =
 
 pub terms-same : (names : List ℕ) (at : Places) (label other marks : ℕ) (seam : Seam) (term : Term) → IsAddedSeam names at seam
     → AreMarks (length at.closed) (length at.others) label other marks → AllByRecursion (λ k. Contains names k) at.rims
-    → seam_terms seam term (term_of marks 1)
-    ≡ map (term_with (term.coefficient * 1 * product_over (factor_at at term.dots label other) names)) (sets_at names at term.dots label other)
+    → seam_terms seam term (dotted_term marks 1)
+    ≡ map (dotted_times (term.coefficient * 1 * product_over (factor_at at term.dots label other) names)) (sets_at names at term.dots label other)
 terms-same names at label other marks seam term is are named =
     let load : (k : ℕ) → Contains names k → load_by seam term.dots marks k ≡ load_at at term.dots label other k =
     λ k has. load-same names at term.dots label other marks k seam is are has in
@@ -96,12 +95,12 @@ terms-same names at label other marks seam term is are named =
     ap (product_over (factor_by seam term.dots marks)) is.parts
     ∙ product-on (factor_by seam term.dots marks) (factor_at at term.dots label other) names
     (λ k has. ap₂ factor_for (load k has) (is.genera k has)) in
-    ap₂ (λ c xs. map (term_with (term.coefficient * 1 * c)) xs) factors sets
+    ap₂ (λ c xs. map (dotted_times (term.coefficient * 1 * c)) xs) factors sets
 
 -- the coefficients of chosen sets
-pub coefficient-chosen : (c kept : ℕ) (sets : List ℕ) → coefficient_in (map (term_with c) sets) kept ≡ c * count_by (nat_eq kept) sets
+pub coefficient-chosen : (c kept : ℕ) (sets : List ℕ) → coefficient_in (map (dotted_times c) sets) kept ≡ c * count_by (nat_eq kept) sets
 coefficient-chosen c kept sets =
-    sum_by-map (λ term. cond (nat_eq term.dots kept) term.coefficient 0) (term_with c) sets
+    sum_by-map (λ term. cond (nat_eq term.dots kept) term.coefficient 0) (dotted_times c) sets
     ∙ sum_by-alike (λ x. cond (nat_eq x kept) c 0) (λ x. c * one_if (nat_eq kept x)) (λ x. here x kept c) sets
     ∙ sum_by-times (λ x. one_if (nat_eq kept x)) c sets
   where

@@ -1,4 +1,4 @@
--- The arcs near a crossing and behind it, from the arcs that are open before it.
+-- The arcs near a crossing and after it, from the arcs that are open before it.
 -- Code filters all numbers below POINTS by two tests on the arcs open before and on the slots: so the tests have to be those of the
 -- definitions at arcs, where a count of slots is a count of ends (`ends-same`), and to fail elsewhere. Zero and the numbers above the arcs are
 -- neither open nor near (`none-first`, `none-past`): the code's lists leave loops out too, since a loop has no end.
@@ -17,7 +17,7 @@ use Rattle.added_crossings.specs.Codes.{ends_at, ends_before, is_open, points_at
 use Rattle.added_crossings.proofs.Members.{are-those, those-are}
 use Rattle.added_crossings.proofs.CodeSteps.{ends_before-more, few-ends, slot-near}
 use Rattle.tangle_maps.specs.declared.pairing.TheConstants.{POINTS}
-use Rattle.crossing_maps.specs.Sites.{IsPlace, ends_of, is_near_by, is_next_by}
+use Rattle.crossing_maps.specs.Sites.{IsPlace, slot_count, is_near_by, is_next_by}
 use Rattle.crossing_maps.proofs.Loopless.{near-are, near-few, open-are, open-few}
 use Rattle.crossing_maps.proofs.SplitArcs.{filter-within}
 
@@ -67,7 +67,7 @@ slot-test crossings k x slot place below is =
 abbrev one_if : Bool → ℕ
 one_if b = cond b 1 0
 
-pub ends-same : (crossings : List (List ℕ)) (k x : ℕ) → ends_at crossings k x ≡ ends_of (slice_index_or crossings k []) x
+pub ends-same : (crossings : List (List ℕ)) (k x : ℕ) → ends_at crossings k x ≡ slot_count (slice_index_or crossings k []) x
 ends-same crossings k x =
     count-four (λ place. nat_eq (arc_at crossings place) x) (4 * k)
     ∙ ap₂ (λ m n. m + n) (ap (λ b. one_if b) (slot-test crossings k x 0 (4 * k) (omega arith) (omega arith)))
@@ -79,7 +79,7 @@ apart-false : (x y : ℕ) → x ≢ y → nat_eq x y ≡ false
 apart-false x y apart = grind (arith, nat_tests)
 
 no-ends : (code : Code) (k x : ℕ) → IsPlace code k → (Contains (near (step_at code k)) x → ⊥)
-    → ends_of (slice_index_or code.crossings k []) x ≡ 0
+    → slot_count (slice_index_or code.crossings k []) x ≡ 0
 no-ends code k x place lacks =
     ap₂ (λ m n. m + n) (zero_at 0 (omega arith))
     (ap₂ (λ m n. m + n) (zero_at 1 (omega arith)) (ap₂ (λ m n. m + n) (zero_at 2 (omega arith)) (zero_at 3 (omega arith))))
@@ -125,7 +125,7 @@ near-all code k place =
     let opened = (points_at code k).opened in
     let never : (x : ℕ) → IsNone code k x → is_near_by opened slots x ≡ false =
     λ x none.
-    none-near (list_any (nat_eq x) opened) (ends_of slots x) (outside-test opened x none.not_open) (no-ends code k x place none.not_near) in
+    none-near (list_any (nat_eq x) opened) (slot_count slots x) (outside-test opened x none.not_open) (no-ends code k x place none.not_near) in
     filter-within (is_near_by opened slots) (is_near (step_at code k)) (arc_count code.crossings) POINTS place.fits
     (never 0 (none-first code k))
     (λ x above below.
@@ -143,7 +143,7 @@ next-all code k place =
     let opened = (points_at code k).opened in
     let never : (x : ℕ) → IsNone code k x → is_next_by opened slots x ≡ false =
     λ x none.
-    none-next (list_any (nat_eq x) opened) (ends_of slots x) (outside-test opened x none.not_open) (no-ends code k x place none.not_near) in
+    none-next (list_any (nat_eq x) opened) (slot_count slots x) (outside-test opened x none.not_open) (no-ends code k x place none.not_near) in
     filter-within (is_next_by opened slots) (is_open code (k + 1)) (arc_count code.crossings) POINTS place.fits
     (never 0 (none-first code k))
     (λ x above below.

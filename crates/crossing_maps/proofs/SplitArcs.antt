@@ -1,4 +1,4 @@
--- The arcs that have a partner behind a crossing are those that are open there.
+-- The arcs that have a partner after a crossing are those that are open there.
 use Rattle.std.proofs.Common.{◌≡◌, ◌≢◌, ℕ, inl, inr, ◌+◌, ◌-◌, ◌<◌, ◌≤◌, ◌∙◌, List, [], ◌∷◌, ◌++◌, refl, sym, subst, ap, ap₂, arith, Bool, true, false, cond, not}
 use Rattle.std.specs.Prelude.{nat_eq, slice_index}
 use Rattle.std.specs.List.{filter, range_with_len, Contains}
@@ -14,12 +14,12 @@ use Rattle.kh_types.proofs.Lists.{filter-range_agree}
 use Rattle.kh_types.proofs.Ranges.{range-append}
 use Rattle.dotted_surfaces.proofs.Components.{AllByRecursion-at}
 use Rattle.dotted_surfaces.specs.Points.{AreAmong}
-use Rattle.added_crossings.specs.Pairings.{IsPaired, end_count, ends_in}
+use Rattle.added_crossings.specs.Pairings.{IsPairingOf, end_count, ends_in}
 use Rattle.added_crossings.specs.Steps.{pairs_among, those}
 use Rattle.added_crossings.specs.Codes.{is_open, pairing_behind, points_at}
 use Rattle.added_crossings.proofs.Members.{All-contained, are-those, range-within, those-are}
 use Rattle.added_crossings.proofs.NewPairing.{IsPair, pairs-are}
-use Rattle.added_crossings.proofs.Pairs.{IsPaired-behind}
+use Rattle.added_crossings.proofs.Pairs.{IsPairingOf-behind}
 use Rattle.tangle_maps.specs.declared.pairing.TheConstants.{POINTS}
 use Rattle.tangle_maps.specs.Pairings.{IsOpened, is_paired, paired_arcs}
 use Rattle.crossing_maps.specs.Sites.{IsPlace, IsSite}
@@ -68,7 +68,7 @@ same-false : (x y : ℕ) → x ≡ y → not (nat_eq x y) ≡ false
 same-false x y same = ap not (eq-eqb x y same)
 
 -- who has a partner
-with-partner : (points classes : List ℕ) (x : ℕ) → IsOpened points → IsPaired points (pairs_among points classes) → Contains points x
+with-partner : (points classes : List ℕ) (x : ℕ) → IsOpened points → IsPairingOf points (pairs_among points classes) → Contains points x
     → is_paired (made_of points classes) x ≡ true
 with-partner points classes x opened paired has =
     let pairs = pairs_among points classes in
@@ -88,7 +88,7 @@ with-partner points classes x opened paired has =
 at-range : (n x : ℕ) → x < n → slice_index (range_with_len 0 n) x ≡ x
 at-range n x below = get_or-range_with_len 0 n x 0 below ∙ omega arith
 
-without-partner : (points classes : List ℕ) (x : ℕ) → IsPaired points (pairs_among points classes) → (Contains points x → ⊥) → x < POINTS
+without-partner : (points classes : List ℕ) (x : ℕ) → IsPairingOf points (pairs_among points classes) → (Contains points x → ⊥) → x < POINTS
     → is_paired (made_of points classes) x ≡ false
 without-partner points classes x paired not_has below =
     same-false x (slice_index (made_of points classes) x)
@@ -97,7 +97,7 @@ without-partner points classes x paired not_has below =
     ∙ at-range POINTS x below))
 
 pub arcs-made : (count : ℕ) (test : ℕ → Bool) (classes : List ℕ) → count + 1 ≤ POINTS → IsOpened (those count test)
-    → IsPaired (those count test) (pairs_among (those count test) classes)
+    → IsPairingOf (those count test) (pairs_among (those count test) classes)
     → paired_arcs (made_of (those count test) classes) ≡ those count test
 arcs-made count test classes within opened paired =
     let points = those count test in
@@ -113,7 +113,7 @@ arcs-made count test classes within opened paired =
     (λ x past below. without-partner points classes x paired (λ has. omega (arith, past, (those-are count test x has).below)) below)
 
 pub split-arcs : (code : Code) (k smoothing : ℕ) (m : List (ℕ × ℕ)) (partners classes opened around next slots : List ℕ) → IsPlace code k
-    → IsSite code k opened around next slots → IsPaired (points_at code k).opened m
+    → IsSite code k opened around next slots → IsPairingOf (points_at code k).opened m
     → classes ≡ classes_of POINTS (m ++ smoothing_of smoothing slots) → partners ≡ made_of next classes → IsOpened next
     → next ≡ paired_arcs partners
 split-arcs code k smoothing m partners classes opened around next slots place site paired are made small =
@@ -122,9 +122,9 @@ split-arcs code k smoothing m partners classes opened around next slots place si
     let same : pairs_among (points_at code (k + 1)).opened classes ≡ pairing_behind code k smoothing m =
     ap (pairs_among (points_at code (k + 1)).opened) (are ∙ ap (λ s. classes_of POINTS (m ++ smoothing_of smoothing s)) site.crossing)
     ∙ pairs-serve code k smoothing m place paired.among in
-    let behind = IsPaired-behind code k smoothing m place.twice place.crossing paired in
+    let behind = IsPairingOf-behind code k smoothing m place.twice place.crossing paired in
     is
     ∙ sym (arcs-made count (is_open code (k + 1)) classes place.fits (subst (λ xs. IsOpened xs) is small)
-    (subst (λ xs. IsPaired xs (pairs_among xs classes)) (open-are code (k + 1) place.twice)
-    (subst (λ pairs. IsPaired (points_at code (k + 1)).opened pairs) (sym same) behind)))
+    (subst (λ xs. IsPairingOf xs (pairs_among xs classes)) (open-are code (k + 1) place.twice)
+    (subst (λ pairs. IsPairingOf (points_at code (k + 1)).opened pairs) (sym same) behind)))
     ∙ ap paired_arcs (ap (λ xs. made_of xs classes) (sym is) ∙ sym made)

@@ -10,7 +10,7 @@ use Rattle.kh_types.proofs.Lists.{AllByRecursion-append, AllByRecursion-first, A
 use Rattle.kh_types.proofs.ListSums.{sum_by-alike, sum_by-flat_map, sum_by-map, sum_by-single}
 use Rattle.dotted_maps.specs.declared.term.Term.{Term}
 use Rattle.dotted_maps.specs.Maps.{coefficient_in, scaled}
-use Rattle.tangle_maps.specs.Sums.{HaveDotsBelow, IsSum, term_of}
+use Rattle.tangle_maps.specs.Sums.{HaveDotsBelow, IsSum, dotted_term}
 use Rattle.tangle_maps.proofs.SumLemmas.{IsSum-alike, coefficient-scaled}
 use Rattle.crossing_maps.specs.NewTerms.{all_terms}
 
@@ -35,7 +35,7 @@ beyond limit d (t ∷ ts) below past =
     (beyond limit d ts below.1 past)
 
 abbrev spread_term : (ℕ → ℕ) → ℕ → Term
-spread_term coefficient kept = term_of kept (coefficient kept)
+spread_term coefficient kept = dotted_term kept (coefficient kept)
 
 pub all-below : (coefficient : ℕ → ℕ) (limit a n : ℕ) → a + n ≤ limit → HaveDotsBelow limit (map (spread_term coefficient) (range_with_len a n))
 all-below coefficient limit a zero within = tt

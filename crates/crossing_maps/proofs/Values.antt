@@ -1,7 +1,7 @@
 -- The value of a surface that a crossing adds, as a product over its components, and as a count of dot sets.
 --
 -- A surface's value is a product over all numbers below its size. It is one over the components' least places alone (value-listed). The
--- factor of a component with genus g is, where u discs behind the crossing have no dot and d marks are elsewhere, what the load d + g gives,
+-- factor of a component with genus g is, where u discs after the crossing have no dot and d marks are elsewhere, what the load d + g gives,
 -- if u is what that load leaves, and 0 otherwise (weight-split): so the product is that of the loads' factors, times how often the dot set
 -- stands in the choices (value-chosen).
 use Rattle.std.proofs.Common.{◌≡◌, ◌≢◌, ℕ, zero, suc, inl, inr, ◌+◌, ◌-◌, ◌*◌, ◌/◌, ◌%◌, ◌^◌, ◌<◌, ◌≤◌, ◌∙◌, List, [], ◌∷◌, length, map, refl, sym, ap, ap₂, arith, Bool, true, false, cond, ◌&&◌}

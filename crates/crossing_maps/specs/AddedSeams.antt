@@ -13,13 +13,13 @@ use Rattle.tangle_maps.specs.declared.seam.Seam.{Seam}
 use Rattle.crossing_maps.specs.Counts.{Places, genus_at, on}
 use Rattle.crossing_maps.specs.Sites.{IsPlace}
 
--- a dot set marks closed circles by their labels: the first ones, before the crossing, where the label is v-, and the others, behind it, where
+-- a dot set marks closed circles by their labels: the first ones, before the crossing, where the label is v-, and the others, after it, where
 -- it is v+
 pub record AreMarks (closed others label other marks : ℕ) : Type 0 where
   pub before : (place : ℕ) → place < closed → bit marks place ≡ bit label place
   pub behind : (place : ℕ) → place < others → bit marks (closed + place) ≡ 1 - bit other place
 
--- a seam has these components, and on them discs before and behind the crossing, the circles that are closed on either side, one after the
+-- a seam has these components, and on them discs before and after the crossing, the circles that are closed on either side, one after the
 -- other, and the genus of each
 pub record IsAddedSeam (names : List ℕ) (at : Places) (seam : Seam) : Type 0 where
   pub parts : seam.components.items ≡ names

@@ -6,7 +6,7 @@ use Rattle.dotted_surfaces.specs.Surfaces.{Surface}
 use Rattle.dotted_surfaces.specs.Sheets.{marked, marked_else}
 use Rattle.tangle_maps.specs.Seams.{dots_on}
 
--- what a surface is glued of, at its places or on its components: the discs behind a crossing and before it, the circles that are closed on
+-- what a surface is glued of, at its places or on its components: the discs after a crossing and before it, the circles that are closed on
 -- either side, and the half strips that lower and raise the Euler count
 pub record Places : Type 0 where
   pub rims : List ℕ
@@ -27,7 +27,7 @@ on component at = record {
   raises = map component at.raises;
 }
 
--- a surface with discs behind and before, and circles that are closed on either side
+-- a surface with discs after and before, and circles that are closed on either side
 abbrev pub surface_of : ℕ → List ℕ → List (ℕ × ℕ) → List ℕ → List ℕ → List ℕ → List ℕ → List ℕ → List ℕ → ℕ → ℕ → ℕ → ℕ → Surface
 surface_of size places joins rims discs closed others lowers raises kept dots label other = record {
   size = size;
@@ -42,8 +42,8 @@ abbrev pub among : ℕ → List ℕ → ℕ
 among component places = count_by (λ x. nat_eq x component) places
 
 -- the genus of a component, where these are the components of the discs, the closed circles and the half strips
-abbrev pub genus_by : ℕ → List ℕ → List ℕ → List ℕ → List ℕ → List ℕ → List ℕ → ℕ
-genus_by component rims discs closed others lowers raises =
+abbrev pub genus_among : ℕ → List ℕ → List ℕ → List ℕ → List ℕ → List ℕ → List ℕ → ℕ
+genus_among component rims discs closed others lowers raises =
     (among component lowers + 4
     - (2 * (among component rims + (among component discs + (among component closed + among component others)))
     + among component raises))
@@ -66,9 +66,9 @@ surface_at size places joins at kept dots label other =
     surface_of size places joins at.rims at.discs at.closed at.others at.lowers at.raises kept dots label other
 
 abbrev pub genus_at : Places → ℕ → ℕ
-genus_at at component = genus_by component at.rims at.discs at.closed at.others at.lowers at.raises
+genus_at at component = genus_among component at.rims at.discs at.closed at.others at.lowers at.raises
 
--- the marks on a component that are not on discs behind the crossing, and with its genus its load
+-- the marks on a component that are not on discs after the crossing, and with its genus its load
 abbrev pub rest_at : Places → ℕ → ℕ → ℕ → ℕ → ℕ
 rest_at at dots label other component =
     dots_on component dots at.discs + (dots_on component label at.closed + blanks_on component other at.others)

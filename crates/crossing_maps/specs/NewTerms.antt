@@ -1,4 +1,4 @@
--- What the terms of a map become behind a crossing, as lists: a term for each dot set.
+-- What the terms of a map become after a crossing, as lists: a term for each dot set.
 use Rattle.std.specs.Prelude.{ℕ, ◌*◌, ◌^◌, ◌<◌, List, length, map}
 use Rattle.std.specs.List.{flat_map, range_with_len, sum_by}
 use Rattle.kh_types.specs.Code.{Code}
@@ -8,17 +8,13 @@ use Rattle.dotted_maps.specs.declared.term.Term.{Term}
 use Rattle.dotted_maps.specs.Maps.{coefficient_in}
 use Rattle.added_crossings.specs.Codes.{discs_behind}
 use Rattle.added_crossings.specs.Entries.{added_surface, saddle_surface}
-use Rattle.tangle_maps.specs.Sums.{HaveDotsBelow, term_of}
-
--- the term with this coefficient and these dots
-abbrev pub term_with : ℕ → ℕ → Term
-term_with coefficient dots = term_of dots coefficient
+use Rattle.tangle_maps.specs.Sums.{HaveDotsBelow, dotted_term}
 
 -- a term for each dot set below a count, with its coefficient
 abbrev pub all_terms : ℕ → (ℕ → ℕ) → List Term
-all_terms count coefficient = map (λ kept. term_of kept (coefficient kept)) (range_with_len 0 count)
+all_terms count coefficient = map (λ kept. dotted_term kept (coefficient kept)) (range_with_len 0 count)
 
--- how many dot sets there are behind a crossing, which has a smoothing on either side
+-- how many dot sets there are after a crossing, which has a smoothing on either side
 abbrev pub sets_behind : Code → ℕ → ℕ → ℕ → List (ℕ × ℕ) → List (ℕ × ℕ) → ℕ
 sets_behind code k first second m n = 2 ^ length (discs_behind code k first second m n)
 
@@ -41,7 +37,7 @@ saddle_map code k m label other =
 abbrev pub first_end : ℕ × ℕ → ℕ
 first_end pair = pair.0
 
--- terms are what a map becomes behind a crossing that has one smoothing on either side, modulo p: their dots are dots of the new discs, and
+-- terms are what a map becomes after a crossing that has one smoothing on either side, modulo p: their dots are dots of the new discs, and
 -- the coefficient of a dot set is that of each old term, times the number of the surface that the crossing adds to it
 pub record AreAddedTerms (p : ℕ) (code : Code) (k smoothing : ℕ) (m n : List (ℕ × ℕ)) (label other : ℕ) (old new : List Term) : Type 0 where
   pub dots : HaveDotsBelow (sets_behind code k smoothing smoothing m n) new

@@ -11,13 +11,13 @@ use Rattle.crossing_maps.specs.declared.splitting.Site.{Site}
 use Rattle.crossing_maps.specs.ListedPlaces.{IsArcs}
 use Rattle.crossing_maps.specs.Sites.{IsSite}
 
--- a pairing of the arcs that are open before the crossing, its pairing behind, and the circles that are closed
+-- a pairing of the arcs that are open before the crossing, its pairing after, and the circles that are closed
 pub record IsSplit (code : Code) (k smoothing : ℕ) (m behind : List (ℕ × ℕ)) (closed : List ℕ) : Type 0 where
   pub among : AreAmong (points_at code k).opened m
   pub pairs : behind ≡ pairing_behind code k smoothing m
   pub circles : closed ≡ closed_at code k smoothing m
 
--- the pairs of a side before the crossing and behind it, and the circles that are closed there
+-- the pairs of a side before the crossing and after it, and the circles that are closed there
 abbrev pub pairs_before : Site → Side → List (ℕ × ℕ)
 pairs_before site side = joins_of side.pairing.now.partners site.opened.now
 
@@ -27,14 +27,14 @@ pairs_after site side = joins_of side.split.now.pairing.partners site.next.now
 abbrev pub closed_on : Side → List ℕ
 closed_on side = side.split.now.closed.items
 
--- a site is the crossing behind the first k of a code, and a side is what a smoothing makes there
+-- a site is the crossing that comes after the first k of a code, and a side is what a smoothing makes there
 abbrev pub IsSiteAt : Code → ℕ → Site → Type 0
 IsSiteAt code k site = IsSite code k site.opened.now site.near.now site.next.now site.crossing.now
 
 abbrev pub IsSideAt : Code → ℕ → Site → Side → Type 0
 IsSideAt code k site side = IsSplit code k side.smoothing (pairs_before site side) (pairs_after site side) (closed_on side)
 
--- the arcs of a site are few enough to be numbered, and those that are open before or behind, or at the crossing, are near it
+-- the arcs of a site are few enough to be numbered, and those that are open before or after, or at the crossing, are near it
 pub record IsAround (site : Site) : Type 0 where
   pub opened : IsArcs POINTS site.opened.now
   pub around : IsArcs POINTS site.near.now

@@ -1,8 +1,8 @@
-//! The pairing behind a crossing.
+//! The pairing after a crossing.
 
 ghost use Rattle.std.specs.Prelude.{◌≡◌, ◌<◌, [], ◌∷◌};
 ghost use Rattle.std.specs.List.{fold, range_with_len};
-ghost use Rattle.added_crossings.specs.Pairings.{IsPaired};
+ghost use Rattle.added_crossings.specs.Pairings.{IsPairingOf};
 ghost use Rattle.added_crossings.specs.Steps.{pairs_among, pairs_at};
 ghost use Rattle.tangle_maps.specs.declared.pairing.TheConstants.{POINTS};
 ghost use Rattle.tangle_maps.specs.Pairings.{IsOpened, joins_of};
@@ -53,7 +53,7 @@ pub fn paired_by(classes: &Names, opened: &[u8]) -> Pairing
     requires opened { IsOpened opened.now }
     ensures made { result.partners
         ≡ fold paired_up (range_with_len 0 POINTS) (pairs_among opened.now classes.now) }
-    ensures pairs { IsPaired opened.now (pairs_among opened.now classes.now)
+    ensures pairs { IsPairingOf opened.now (pairs_among opened.now classes.now)
         → joins_of result.partners opened.now ≡ pairs_among opened.now classes.now }
 {
     let mut made = Pairing::none();

@@ -19,7 +19,7 @@ use tangle_maps::seam::{Arcs, Seam, least_names, named};
 pub const STRIPS: usize = 2 * POINTS;
 
 /// The seam of the discs before a crossing and the circles that are closed on either side, over the
-/// discs behind it; and how many of those circles are closed before the crossing: they come first.
+/// discs after it; and how many of those circles are closed before the crossing: they come first.
 #[derive(Drop)]
 pub struct Bridge {
     pub seam: Seam,

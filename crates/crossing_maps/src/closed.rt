@@ -24,7 +24,7 @@ fn is_none_in(opened: &[u8], classes: &Names, class: u8) -> bool
     true
 }
 
-/// The classes of the arcs near the crossing of which none is open behind it, by their least arcs.
+/// The classes of the arcs near the crossing of which none is open after it, by their least arcs.
 pub fn closed_by(classes: &Names, near: &[u8], opened: &[u8]) -> ArrayVec<u8, POINTS>
     requires near { IsOpened near.now }
     requires room { length near.now ≤ POINTS }

@@ -11,14 +11,14 @@ ghost use Rattle.added_crossings.specs.Steps.{near};
 ghost use Rattle.dotted_surfaces.specs.Surfaces.{genus_on, marks_on};
 ghost use Rattle.tangle_maps.specs.declared.pairing.TheConstants.{POINTS};
 ghost use Rattle.tangle_maps.specs.Pairings.{IsOpened};
-ghost use Rattle.crossing_maps.specs.Counts.{genus_at, genus_by, marks_by, surface_of};
+ghost use Rattle.crossing_maps.specs.Counts.{genus_at, genus_among, marks_by, surface_of};
 ghost use Rattle.crossing_maps.specs.ListedPlaces.{HaveRoom, places_in};
 
 use tangle_maps::POINTS;
 use tangle_maps::names::Names;
 use tangle_maps::seam::how_many;
 
-/// Places of a surface, or the components on which they lie: of the discs behind the crossing and
+/// Places of a surface, or the components on which they lie: of the discs after the crossing and
 /// before it, of the circles closed on either side, and of half strips.
 #[derive(Clone, Copy)]
 pub struct Lists<'a> {
@@ -63,7 +63,7 @@ pub fn genera_are_counted()
         (rims discs closed others lowers raises : List ℕ) (kept dots label other component : ℕ)
         → genus_on (surface_of size places joins rims discs closed others lowers raises kept dots
         label other) component
-        ≡ genus_by component (map (slice_index (classes_of size joins)) rims)
+        ≡ genus_among component (map (slice_index (classes_of size joins)) rims)
         (map (slice_index (classes_of size joins)) discs)
         (map (slice_index (classes_of size joins)) closed)
         (map (slice_index (classes_of size joins)) others)
@@ -71,7 +71,7 @@ pub fn genera_are_counted()
         (map (slice_index (classes_of size joins)) raises) }
 {}
 
-/// The surface of a term behind a crossing is such a surface.
+/// The surface of a term after a crossing is such a surface.
 pub fn terms_are_counted()
     ensures { (code : Code) (k smoothing : ℕ) (m n : List (ℕ × ℕ)) (dots label other kept : ℕ)
         → added_surface code k smoothing m n dots label other kept

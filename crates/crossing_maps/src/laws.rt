@@ -1,11 +1,11 @@
-//! The pairing behind a crossing, its closed circles and the surface that it adds, in classes of all
+//! The pairing after a crossing, its closed circles and the surface that it adds, in classes of all
 //! arcs that a program can number.
 
 ghost use Rattle.std.specs.Prelude.{◌≡◌, ℕ, ◌+◌, ◌≤◌, List, [], ◌++◌, length, slice_index_or};
 ghost use Rattle.kh_types.specs.Classes.{classes_of};
 ghost use Rattle.kh_types.specs.Code.{Code};
 ghost use Rattle.dotted_surfaces.specs.Points.{AreAmong};
-ghost use Rattle.added_crossings.specs.Pairings.{IsPaired};
+ghost use Rattle.added_crossings.specs.Pairings.{IsPairingOf};
 ghost use Rattle.added_crossings.specs.Steps.{near, pairs_among};
 ghost use Rattle.added_crossings.specs.Codes.{closed_at, pairing_behind, points_at, smoothing_at, step_at};
 ghost use Rattle.tangle_maps.specs.declared.pairing.TheConstants.{POINTS};
@@ -18,7 +18,7 @@ ghost use Rattle.crossing_maps.specs.declared.between.Side.{Side};
 ghost use Rattle.crossing_maps.specs.declared.splitting.Site.{Site};
 
 /// What classes of all arcs that a program can number make of a pairing and a smoothing is the
-/// pairing behind the crossing, and its closed circles.
+/// pairing after the crossing, and its closed circles.
 pub fn all_arcs_serve()
     ensures pairs { (code : Code) (k smoothing : ℕ) (m : List (ℕ × ℕ)) → IsPlace code k
         → AreAmong (points_at code k).opened m → pairs_among (points_at code (k + 1)).opened
@@ -30,7 +30,7 @@ pub fn all_arcs_serve()
         ≡ closed_at code k smoothing m }
 {}
 
-/// Arcs at a crossing, open before or behind it, near it, or named for a circle that it closes, are
+/// Arcs at a crossing, open before or after it, near it, or named for a circle that it closes, are
 /// few enough for a program.
 pub fn places_have_arcs()
     ensures slots { (code : Code) (k : ℕ) → IsPlace code k
@@ -59,5 +59,5 @@ pub fn crossings_close_few_circles()
 /// Partners are a pairing of the arcs that have another arc for a partner.
 pub fn partners_are_paired()
     ensures { (partners opened : List ℕ) → opened ≡ paired_arcs partners → ArePartners partners
-        → IsPaired opened (joins_of partners opened) }
+        → IsPairingOf opened (joins_of partners opened) }
 {}

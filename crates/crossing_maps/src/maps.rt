@@ -1,4 +1,4 @@
-//! What maps become behind a crossing, and saddles: the maps between the new objects of a scan.
+//! What maps become after a crossing, and saddles: the maps between the new objects of a scan.
 
 ghost use Rattle.std.specs.Prelude.{◌≡◌, ℕ, List, IfOk};
 ghost use Rattle.kh_types.specs.Code.{Code};
@@ -18,7 +18,7 @@ use smallvec::SmallVec;
 use std::alloc::Global;
 use tangle_maps::Terms;
 
-/// What a map becomes behind a crossing, by the bridge between two sides with one smoothing and
+/// What a map becomes after a crossing, by the bridge between two sides with one smoothing and
 /// labels of the circles that are closed on either side.
 /// Source: Bar-Natan 2007.
 pub fn added_map<F: PrimeField>(

@@ -25,7 +25,7 @@ fn lowest(number: u64, count: usize) -> u64
 
 impl Bridge {
     /// The dots of the closed circles with these labels: a circle has one before the crossing where
-    /// its label is v-, and behind it where that is v+.
+    /// its label is v-, and after it where that is v+.
     pub fn marks(&self, labels: Labels) -> u64
         requires { CanLabel self.now }
         ensures { AreMarks self.now.closed (length self.now.seam.second.items - self.now.closed)

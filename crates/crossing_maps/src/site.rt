@@ -1,4 +1,4 @@
-//! Which arcs are near a crossing, and which are open behind it.
+//! Which arcs are near a crossing, and which are open after it.
 
 ghost use Rattle.std.specs.Prelude.{◌≡◌, ℕ, ◌+◌, ◌<◌, ◌≤◌, ◌++◌, [], ◌∷◌, length, nat_eq, slice_index_or, if◌then◌else◌};
 ghost use Rattle.std.specs.List.{filter, list_any, range_with_len};
@@ -6,15 +6,15 @@ ghost use Rattle.kh_types.specs.Code.{Code};
 ghost use Rattle.added_crossings.specs.Steps.{near};
 ghost use Rattle.added_crossings.specs.Codes.{points_at, step_at};
 ghost use Rattle.tangle_maps.specs.declared.pairing.TheConstants.{POINTS};
-ghost use Rattle.crossing_maps.specs.Sites.{IsPlace, ends_of, is_near_by, is_next_by};
+ghost use Rattle.crossing_maps.specs.Sites.{IsPlace, slot_count, is_near_by, is_next_by};
 
 use arrayvec::ArrayVec;
 use kh_types::Crossing;
 use tangle_maps::POINTS;
 
 /// How many slots of a crossing have an arc.
-fn ends_of(crossing: &Crossing, arc: u8) -> u8
-    ensures ends { result ≡ ends_of crossing.now arc }
+fn slot_count(crossing: &Crossing, arc: u8) -> u8
+    ensures ends { result ≡ slot_count crossing.now arc }
     ensures bound { result ≤ 4 }
 {
     let [a, b, c, d] = crossing.0;
@@ -37,14 +37,14 @@ fn is_among(arcs: &[u8], arc: u8) -> bool
 fn is_near_by(opened: &[u8], crossing: &Crossing, arc: u8) -> bool
     ensures { result ≡ is_near_by opened.now crossing.now arc }
 {
-    is_among(opened, arc) || ends_of(crossing, arc) > 0
+    is_among(opened, arc) || slot_count(crossing, arc) > 0
 }
 
-/// Whether an arc is open behind the crossing.
+/// Whether an arc is open after the crossing.
 fn is_next_by(opened: &[u8], crossing: &Crossing, arc: u8) -> bool
     ensures { result ≡ is_next_by opened.now crossing.now arc }
 {
-    u8::from(is_among(opened, arc)) + ends_of(crossing, arc) == 1
+    u8::from(is_among(opened, arc)) + slot_count(crossing, arc) == 1
 }
 
 /// Adds an arc to others, if it passes.
@@ -72,7 +72,7 @@ pub fn near_arcs(opened: &[u8], crossing: &Crossing) -> ArrayVec<u8, POINTS>
     made
 }
 
-/// The arcs that are open behind the crossing, ascending.
+/// The arcs that are open after the crossing, ascending.
 pub fn next_arcs(opened: &[u8], crossing: &Crossing) -> ArrayVec<u8, POINTS>
     ensures { (code : Code) (k : ℕ) → IsPlace code k → opened.now ≡ (points_at code k).opened
         → crossing.now ≡ slice_index_or code.crossings k []

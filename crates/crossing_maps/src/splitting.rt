@@ -2,7 +2,7 @@
 
 ghost use Rattle.std.specs.Prelude.{◌≡◌, ℕ, ◌≤◌, length};
 ghost use Rattle.kh_types.specs.Code.{Code};
-ghost use Rattle.added_crossings.specs.Pairings.{IsPaired};
+ghost use Rattle.added_crossings.specs.Pairings.{IsPairingOf};
 ghost use Rattle.added_crossings.specs.Codes.{closed_at, pairing_behind, points_at};
 ghost use Rattle.tangle_maps.specs.declared.pairing.TheConstants.{POINTS};
 ghost use Rattle.tangle_maps.specs.Pairings.{IsOpened, joins_of, paired_arcs};
@@ -17,7 +17,7 @@ use kh_types::Crossing;
 use tangle_maps::{POINTS, Pairing};
 
 /// Where a crossing is added: the arcs that are open before it, those that are open or at it, and
-/// those that are open behind it.
+/// those that are open after it.
 #[derive(Clone, Copy)]
 pub struct Site<'a> {
     pub opened: &'a [u8],
@@ -26,7 +26,7 @@ pub struct Site<'a> {
     pub crossing: &'a Crossing,
 }
 
-/// The pairing behind a crossing, and the circles that it closes, by their least arcs.
+/// The pairing after a crossing, and the circles that it closes, by their least arcs.
 #[derive(Drop)]
 pub struct Split {
     pub pairing: Pairing,
@@ -43,18 +43,18 @@ pub fn split_at(site: &Site<'_>, pairing: &Pairing, smoothing: u8) -> Split
     ensures pairs { (code : Code) (k : ℕ) → IsPlace code k
         → IsSite code k site.now.opened.now site.now.near.now site.now.next.now
         site.now.crossing.now
-        → IsPaired (points_at code k).opened (joins_of pairing.now.partners site.now.opened.now)
+        → IsPairingOf (points_at code k).opened (joins_of pairing.now.partners site.now.opened.now)
         → joins_of result.pairing.partners site.now.next.now ≡ pairing_behind code k smoothing
         (joins_of pairing.now.partners site.now.opened.now) }
     ensures arcs { (code : Code) (k : ℕ) → IsPlace code k
         → IsSite code k site.now.opened.now site.now.near.now site.now.next.now
         site.now.crossing.now
-        → IsPaired (points_at code k).opened (joins_of pairing.now.partners site.now.opened.now)
+        → IsPairingOf (points_at code k).opened (joins_of pairing.now.partners site.now.opened.now)
         → site.now.next.now ≡ paired_arcs result.pairing.partners }
     ensures closed { (code : Code) (k : ℕ) → IsPlace code k
         → IsSite code k site.now.opened.now site.now.near.now site.now.next.now
         site.now.crossing.now
-        → IsPaired (points_at code k).opened (joins_of pairing.now.partners site.now.opened.now)
+        → IsPairingOf (points_at code k).opened (joins_of pairing.now.partners site.now.opened.now)
         → result.closed.items ≡ closed_at code k smoothing
         (joins_of pairing.now.partners site.now.opened.now) }
 {

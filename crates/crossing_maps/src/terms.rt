@@ -1,4 +1,4 @@
-//! The terms of a map behind a crossing.
+//! The terms of a map after a crossing.
 
 ghost use Rattle.std.specs.Prelude.{◌≡◌, ℕ, List, map, OnOk};
 ghost use Rattle.kh_types.specs.Code.{Code};
@@ -6,7 +6,7 @@ ghost use Rattle.dotted_surfaces.specs.Points.{discs};
 ghost use Rattle.dotted_maps.specs.Maps.{scaled};
 ghost use Rattle.added_crossings.specs.Codes.{points_at, saddle_strips};
 ghost use Rattle.tangle_maps.specs.Seams.{CanCompose};
-ghost use Rattle.tangle_maps.specs.Sums.{AreReduced, IsSum, term_of};
+ghost use Rattle.tangle_maps.specs.Sums.{AreReduced, IsSum, dotted_term};
 ghost use Rattle.crossing_maps.specs.AddedSeams.{ArePairs, IsSeamAt};
 ghost use Rattle.crossing_maps.specs.NewTerms.{first_end, new_map, saddle_map};
 
@@ -19,7 +19,7 @@ use tangle_maps::{Terms, add_all};
 
 /// The term with these dots and the coefficient 1.
 fn dotted(dots: u64) -> Term
-    ensures { result ≡ term_of dots 1 }
+    ensures { result ≡ dotted_term dots 1 }
 {
     Term {
         dots,
@@ -27,7 +27,7 @@ fn dotted(dots: u64) -> Term
     }
 }
 
-/// Adds a multiple of what a map becomes behind a crossing, where that has one smoothing and the
+/// Adds a multiple of what a map becomes after a crossing, where that has one smoothing and the
 /// labels of closed circles are these marks, to a sum.
 pub fn add_map<F: PrimeField>(
     terms: &mut Terms,

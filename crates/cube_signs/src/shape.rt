@@ -30,12 +30,8 @@ impl Shape {
         if j > self.top {
             return None;
         }
-        let over = (i32::from(self.top) - i32::from(j)) as u32;
-        if over % 2 == 0 {
-            Some((over / 2) as u16)
-        } else {
-            None
-        }
+        let over = self.top.abs_diff(j);
+        if over % 2 == 0 { Some(over / 2) } else { None }
     }
 
     /// Whether the state has a generator of the quantum degree j.

@@ -16,7 +16,7 @@ use Rattle.kh_types.proofs.ListSums.{sum_by-map, sum_by-filter}
 use Rattle.dotted_surfaces.specs.Surfaces.{Surface, is_component, faces_on, lowers_on, marks_on, weight, factor, product_below}
 use Rattle.dotted_surfaces.proofs.Components.{list_any-contained, list_any-some, AllByRecursion-at, AllByRecursion-weaker}
 use Rattle.dotted_surfaces.proofs.Products.{product_below-ones, product_below-alike, product_below-without, without}
-use Rattle.dotted_surfaces.specs.Points.{Points, ArePlaced, AreAmong, IsPairing, ends_of, inner, discs}
+use Rattle.dotted_surfaces.specs.Points.{Points, ArePlaced, AreAmong, IsOpenPairing, ends_of, inner, discs}
 use Rattle.dotted_surfaces.specs.Sheets.{marked, marked_else, sheet}
 use Rattle.dotted_maps.specs.Composition.{composed, composed_faces}
 use Rattle.dotted_maps.specs.Parts.{components, component_in, how_many, dotted_on, undotted_on, genus_in, part_coefficient, product_over, part_at}
@@ -192,13 +192,13 @@ factor-inside points m n o dots others kept k joined =
     (marks-inside points m n o dots others kept k)
     ∙ weight-parts genus dotted undotted)
 
-distinct-opened : (points : Points) (m : List (ℕ × ℕ)) → IsPairing points m → AreDistinct points.opened
+distinct-opened : (points : Points) (m : List (ℕ × ℕ)) → IsOpenPairing points m → AreDistinct points.opened
 distinct-opened points m pairing x =
     let few = pairing.once x in
     let same = sum_by-IsPermutation (one_at x) points.opened (ends_of m) pairing.ends in
     omega (arith, few, same)
 
-pub composed-parts : (points : Points) (m n o : List (ℕ × ℕ)) (dots others kept : ℕ) → ArePlaced points → IsPairing points m
+pub composed-parts : (points : Points) (m n o : List (ℕ × ℕ)) (dots others kept : ℕ) → ArePlaced points → IsOpenPairing points m
     → AreAmong points.opened m → AreAmong points.opened n → AreAmong points.opened o
     → composed points m n o dots others kept ≡ product_over (part_at points m n o dots others kept) (components points m n o)
 composed-parts points m n o dots others kept placed pairing first second third =

@@ -352,7 +352,7 @@ closed-term points m n w others dots before after glued moved =
     (IsPermutation-map place_of_face (term_faces points m n w dots before after) others moved))
     glued.closed
 
--- the terms, one behind the other
+-- the terms, one after the other
 
 second-term : (points : Points) (n o w : List (ℕ × ℕ)) (others between after : ℕ)
     → IsPermutation (term_faces points n o w others between after)

@@ -25,7 +25,7 @@ use Rattle.dotted_surfaces.proofs.Components.{AllByRecursion-at, AllByRecursion-
 use Rattle.dotted_surfaces.proofs.Factors.{factor-at, factor-none}
 use Rattle.dotted_surfaces.proofs.Products.{without, product_below-ones, product_below-without}
 use Rattle.dotted_surfaces.proofs.OneCut.{is_component-of}
-use Rattle.dotted_surfaces.specs.Points.{Points, ArePlaced, IsPairing, discs, circles}
+use Rattle.dotted_surfaces.specs.Points.{Points, ArePlaced, IsOpenPairing, discs, circles}
 use Rattle.dotted_surfaces.specs.Sheets.{marked, marked_else, sheet}
 use Rattle.dotted_maps.specs.Terms.{term_faces, entry, AreGlued}
 use Rattle.dotted_maps.specs.Maps.{matrix_of, identity}
@@ -98,7 +98,7 @@ sum-one t g (x ∷ xs) k (suc i) one below is =
 -- what is asked of the identity
 pub record IsItself (points : Points) (m w : List (ℕ × ℕ)) : Type 0 where
   pub placed : ArePlaced points
-  pub pairing : IsPairing points m
+  pub pairing : IsOpenPairing points m
   pub glued : AreGlued points m m w
 
 abbrev itself_at : Points → List (ℕ × ℕ) → List (ℕ × ℕ) → ℕ → ℕ → Surface

@@ -13,7 +13,7 @@ use Rattle.kh_types.proofs.ListSums.{sum_by-map, sum_by-alike, sum_by-times, sum
 use Rattle.kh_types.proofs.Lists.{AllByRecursion-append}
 use Rattle.dotted_surfaces.proofs.TwoSides.{AllByRecursion-map}
 use Rattle.dotted_surfaces.proofs.Components.{AllByRecursion-weaker, AllByRecursion-at}
-use Rattle.dotted_surfaces.specs.Points.{Points, ArePlaced, AreAmong, IsPairing, discs}
+use Rattle.dotted_surfaces.specs.Points.{Points, ArePlaced, AreAmong, IsOpenPairing, discs}
 use Rattle.dotted_maps.specs.Composition.{composed}
 use Rattle.dotted_maps.specs.Parts.{components, component_in, dotted_on, undotted_on, genus_in, part_coefficient, product_over, part_at}
 use Rattle.dotted_maps.specs.Maps.{coefficient_in, composed_in, IsComposition}
@@ -124,7 +124,7 @@ product-alike f g (x ∷ xs) alike = ap₂ (λ a b. a * b) (alike x) (product-al
 -- what is asked of the pairings
 pub record AreListed (points : Points) (m n o : List (ℕ × ℕ)) : Type 0 where
   pub placed : ArePlaced points
-  pub pairing : IsPairing points m
+  pub pairing : IsOpenPairing points m
   pub first : AreAmong points.opened m
   pub second : AreAmong points.opened n
   pub third : AreAmong points.opened o

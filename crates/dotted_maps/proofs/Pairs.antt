@@ -14,7 +14,7 @@ use Rattle.kh_types.proofs.ClassLemmas.{classes-together}
 use Rattle.kh_types.proofs.ListSums.{sum_by-filter}
 use Rattle.kh_types.proofs.Lists.{AllByRecursion-append, AllByRecursion-first}
 use Rattle.dotted_surfaces.proofs.Components.{AllByRecursion-weaker}
-use Rattle.dotted_surfaces.specs.Points.{Points, AreAmong, IsPairing, ends_of, discs}
+use Rattle.dotted_surfaces.specs.Points.{Points, AreAmong, IsOpenPairing, ends_of, discs}
 use Rattle.dotted_maps.proofs.LeastPoints.{AreJoins, joins-below, class-respected, AreAmong-append}
 
 pub all-both : {X : Type 0} (P Q R : X → Type 0) (xs : List X) → ((x : X) → P x → Q x → R x) → AllByRecursion P xs
@@ -183,7 +183,7 @@ halves classes amount (pair ∷ m) half respects =
     summed s t x y z a b c is_s is_t half same rest = omega (arith, is_s, is_t, half, same, rest)
 
 pub pairs-counted : (points : Points) (m : List (ℕ × ℕ)) (amount : ℕ → ℕ) → AllByRecursion (λ x. x < points.size) points.opened
-    → IsPairing points m → AreAmong points.opened m → Respects amount m
+    → IsOpenPairing points m → AreAmong points.opened m → Respects amount m
     → 2 * sum_by amount (discs points m m) ≡ sum_by amount points.opened
 pairs-counted points m amount below pairing among respects =
     let classes = classes_of points.size (m ++ m) in

@@ -9,7 +9,7 @@ abbrev pub composed_faces : Points → List (ℕ × ℕ) → List (ℕ × ℕ) �
 composed_faces points m n o dots others kept =
     marked_else kept (discs points m o) ++ (marked dots (discs points m n) ++ marked others (discs points n o))
 
--- the coefficient with which a dot set from m to o stands in the composition of dots from m to n, and behind them others from n to o
+-- the coefficient with which a dot set from m to o stands in the composition of dots from m to n, and after them others from n to o
 abbrev pub composed : Points → List (ℕ × ℕ) → List (ℕ × ℕ) → List (ℕ × ℕ) → ℕ → ℕ → ℕ → ℕ
 composed points m n o dots others kept =
     value (sheet (inner points) m o n (composed_faces points m n o dots others kept))

@@ -1,8 +1,6 @@
 -- A term between two pairings is a set of dotted discs. The number of it, as an entry between labels of the circles.
-use Rattle.std.specs.Prelude.{ℕ, ◌-◌, List, [], ◌++◌, map}
-use Rattle.std.specs.List.{enumerate_from}
-use Rattle.kh_types.specs.Bits.{bit}
-use Rattle.dotted_surfaces.specs.Surfaces.{Surface, IsClosed, value}
+use Rattle.std.specs.Prelude.{ℕ, List, ◌++◌}
+use Rattle.dotted_surfaces.specs.Surfaces.{IsClosed, value}
 use Rattle.dotted_surfaces.specs.Points.{Points, AreAmong, discs, circles}
 use Rattle.dotted_surfaces.specs.Sheets.{marked, marked_else, sheet}
 

@@ -4,7 +4,7 @@ ghost use Rattle.std.specs.Prelude.{◌≡◌, ℕ, ◌+◌, ◌*◌, ◌%◌, �
 ghost use Rattle.kh_types.specs.Circles.{smoothings_of, circle_names};
 ghost use Rattle.kh_types.specs.Code.{Code};
 ghost use Rattle.kh_types.specs.Products.{sum_below, product_at};
-ghost use Rattle.dotted_surfaces.specs.Points.{Points, ArePlaced, AreAmong, IsPairing, inner, discs, circles, whole};
+ghost use Rattle.dotted_surfaces.specs.Points.{Points, ArePlaced, AreAmong, IsOpenPairing, inner, discs, circles, whole};
 ghost use Rattle.dotted_maps.specs.Terms.{AreGlued, entry};
 ghost use Rattle.dotted_maps.specs.Composition.{composed};
 ghost use Rattle.dotted_maps.specs.Parts.{components, part_at, product_over};
@@ -12,7 +12,7 @@ ghost use Rattle.dotted_maps.specs.Choices.{listed};
 ghost use Rattle.dotted_maps.specs.Maps.{matrix_of, IsComposition, composition, identity, scaled, AreOneMap};
 ghost use Rattle.dotted_maps.specs.declared.term.Term.{Term};
 
-/// One term behind another, summed over the labels of the circles between them, is the sum of the
+/// One term after another, summed over the labels of the circles between them, is the sum of the
 /// terms of which the composition consists.
 pub fn compositions_add_up()
     ensures { (points : Points) (m n o w : List (ℕ × ℕ)) (dots others before after : ℕ) → ArePlaced points
@@ -46,10 +46,10 @@ pub fn compositions_are_products()
 
 /// The identity of a pairing: an entry is 1 where the labels agree, else 0.
 pub fn identities_are_identities()
-    ensures entry { (points : Points) (m w : List (ℕ × ℕ)) (before after : ℕ) → ArePlaced points → IsPairing points m
+    ensures entry { (points : Points) (m w : List (ℕ × ℕ)) (before after : ℕ) → ArePlaced points → IsOpenPairing points m
         → AreGlued points m m w → before < 2 ^ length (circles points m w) → after < 2 ^ length (circles points m w)
         → entry points m m w 0 before after ≡ (if nat_eq before after then 1 else 0) }
-    ensures matrix { (p : ℕ) (points : Points) (m w : List (ℕ × ℕ)) (row column : ℕ) → ArePlaced points → IsPairing points m
+    ensures matrix { (p : ℕ) (points : Points) (m w : List (ℕ × ℕ)) (row column : ℕ) → ArePlaced points → IsOpenPairing points m
         → AreGlued points m m w → row < 2 ^ length (circles points m w) → column < 2 ^ length (circles points m w)
         → matrix_of p points m m w identity row column ≡ (if nat_eq row column then 1 else 0) % p }
 {}
@@ -70,7 +70,7 @@ pub fn matrices_are_linear()
 /// A coefficient of a composition is a product over the components of the three pairings: on each,
 /// all discs are dotted, or all but one, and the coefficient is 1, or 2 for genus 1.
 pub fn compositions_have_parts()
-    ensures { (points : Points) (m n o : List (ℕ × ℕ)) (dots others kept : ℕ) → ArePlaced points → IsPairing points m
+    ensures { (points : Points) (m n o : List (ℕ × ℕ)) (dots others kept : ℕ) → ArePlaced points → IsOpenPairing points m
         → AreAmong points.opened m → AreAmong points.opened n → AreAmong points.opened o
         → composed points m n o dots others kept
         ≡ product_over (part_at points m n o dots others kept) (components points m n o) }
@@ -87,6 +87,6 @@ pub fn nothing_is_opened_at_first()
 /// it is their composition.
 pub fn compositions_are_listed()
     ensures { (p : ℕ) (points : Points) (m n o : List (ℕ × ℕ)) (first second : List Term) → ArePlaced points
-        → IsPairing points m → AreAmong points.opened m → AreAmong points.opened n → AreAmong points.opened o
+        → IsOpenPairing points m → AreAmong points.opened m → AreAmong points.opened n → AreAmong points.opened o
         → IsComposition p points m n o first second (listed points m n o first second) }
 {}

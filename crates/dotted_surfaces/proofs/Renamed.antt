@@ -8,7 +8,7 @@ use Rattle.kh_types.specs.Classes.{classes_of, Respects}
 use Rattle.kh_types.proofs.ClassLemmas.{classes-finest}
 use Rattle.kh_types.proofs.ListSums.{sum_by-alike}
 use Rattle.dotted_surfaces.specs.Surfaces.{Surface, component_of, IsClosed, factor, value, product_below, IsPlaced}
-use Rattle.dotted_surfaces.specs.Projections.{KeepsComponents, LeadsBack, IsReordered}
+use Rattle.dotted_surfaces.specs.Projections.{KeepsComponents, LeadsBack, IsRelisted}
 use Rattle.dotted_surfaces.proofs.Products.{product_below-alike}
 use Rattle.dotted_surfaces.proofs.Components.{list_any-alike}
 use Rattle.dotted_surfaces.proofs.Factors.{AreAlike, HaveOneCount-each, factor-alike, genus-alike}
@@ -38,18 +38,18 @@ KeepsComponents-led f back old new placed new_placed leads = record {
 
 -- the same lists in another order
 
-component-reordered : (old new : Surface) → IsReordered old new → (x : ℕ) → component_of old x ≡ component_of new x
+component-reordered : (old new : Surface) → IsRelisted old new → (x : ℕ) → component_of old x ≡ component_of new x
 component-reordered old new reordered x =
     ap₂ (λ (n : ℕ) (pairs : List (ℕ × ℕ)). slice_index (classes_of n pairs) x) (sym reordered.size) (sym reordered.joins)
 
-sum-reordered : {X : Type 0} (old new : Surface) (place amount : X → ℕ) (xs ys : List X) (k : ℕ) → IsReordered old new
+sum-reordered : {X : Type 0} (old new : Surface) (place amount : X → ℕ) (xs ys : List X) (k : ℕ) → IsRelisted old new
     → IsPermutation xs ys → sum_at old k place amount xs ≡ sum_at new k place amount ys
 sum-reordered old new place amount xs ys k reordered moved =
     sum_by-alike (amount_at old k place amount) (amount_at new k place amount)
     (λ x. ap (λ c. cond (nat_eq c k) (amount x) 0) (component-reordered old new reordered (place x))) xs
     ∙ sym (sum_by-IsPermutation (amount_at new k place amount) xs ys moved)
 
-alike-reordered : (old new : Surface) (k : ℕ) → IsReordered old new → AreAlike old k new k
+alike-reordered : (old new : Surface) (k : ℕ) → IsRelisted old new → AreAlike old k new k
 alike-reordered old new k reordered = record {
   is = list_any-alike (λ x. nat_eq (component_of old x) k) (λ x. nat_eq (component_of new x) k) old.places
       (λ x. ap (λ c. nat_eq c k) (component-reordered old new reordered x))
@@ -61,7 +61,7 @@ alike-reordered old new k reordered = record {
       (sum-reordered old new itself one_place old.raises new.raises k reordered reordered.raises);
 }
 
-pub value-reordered : (old new : Surface) → IsReordered old new → value old ≡ value new
+pub value-reordered : (old new : Surface) → IsRelisted old new → value old ≡ value new
 value-reordered old new reordered =
     product_below-alike old.size (factor old) (factor new)
     (λ k below. factor-alike old k new k (alike-reordered old new k reordered))
@@ -70,7 +70,7 @@ value-reordered old new reordered =
 has-place : (xs ys : List ℕ) (x : ℕ) → xs ≡ ys → Contains xs x → Contains ys x
 has-place xs ys x same has = rw (sym same) has
 
-pub IsClosed-reordered : (old new : Surface) → IsReordered old new → IsClosed old → IsClosed new
+pub IsClosed-reordered : (old new : Surface) → IsRelisted old new → IsClosed old → IsClosed new
 IsClosed-reordered old new reordered closed = record {
   genus = λ place has.
       let here = closed.genus place (has-place new.places old.places place reordered.places has) in

@@ -1,7 +1,7 @@
 -- Two surfaces glued along circles between them.
 --
 -- Circles between two surfaces are cut one after another (OneCut). Each cut puts a disc with a label on the one side and one with the other
--- label on the other side; behind the last cut the two surfaces are apart. So the value is the sum over all labels of the products of both
+-- label on the other side; after the last cut the two surfaces are apart. So the value is the sum over all labels of the products of both
 -- values.
 use Rattle.std.proofs.Common.{◌≡◌, ℕ, inl, inr, ◌+◌, ◌-◌, ◌*◌, ◌^◌, ◌<◌, ◌∙◌, List, [], ◌∷◌, ◌++◌, map, length, get_or, refl, sym, ap, append_assoc, arith}
 use Rattle.std.specs.List.{flat_map, enumerate_from, AllByRecursion, Contains}
@@ -16,7 +16,7 @@ use Rattle.kh_types.proofs.Lists.{AllByRecursion-append, Contains-map, AllByRecu
 use Rattle.kh_types.proofs.Sums.{sum_below-equal}
 use Rattle.dotted_surfaces.specs.Surfaces.{Surface, component_of, IsClosed, value, IsPlaced}
 use Rattle.dotted_surfaces.specs.Cuts.{with_faces, caps_at, caps, capped, AreOn, union, first_caps, second_caps, AreBetween, glued_two, sum_of_products}
-use Rattle.dotted_surfaces.specs.Projections.{IsReordered}
+use Rattle.dotted_surfaces.specs.Projections.{IsRelisted}
 use Rattle.dotted_surfaces.proofs.Components.{component-below}
 use Rattle.dotted_surfaces.proofs.Factors.{AreAlike-sym, genus-alike}
 use Rattle.dotted_surfaces.proofs.OneCut.{at_place}
@@ -170,7 +170,7 @@ exchanged ws xs ys zs rest moved =
     (rw last (IsPermutation-append_left (xs ++ zs) (ws ++ ys) rest moved)))
 
 both-sides : (first second : Surface) (circles : List (ℕ × ℕ)) (label : ℕ)
-    → IsReordered (union (with_faces first (first_caps circles label)) (with_faces second (second_caps circles label)))
+    → IsRelisted (union (with_faces first (first_caps circles label)) (with_faces second (second_caps circles label)))
     (capped (union first second) (map (across first.size) circles) label)
 both-sides first second circles label =
     let n = first.size in

@@ -1,6 +1,6 @@
 -- Two surfaces as one.
 --
--- The places of the second surface are raised behind those of the first, so joins stay within either. Components are those of both (as
+-- The places of the second surface come after those of the first, so joins stay within either. Components are those of both (as
 -- classes of two parts are), each with its counts, so that genera stay and the value is the product of both.
 use Rattle.std.proofs.Common.{◌≡◌, ℕ, zero, suc, ◌+◌, ◌*◌, ◌<◌, ◌∙◌, List, [], ◌∷◌, ◌++◌, length, map, refl, sym, ap, ap₂, arith, Bool, false, cond, ◌||◌}
 use Rattle.std.specs.Prelude.{nat_eq, slice_index}

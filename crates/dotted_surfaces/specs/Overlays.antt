@@ -3,17 +3,6 @@ use Rattle.std.specs.Prelude.{◌≡◌, ℕ, List, ◌++◌, map}
 use Rattle.std.specs.List.{AllByRecursion, Contains}
 use Rattle.dotted_surfaces.specs.Surfaces.{Surface, component_of}
 
--- more half strips, which lower and which raise the Euler count
-abbrev pub with_strips : Surface → List ℕ → List ℕ → Surface
-with_strips surface lower raise = record {
-  size = surface.size;
-  places = surface.places;
-  joins = surface.joins;
-  faces = surface.faces;
-  lowers = lower ++ surface.lowers;
-  raises = raise ++ surface.raises;
-}
-
 -- all that two surfaces are made of, at the same places
 abbrev pub overlaid : Surface → Surface → Surface
 overlaid first second = record {

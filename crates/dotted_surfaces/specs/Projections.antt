@@ -49,7 +49,7 @@ pub record Projects (f : ℕ → ℕ) (old new : Surface) : Type 0 where
   pub raises : IsPermutation (map f old.raises) new.raises
 
 -- the same places and joins, and the same faces and strips in any order
-pub record IsReordered (old new : Surface) : Type 0 where
+pub record IsRelisted (old new : Surface) : Type 0 where
   pub size : new.size ≡ old.size
   pub places : new.places ≡ old.places
   pub joins : new.joins ≡ old.joins

@@ -1,5 +1,5 @@
 -- Small surfaces.
-use Rattle.std.specs.Prelude.{ℕ, List, [], ◌∷◌}
+use Rattle.std.specs.Prelude.{ℕ, List, [], ◌∷◌, replicate}
 use Rattle.dotted_surfaces.specs.Surfaces.{Surface}
 use Rattle.dotted_surfaces.specs.Cuts.{glued}
 
@@ -18,6 +18,17 @@ torus = glued (patched []) ((0, 0) ∷ [])
 -- the sphere without its discs, and with two strips more: a surface of genus 2
 abbrev pub double_torus : Surface
 double_torus = record { size = 1; places = 0 ∷ []; joins = []; faces = []; lowers = 0 ∷ 0 ∷ 0 ∷ 0 ∷ []; raises = [] }
+
+-- the sphere of two discs, with some half strips that lower the Euler count, and some that raise it
+abbrev pub stripped : ℕ → ℕ → Surface
+stripped lower raise = record {
+  size = 1;
+  places = 0 ∷ [];
+  joins = [];
+  faces = (0, 0) ∷ (0, 0) ∷ [];
+  lowers = replicate lower 0;
+  raises = replicate raise 0;
+}
 
 -- the pair of pants between three circles, which has discs on them: two discs with a strip between them, and a third
 abbrev pub pants : ℕ → ℕ → ℕ → Surface

@@ -4,8 +4,8 @@ ghost use Rattle.std.specs.Prelude.{◌≡◌, ℕ, ◌+◌, ◌*◌, List, [], 
 ghost use Rattle.std.specs.List.{Contains};
 ghost use Rattle.dotted_surfaces.specs.Surfaces.{Surface, IsPlaced, IsClosed, value};
 ghost use Rattle.dotted_surfaces.specs.Cuts.{with_faces, capped, glued, sum_over_labels, AreOn, union, first_caps, second_caps, AreBetween, glued_two, sum_of_products};
-ghost use Rattle.dotted_surfaces.specs.Overlays.{with_strips, overlaid, at_places, MeetAlong};
-ghost use Rattle.dotted_surfaces.specs.Projections.{KeepsComponents, LeadsBack, Corresponds, LieAlike, Projects, IsReordered};
+ghost use Rattle.dotted_surfaces.specs.Overlays.{overlaid, at_places, MeetAlong};
+ghost use Rattle.dotted_surfaces.specs.Projections.{KeepsComponents, LeadsBack, Corresponds, LieAlike, Projects, IsRelisted};
 
 /// A surface cut along one circle: two discs less and two places joined is the sum of both ways of
 /// marking one of the discs.
@@ -60,8 +60,8 @@ pub fn joins_lead_back()
 
 /// The order of faces and strips does not matter.
 pub fn orders_do_not_matter()
-    ensures closed { (old new : Surface) → IsReordered old new → IsClosed old → IsClosed new }
-    ensures same { (old new : Surface) → IsReordered old new → value old ≡ value new }
+    ensures closed { (old new : Surface) → IsRelisted old new → IsClosed old → IsClosed new }
+    ensures same { (old new : Surface) → IsRelisted old new → value old ≡ value new }
 {}
 
 /// The number of two surfaces side by side is the product of theirs, and they are closed where both
@@ -84,11 +84,4 @@ pub fn overlays_add_up()
         → MeetAlong first second circles → IsClosed (with_faces first (first_caps (at_places circles) label))
         → IsClosed (with_faces second (second_caps (at_places circles) label))
         → sum_of_products first second (at_places circles) ≡ value (overlaid first second) }
-{}
-
-/// Half strips that lower and raise the Euler count at the same places change nothing.
-pub fn strips_cancel()
-    ensures closed { (surface : Surface) (strips : List ℕ) → IsClosed surface → IsClosed (with_strips surface strips strips) }
-    ensures back { (surface : Surface) (strips : List ℕ) → IsClosed (with_strips surface strips strips) → IsClosed surface }
-    ensures same { (surface : Surface) (strips : List ℕ) → value (with_strips surface strips strips) ≡ value surface }
 {}

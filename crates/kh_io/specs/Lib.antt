@@ -1,4 +1,5 @@
 pub mod Faults
+pub mod Prefixes
 pub mod Supplies
 pub mod MemSources
 pub mod Stores

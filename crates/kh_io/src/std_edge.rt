@@ -1,10 +1,13 @@
-//! Readers and writers of std as sources and sinks: the edge of the program. What a terminal or a
-//! file gives and takes is trusted; what std promises of a reader or a writer is passed on.
+//! Readers and writers of std as sources and sinks: the edge of the program. Their bytes are known
+//! where std tells those of the reader or the writer: of slices, queues, vectors, cursors that are
+//! read, and what is buffered or borrowed over these. Of a locked standard input (`LockedStdin`), of
+//! what prints (`io::writer`) and of files it tells none: what these give and take is trusted.
 
-ghost use Rattle.std.specs.Prelude.{◌≡◌, ℕ, ◌<◌, ◌≤◌, ◌+◌, length, take, IfOk, None};
+ghost use Rattle.std.specs.Prelude.{◌≡◌, ◌<◌, ◌≤◌, ◌+◌, length, take, IfOk};
 ghost use Rattle.std.specs.Io.{ReadsAtMost, WritesAtMost};
 ghost use Rattle.std.specs.Io.KnownBytes.{ReadConsumes, Appends};
 ghost use Rattle.kh_io.specs.Faults.{HasCause, IsCounted};
+ghost use Rattle.kh_io.specs.Prefixes.{AppendsPrefix};
 
 use crate::counts::counted;
 use crate::sink::Sink;
@@ -12,9 +15,8 @@ use crate::source::{Failed, Source};
 use std::io::{Read, Write};
 use std::marker::Model;
 
-/// A reader of std as a source, which does not know its bytes. A read is one read of the reader,
-/// and an error of std is a fault that is counted. Where the bytes that the reader has left are
-/// known, a read takes a prefix of them, and none if it failed.
+/// A reader of std as a source, whose bytes are those that the reader has left, where std tells
+/// them. A read is one read of the reader, and an error of std is a fault that is counted.
 #[derive(Drop)]
 pub struct StdSource<R: Read + Drop> {
     reader: R,
@@ -39,7 +41,7 @@ impl<R: Read + Drop> StdSource<R> {
 }
 
 impl<R: Read + Drop> Source for StdSource<R> {
-    ghost left = { λ _. None };
+    ghost left = { λ source. R.remaining source.inner };
 
     ghost faults = { λ source. source.faults };
 
@@ -47,7 +49,7 @@ impl<R: Read + Drop> Source for StdSource<R> {
 
     fn read(&mut self, buffer: &mut [u8]) -> Result<usize, Failed>
         ensures bound { ReadsAtMost result buffer.new }
-        ensures inner { ReadConsumes (R.remaining self.old.inner) (R.remaining self.new.inner)
+        ensures bytes { ReadConsumes (R.remaining self.old.inner) (R.remaining self.new.inner)
             result buffer.new }
         ensures cause { HasCause self.old.faults self.new.faults result }
         ensures counted { IsCounted self.old.faults self.new.faults result }
@@ -62,11 +64,9 @@ impl<R: Read + Drop> Source for StdSource<R> {
     }
 }
 
-/// A writer of std as a sink, which does not know what is written. A write is one write of the
-/// writer and, if that took bytes, one flush; it fails, and counts a fault, where either does or
-/// nothing was taken. Where the writer's contents are known, the bytes taken are appended to them,
-/// and in a write that failed at most a prefix of the piece: all that was taken, if the flush
-/// failed.
+/// A writer of std as a sink, whose bytes are the writer's contents, where std tells them. A write
+/// is one write of the writer and, if that took bytes, one flush; it fails, and counts a fault,
+/// where either does or nothing was taken. Where the flush failed, all that was taken is written.
 #[derive(Drop)]
 pub struct StdSink<W: Write + Drop> {
     writer: W,
@@ -91,18 +91,17 @@ impl<W: Write + Drop> StdSink<W> {
 }
 
 impl<W: Write + Drop> Sink for StdSink<W> {
-    ghost written = { λ _. None };
+    ghost written = { λ sink. W.contents sink.inner };
 
     ghost faults = { λ sink. sink.faults };
 
     fn write(&mut self, piece: &[u8]) -> Result<usize, Failed>
         ensures some { IfOk result (λ count. 0 < count) }
         ensures bound { WritesAtMost result piece.now }
-        ensures inner { IfOk result (λ count. Appends
+        ensures taken { IfOk result (λ count. Appends
             (W.contents self.old.inner) (W.contents self.new.inner) (take count piece.now)) }
-        // Nothing else is written, in a write that failed either.
-        ensures prefix { (n : ℕ) × Appends
-            (W.contents self.old.inner) (W.contents self.new.inner) (take n piece.now) }
+        ensures prefix { AppendsPrefix
+            (W.contents self.old.inner) (W.contents self.new.inner) piece.now }
         ensures cause { HasCause self.old.faults self.new.faults result }
         ensures counted { IsCounted self.old.faults self.new.faults result }
     {
@@ -120,10 +119,9 @@ impl<W: Write + Drop> Sink for StdSink<W> {
 fn write_through<W: Write>(writer: &mut W, piece: &[u8]) -> Result<usize, Failed>
     ensures some { IfOk result (λ count. 0 < count) }
     ensures bound { WritesAtMost result piece.now }
-    ensures bytes { IfOk result (λ count. Appends
+    ensures taken { IfOk result (λ count. Appends
         (W.contents writer.old) (W.contents writer.new) (take count piece.now)) }
-    ensures prefix { (n : ℕ) × Appends
-        (W.contents writer.old) (W.contents writer.new) (take n piece.now) }
+    ensures prefix { AppendsPrefix (W.contents writer.old) (W.contents writer.new) piece.now }
 {
     match writer.write(piece) {
         Ok(0) | Err(_) => Err(Failed),

@@ -1,8 +1,9 @@
 //! Reading a source to its end, and writing bytes whole.
 
-ghost use Rattle.std.specs.Prelude.{◌≡◌, ◌≢◌, ◌-◌, ◌^◌, ℕ, ◌+◌, ◌<◌, ◌≤◌, ◌↔◌, List, [], length, take, IfOk, OnOk, IsOk, IfSome, Err};
+ghost use Rattle.std.specs.Prelude.{◌≡◌, ◌≢◌, ◌-◌, ◌^◌, ℕ, ◌+◌, ◌<◌, ◌≤◌, ◌↔◌, List, [], length, IfOk, OnOk, IsOk, IfSome, Err};
 ghost use Rattle.std.specs.Io.KnownBytes.{Consumes, Appends, IsAtEnd};
 ghost use Rattle.kh_io.specs.Faults.{Rose, HasCause};
+ghost use Rattle.kh_io.specs.Prefixes.{AppendsPrefix};
 
 use crate::limits::READ_BYTES;
 use crate::sink::Sink;
@@ -95,7 +96,7 @@ pub fn read_most<S: Source>(alloc: Global, source: &mut S, most: u32) -> Result<
 /// no write.
 pub fn write_all<K: Sink>(sink: &mut K, bytes: &[u8]) -> Result<(), Failed>
     ensures whole { OnOk result (Appends (K.written sink.old) (K.written sink.new) bytes.now) }
-    ensures prefix { (n : ℕ) × Appends (K.written sink.old) (K.written sink.new) (take n bytes.now) }
+    ensures prefix { AppendsPrefix (K.written sink.old) (K.written sink.new) bytes.now }
     ensures cause { HasCause (K.faults sink.old) (K.faults sink.new) result }
     ensures empty { bytes.now ≡ [] → IsOk result × (sink.new ≡ sink.old) }
 {

@@ -6,4 +6,5 @@ pub mod DiagramReadings
 pub mod JonesLemmas
 pub mod ReplyStatuses
 pub mod UnionReplies
+pub mod SourceAnswers
 pub mod RunLemmas

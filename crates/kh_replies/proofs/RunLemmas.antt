@@ -3,8 +3,7 @@
 -- status, and the sink had no fault; or the sink had one, and the first bytes of the reply are written; or the source had a
 -- fault, or memory ran out, and nothing is written. At last, a run that no fault of reading, of writing or of memory disturbed
 -- has written its answer whole.
-use Rattle.std.proofs.Common.{◌≡◌, ◌⊎◌, inl, inr, ℕ, List, [], take, IfSome, sym, subst, refl, ◌∙◌, Result, Ok, Err, None, Some}
-use Rattle.std.specs.declared.option.Option.{Option}
+use Rattle.std.proofs.Common.{◌≡◌, ◌⊎◌, inl, inr, [], take, sym, subst, refl, ◌∙◌, Result, Ok, Err}
 use Rattle.std.specs.Io.KnownBytes.{Appends}
 use Rattle.kh_io.specs.Faults.{Rose}
 use Rattle.kh_replies.specs.declared.stop.ReplyStop.{ReplyStop}
@@ -12,15 +11,9 @@ use Rattle.kh_replies.specs.declared.stop.ReplyStop.TheVariants as stops
 use Rattle.kh_replies.specs.declared.status.Status.{Status}
 use Rattle.kh_replies.specs.declared.status.Status.TheVariants.{Usage, ReadFault, WriteFault, NoMemory}
 use Rattle.kh_replies.specs.Replies.{Reply}
-use Rattle.kh_replies.specs.Runs.{IsKnown, IsReplied, IsRun, IsWritten, Request}
+use Rattle.kh_replies.specs.Runs.{IsReplied, IsRun, IsWritten, Request}
 use Rattle.kh_replies.specs.Statuses.{IsWhole}
 use Rattle.kh_replies.specs.Told.{Gives, GivesPrefix, IsUndisturbed, Seen}
-
--- what is known of an answer goes with what is known of a reply
-with_answer : (left : Option (List ℕ)) (Answers : List ℕ → Reply → Type 0) (reply : Reply) (Fact : Reply → Type 0)
-    → IsKnown Answers left reply → Fact reply → IfSome left (λ bytes. (told : Reply) × Answers bytes told × Fact told)
-with_answer None Answers reply Fact known fact = tt
-with_answer (Some bytes) Answers reply Fact known fact = (reply, known.known, fact)
 
 not_stopped : (status : Status) → IsWhole status → (status ≡ ReadFault) ⊎ (status ≡ NoMemory) → ⊥
 not_stopped status whole (inl same) = subst IsWhole same whole
@@ -37,8 +30,7 @@ run_whole : (request : Request) (source_before source_after sink_before sink_aft
 run_whole request source_before source_after sink_before sink_after same_source same_sink reply status replied gives quiet =
     let whole : IsWhole status = subst IsWhole (sym gives.status) replied.whole in
     record {
-      answered = λ w. with_answer source_before.bytes request.Answers reply (λ r. Gives r status sink_before.bytes sink_after.bytes)
-          replied.known gives;
+      answered = λ w. (reply, replied.answered, gives);
       blind_answered = λ nothing w. (reply, replied.blind nothing, gives);
       usage_only = λ is. replied.usage_only (sym gives.status ∙ is);
       unread = replied.unread;
@@ -73,8 +65,7 @@ run_cut request source_before source_after sink_before sink_after same_source sa
       quiet_sink = λ no_fault. absurd (no_fault is_fault);
       unwritten = λ stopped. absurd (not_both status is_fault stopped);
       gained = (take prefix.count reply.text, prefix.written);
-      prefix_written = λ is. with_answer source_before.bytes request.Answers reply
-          (λ r. GivesPrefix r sink_before.bytes sink_after.bytes) replied.known prefix;
+      prefix_written = λ is. (reply, replied.answered, prefix);
       blind_prefix = λ nothing is. (reply, replied.blind nothing, prefix);
       complete = λ read wrote. absurd (wrote rose);
     }

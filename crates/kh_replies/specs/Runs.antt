@@ -19,9 +19,11 @@ pub record Request : Type 1 where
   pub ReadsUpTo : ℕ → Type 0
   pub IsUsage : Type 0
 
--- a reply answers the bytes that a source had left, where these are known
-pub record IsKnown (Answers : List ℕ → Reply → Type 0) (left : Option (List ℕ)) (reply : Reply) : Type 0 where
-  pub known : IfSome left (λ bytes. Answers bytes reply)
+-- a reply answers some bytes: all that a source had left, where these are known
+pub record AnswersSource (Answers : List ℕ → Reply → Type 0) (left : Option (List ℕ)) (reply : Reply) : Type 0 where
+  pub bytes : List ℕ
+  pub all : IfSome left (λ known. bytes ≡ known)
+  pub answers : Answers bytes reply
 
 -- a reply is an answer whatever the bytes of the input are
 abbrev pub IsBlind : (List ℕ → Reply → Type 0) → Reply → Type 0
@@ -31,7 +33,7 @@ IsBlind Answers reply = (bytes : List ℕ) → Answers bytes reply
 -- may be the same
 pub record IsReplied (request : Request) (source_before source_after : Seen) (same_source : Type 0)
     (made : Result Reply ReplyStop) : Type 0 where
-  pub known : IfOk made (IsKnown request.Answers source_before.bytes)
+  pub answered : IfOk made (AnswersSource request.Answers source_before.bytes)
   pub blind : request.ReadsNothing → IfOk made (IsBlind request.Answers)
   pub whole : IfOk made (λ reply. IsWhole reply.status)
   pub usage_only : IfOk made (λ reply. reply.status ≡ Usage → request.IsUsage)
@@ -58,10 +60,11 @@ IsWritten (Err stop) before after same_sink status =
 -- a run on a request ended with this status; the source and the sink were as seen before and after it, and each may be the same
 pub record IsRun (request : Request) (source_before source_after sink_before sink_after : Seen)
     (same_source same_sink : Type 0) (status : Status) : Type 0 where
-  -- what is written is an answer, whole, and the status is its status
-  pub answered : IsWhole status → IfSome source_before.bytes (λ bytes.
-      (reply : Reply) × request.Answers bytes reply × Gives reply status sink_before.bytes sink_after.bytes)
-  -- a request for which nothing is read is answered so whether or not the source's bytes are known, and it is not read
+  -- what is written is an answer, whole, and the status is its status: an answer to all that the source had left, or to some bytes where
+  -- nothing is known of these
+  pub answered : IsWhole status → (reply : Reply)
+      × AnswersSource request.Answers source_before.bytes reply × Gives reply status sink_before.bytes sink_after.bytes
+  -- a request for which nothing is read is answered so whatever the bytes are, and the source is not read
   pub blind_answered : request.ReadsNothing → IsWhole status
       → (reply : Reply) × IsBlind request.Answers reply × Gives reply status sink_before.bytes sink_after.bytes
   pub unread : request.ReadsNothing → same_source
@@ -79,8 +82,8 @@ pub record IsRun (request : Request) (source_before source_after sink_before sin
   pub gained : (bytes : List ℕ) × Appends sink_before.bytes sink_after.bytes bytes
   -- on a fault of reading and out of memory nothing is written, and on a fault of writing a prefix of an answer
   pub unwritten : (status ≡ ReadFault) ⊎ (status ≡ NoMemory) → same_sink
-  pub prefix_written : status ≡ WriteFault → IfSome source_before.bytes (λ bytes.
-      (reply : Reply) × request.Answers bytes reply × GivesPrefix reply sink_before.bytes sink_after.bytes)
+  pub prefix_written : status ≡ WriteFault → (reply : Reply)
+      × AnswersSource request.Answers source_before.bytes reply × GivesPrefix reply sink_before.bytes sink_after.bytes
   pub blind_prefix : request.ReadsNothing → status ≡ WriteFault
       → (reply : Reply) × IsBlind request.Answers reply × GivesPrefix reply sink_before.bytes sink_after.bytes
   -- where no count rose, the answer is written, unless there was no memory

@@ -1,8 +1,9 @@
 -- What a run does to a source and a sink, where their bytes are known. All of it is this project's rule.
-use Rattle.std.specs.Prelude.{◌≡◌, ◌≢◌, ℕ, ◌<◌, ◌≤◌, List, length, take, IfSome}
+use Rattle.std.specs.Prelude.{◌≡◌, ◌≢◌, ℕ, ◌<◌, ◌≤◌, List, length, IfSome}
 use Rattle.std.specs.declared.option.Option.{Option}
 use Rattle.std.specs.Io.KnownBytes.{Appends, Consumes, IsAtEnd}
 use Rattle.kh_io.specs.Faults.{Rose}
+use Rattle.kh_io.specs.Prefixes.{AppendsPrefix}
 use Rattle.kh_replies.specs.declared.reading.Input.{Input}
 use Rattle.kh_replies.specs.declared.reading.Input.TheVariants.{Bytes, Refused}
 use Rattle.kh_replies.specs.declared.status.Status.{Status}
@@ -40,9 +41,8 @@ pub record Gives (reply : Reply) (ended : Status) (before after : Option (List �
   pub written : Appends before after reply.text
 
 -- a sink has gained a prefix of the bytes of a reply, where what is written is known
-pub record GivesPrefix (reply : Reply) (before after : Option (List ℕ)) : Type 0 where
-  pub count : ℕ
-  pub written : Appends before after (take count reply.text)
+abbrev pub GivesPrefix : Reply → Option (List ℕ) → Option (List ℕ) → Type 0
+GivesPrefix reply before after = AppendsPrefix before after reply.text
 
 -- nothing disturbed a run: neither count of faults rose in it or stood at its last value, and it did not end for want of memory
 pub record IsUndisturbed (source_before source_after sink_before sink_after : Seen) (status : Status) : Type 0 where

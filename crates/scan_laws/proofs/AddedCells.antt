@@ -1,33 +1,32 @@
 -- Adding a crossing changes nothing but the names of cells: a cell of an object, a state whose first bit is the smoothing of that
 -- crossing, and a label, becomes the cell of the new object that comes from the object, the smoothing and the labels of the closed
 -- circles, at the rest of the state, with the rest of the label. This is one to one, and keeps both degrees.
-use Rattle.std.proofs.Common.{◌≡◌, ℕ, suc, ◌+◌, ◌*◌, ◌/◌, ◌%◌, ◌^◌, ◌<◌, ◌∙◌, ℤ, pos, ◌+ℤ◌, ◌-ℤ◌, length, sym, subst, ap, ap₂, arith, IsTrue}
+use Rattle.std.proofs.Common.{◌≡◌, ℕ, suc, ◌+◌, ◌*◌, ◌/◌, ◌%◌, ◌^◌, ◌<◌, ◌∙◌, ℤ, pos, ◌+ℤ◌, ◌-ℤ◌, List, [], ◌∷◌, length, map, refl, sym, subst, ap, ap₂, arith}
+use Rattle.std.specs.Prelude.{slice_index}
 use Rattle.std.specs.List.{Contains}
+use Rattle.std.proofs.Math.Path.{fun_ext}
 use Rattle.std.proofs.lemmas.Int.{ints}
-use Rattle.kh_types.specs.Acceptance.{accepted}
 use Rattle.kh_types.specs.Bits.{ones}
 use Rattle.kh_types.specs.Code.{Code}
 use Rattle.kh_types.proofs.AcceptedLemmas.{HasArcsTwice-accepted}
-use Rattle.added_crossings.specs.Codes.{closed_at}
-use Rattle.cell_complexes.specs.Alike.{AreListed}
+use Rattle.cube_squares.proofs.LabelNumbers.{number_from}
+use Rattle.added_crossings.specs.Codes.{closed_at, pairing_behind, points_at}
+use Rattle.added_crossings.specs.Labels.{number_of}
+use Rattle.cell_complexes.specs.Alike.{AreListed, AreMatched}
 use Rattle.cell_complexes.specs.Layers.{Layer, Layers, cells_of, layer_of}
 use Rattle.cell_complexes.proofs.Matched.{AreListed-matched}
-use Rattle.scan_laws.specs.Scans.{IsScanOf, Object, Scan, circle_count_at, circles_at, count_behind, pairs_of}
+use Rattle.scan_laws.specs.Scans.{Object, Scan, circle_count_at, circles_at, count_behind, pairs_of}
+use Rattle.scan_laws.specs.Edges.{classes_at, label_by}
 use Rattle.scan_laws.specs.Complexes.{degree_of_labels, layers_of}
-use Rattle.scan_laws.specs.Adding.{IsAdding, Origin, object_from, origin_of}
+use Rattle.scan_laws.specs.Adding.{Origin, object_from, origin_of}
+use Rattle.scan_laws.specs.NextGenerators.{IsAdded, labels_on, next_generator}
 use Rattle.scan_laws.proofs.AddedCircles.{circle-parts}
 use Rattle.cell_complexes.proofs.CellLists.{cell-from, cell-of, cells-once}
 use Rattle.scan_laws.proofs.Objects.{object-among}
 use Rattle.scan_laws.proofs.Origins.{IsOrigin, origin-from, origin-of}
 use Rattle.scan_laws.proofs.Parts.{circle_with, circles_left, circles_with, closed_part, left_part}
-use Rattle.cell_complexes.proofs.SplitLabels.{AreParts, counts, ones-parts, part-below, parts-whole, whole, whole-below, whole-parts}
+use Rattle.cell_complexes.proofs.SplitLabels.{AreParts, counts, part, ones-parts, part-below, parts-whole, whole, whole-below, whole-parts}
 use Rattle.scan_laws.proofs.States.{count-more, joint, joint-first, joint-parts, joint-rest, ones-joint}
-
--- a crossing is added to a scan of an accepted code
-pub record IsAdded (p : ℕ) (code : Code) (scan next : Scan) : Type 0 where
-  pub accepted_is : IsTrue (accepted code)
-  pub of : IsScanOf code scan
-  pub more : IsAdding p code scan next
 
 -- a cell of the scan, by the smoothing of the next crossing and the state of the others
 pub record IsOld (code : Code) (scan : Scan) (o e u label : ℕ) : Type 0 where
@@ -43,6 +42,10 @@ origin_at code scan o e u label = origin_of o e (closed_part code scan.done (pai
 abbrev pub rest_at : Code → Scan → ℕ → ℕ → ℕ → ℕ → ℕ
 rest_at code scan o e u label = left_part code scan.done (pairs_of scan o) e u label
 
+number_of-from : (f : ℕ → ℕ) (xs : List ℕ) → number_of f xs ≡ number_from (map f xs)
+number_of-from f [] = refl
+number_of-from f (x ∷ xs) = ap (λ n. f x + 2 * n) (number_of-from f xs)
+
 module _ (p : ℕ) (code : Code) (plus minus : ℕ) (scan next : Scan) (added : IsAdded p code scan next) where
   abbrev layers : Layers
   layers = layers_of p code plus minus scan
@@ -56,16 +59,16 @@ module _ (p : ℕ) (code : Code) (plus minus : ℕ) (scan next : Scan) (added : 
   abbrev pub to : Layer → Layer
   to x = named x.object (x.state % 2) (x.state / 2) x.label
 
-  abbrev whole_of : Origin → ℕ → ℕ → ℕ
+  abbrev pub whole_of : Origin → ℕ → ℕ → ℕ
   whole_of w u rest =
       let m = pairs_of scan w.object in
       whole (circles_with code scan.done m w.smoothing u) (circle_with code scan.done m w.smoothing u)
       (closed_at code scan.done w.smoothing m) (circles_left code scan.done m w.smoothing u) w.label rest
 
-  abbrev back_of : Origin → ℕ → ℕ → Layer
+  abbrev pub back_of : Origin → ℕ → ℕ → Layer
   back_of w u rest = layer_of w.object (joint w.smoothing u) (whole_of w u rest)
 
-  abbrev back : Layer → Layer
+  abbrev pub back : Layer → Layer
   back y = back_of (added.more.origin y.object) y.state y.label
 
   -- old cells
@@ -199,17 +202,39 @@ module _ (p : ℕ) (code : Code) (plus minus : ℕ) (scan next : Scan) (added : 
       ∙ ap₂ (λ t l. layer_of x.object t l) (sym (joint-parts x.state))
       (whole-parts (parts x.object e u old.object old.smoothing) x.label old.label_below)
 
-  pub listed-next : AreListed to (cells_of layers).list (cells_of next_layers).list
-  listed-next =
-      AreListed-matched to back (cells_of layers).list (cells_of next_layers).list
-      (record {
+  pub matched-next : AreMatched to back (cells_of layers).list (cells_of next_layers).list
+  matched-next =
+      record {
         first_once = cells-once layers added.of.once;
         second_once = cells-once next_layers added.more.matched.first_once;
         there = λ x has. named-there x.object (x.state % 2) (x.state / 2) x.label (old-cell x has);
         back_there = back-there;
         to_back = to-back;
         back_to = back-to;
-      })
+      }
+
+  pub listed-next : AreListed to (cells_of layers).list (cells_of next_layers).list
+  listed-next = AreListed-matched to back (cells_of layers).list (cells_of next_layers).list matched-next
+
+  -- the name of a cell is the generator that it becomes
+  labels-part : (x : Layer) (arcs : List ℕ)
+      → part (circles_with code scan.done (pairs_of scan x.object) (x.state % 2) (x.state / 2))
+      (circle_with code scan.done (pairs_of scan x.object) (x.state % 2) (x.state / 2)) arcs x.label
+      ≡ labels_on code scan x arcs
+  labels-part x arcs =
+      let m = pairs_of scan x.object in
+      ap (λ (t : ℕ). part (circles_at code scan.done m t) (λ (z : ℕ). slice_index (classes_at code scan.done m t) z) arcs x.label)
+      (sym (joint-parts x.state))
+      ∙ sym (number_of-from (label_by (classes_at code scan.done m x.state) (points_at code scan.done).alive x.label) arcs)
+
+  pub to-generator : to ≡ next_generator code scan added.more.number
+  to-generator =
+      fun_ext (λ (x : Layer).
+      let m = pairs_of scan x.object in
+      let e = x.state % 2 in
+      ap₂ (λ (closed left : ℕ). layer_of (added.more.number (origin_of x.object e closed)) (x.state / 2) left)
+      (labels-part x (closed_at code scan.done e m))
+      (labels-part x (circles_at code (scan.done + 1) (pairing_behind code scan.done e m) (x.state / 2))))
 
   -- degrees
   ones-here : (o e u : ℕ) {label : ℕ} → IsOld code scan o e u label

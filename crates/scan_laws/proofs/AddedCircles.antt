@@ -32,7 +32,7 @@ once-circles code k m t =
     once-filter (is_least (classes_at code k m t)) (points_at code k).alive
     (once-filter (is_alive code k) (arcs_and_loops code) (once-range 1 (arc_count code.crossings + code.loops)))
 
--- behind the first k crossings of a code another comes, with a smoothing, at a pairing of the open arcs
+-- after the first k crossings of a code another comes, with a smoothing, at a pairing of the open arcs
 pub record HasNext (code : Code) (k : ℕ) (m : List (ℕ × ℕ)) (e : ℕ) : Type 0 where
   pub twice : HasArcsTwice code.crossings
   pub below : k < length code.crossings
@@ -69,7 +69,7 @@ module _ (code : Code) (k : ℕ) (m : List (ℕ × ℕ)) (e u : ℕ) (at : HasNe
       subst (λ (w : List (ℕ × ℕ)). IsCut (step_at code k) inside later_pairs w) (outer-raised code (k + 1) u)
       (IsCut-at code k e (2 ^ (k + 1) * u) m at.twice at.below at.among)
 
-  -- what is joined, before and behind, is alive
+  -- what is joined, before and after, is alive
   pub old-joins : AreJoins size (points_at code k).alive joins
   old-joins =
       record {

@@ -2,7 +2,7 @@
 -- crossings this is known. Between outer states of the others they are those of the edges at later crossings, where object,
 -- smoothing and the labels of closed circles stay, and else 0 on both sides. The cases, in order: between different objects
 -- nothing leads, before or after; where the smoothing of the new crossing changes there is no edge, as an edge changes one bit
--- only; and where object and smoothing stay, the coefficient is that of the edge behind the crossing if the labels of closed
+-- only; and where object and smoothing stay, the coefficient is that of the edge after the crossing if the labels of closed
 -- circles are the same, else 0.
 use Rattle.std.proofs.Common.{◌≡◌, ◌≢◌, ℕ, zero, suc, inl, inr, ◌+◌, ◌*◌, ◌/◌, ◌%◌, ◌^◌, ◌<◌, ◌≤◌, ◌∙◌, refl, sym, subst, ap, ap₂, arith, cond}
 use Rattle.std.specs.Prelude.{nat_eq}
@@ -19,7 +19,8 @@ use Rattle.scan_laws.specs.Scans.{Object, Scan, pairs_of}
 use Rattle.scan_laws.specs.Edges.{outer_coefficient}
 use Rattle.scan_laws.specs.Complexes.{complex_of, layers_of}
 use Rattle.scan_laws.specs.Adding.{Origin}
-use Rattle.scan_laws.proofs.AddedCells.{IsAdded, IsOld, homological-next, listed-next, named, new-of, old-cell, origin_at, quantum-next, rest_at, to}
+use Rattle.scan_laws.specs.NextGenerators.{IsAdded, next_generator}
+use Rattle.scan_laws.proofs.AddedCells.{IsOld, homological-next, listed-next, named, new-of, old-cell, origin_at, quantum-next, rest_at, to, to-generator}
 use Rattle.scan_laws.proofs.AddedEntries.{AreSameAt, joint-apart, same-within}
 use Rattle.scan_laws.proofs.Coefficients.{between-states, nowhere}
 use Rattle.scan_laws.proofs.Edges.{outer-none}
@@ -175,3 +176,10 @@ module _ (p : ℕ) (code : Code) (plus minus : ℕ) (scan next : Scan) (added : 
     where
       once_more : (n : ℕ) → n ≡ 1 * (1 * n)
       once_more n = omega arith
+
+  -- the cells are named as the generators that they become
+  pub alike-generators : AreAlike p (next_generator code scan added.more.number) (λ (x : Layer). 1) (complex_of p code plus minus scan)
+      (complex_of p code plus minus next)
+  alike-generators =
+      subst (λ (f : Layer → Layer). AreAlike p f (λ (x : Layer). 1) (complex_of p code plus minus scan) (complex_of p code plus minus next))
+      (to-generator p code plus minus scan next added) alike-adding

@@ -1,4 +1,4 @@
--- Adding a crossing keeps the coefficients within an outer state of the others: they are sums over the dots behind the crossing, of old
+-- Adding a crossing keeps the coefficients within an outer state of the others: they are sums over the dots after the crossing, of old
 -- maps where its smoothing stays, and of the saddle where it goes from 0 to 1 at one object. Nothing leads to another object where the
 -- smoothing changes, and nothing leads back, on either side.
 use Rattle.std.proofs.Common.{◌≡◌, ◌≢◌, ℕ, zero, suc, inl, inr, ◌+◌, ◌*◌, ◌/◌, ◌%◌, ◌^◌, ◌<◌, ◌≤◌, ◌∙◌, ◌⊎◌, List, [], ◌∷◌, length, refl, sym, subst, ap, ap₂, arith, Bool, true, false, cond, ◌&&◌}
@@ -26,7 +26,8 @@ use Rattle.cell_complexes.specs.Layers.{Layer, Layers, layer_coefficient, layer_
 use Rattle.scan_laws.specs.Scans.{Scan, dot_sets, pairs_of}
 use Rattle.scan_laws.specs.Complexes.{layers_of}
 use Rattle.scan_laws.specs.Adding.{Origin, added_coefficient, new_coefficient, saddle_coefficient, sign_at}
-use Rattle.scan_laws.proofs.AddedCells.{IsAdded, IsOld, named, new-of, origin_at, rest_at}
+use Rattle.scan_laws.specs.NextGenerators.{IsAdded}
+use Rattle.scan_laws.proofs.AddedCells.{IsOld, named, new-of, origin_at, rest_at}
 use Rattle.scan_laws.proofs.Coefficients.{between-states, inside-state, nowhere}
 use Rattle.scan_laws.proofs.Edges.{fits_at, outer-none, outer-one}
 use Rattle.scan_laws.proofs.Matrices.{matrix_by, sets_by, two-objects, below-same, matrix-sets}

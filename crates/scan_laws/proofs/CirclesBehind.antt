@@ -1,6 +1,6 @@
--- At one outer state: the circles before one crossing more are those that it closes and those behind it, each once. So an arc that stays
--- alive has the same label before and behind. A later crossing touches no closed circle, and touches a circle before where it touches it
--- behind; so the touched circles have as many labels on both sides, with the same sum.
+-- At one outer state: the circles before one crossing more are those that it closes and those after it, each once. So an arc that stays
+-- alive has the same label before and after. A later crossing touches no closed circle, and touches a circle before where it touches it
+-- after; so the touched circles have as many labels on both sides, with the same sum.
 use Rattle.std.proofs.Common.{◌≡◌, ℕ, suc, inl, inr, ◌+◌, ◌<◌, ◌≤◌, ◌∙◌, ◌⊎◌, List, [], ◌∷◌, ◌++◌, get_or, length, map, refl, sym, ap, ap₂, arith, Bool, false, cond}
 use Rattle.std.specs.Prelude.{nat_eq, slice_index}
 use Rattle.std.specs.List.{Contains, filter, range_with_len, sum_by}
@@ -93,7 +93,7 @@ module _ (code : Code) (k : ℕ) (m : List (ℕ × ℕ)) (e u : ℕ) (at : HasNe
   same-names : AreSame names (map old (closed ++ left))
   same-names = both-same parts
 
-  -- what is together behind is together before
+  -- what is together after is together before
   old-respects : Respects old (later_pairs ++ joined_outside code (k + 1) u)
   old-respects =
       let inside = m ++ smoothing_at code k e in
@@ -145,7 +145,7 @@ module _ (code : Code) (k : ℕ) (m : List (ℕ × ℕ)) (e u : ℕ) (at : HasNe
     pub rest-arc : (x : ℕ) → Contains alive_next x → mark left rest (new_class x) ≡ mark names label (old x)
     rest-arc x has = rest-mark (new_class x) (new-there x has) ∙ ap (mark names label) (old-new x has)
 
-    -- what a crossing behind touches, where its slots stay alive
+    -- what a later crossing touches, where its slots stay alive
     module _ (slots : List ℕ) (slots_alive : (slot : ℕ) → slot < 4 → Contains alive_next (arc_in slots slot)) where
       abbrev old_touched : ℕ → Bool
       old_touched = touched_by (classes_at code k m (joint e u)) slots

@@ -81,7 +81,7 @@ module _ (p : ℕ) (code : Code) (plus minus : ℕ) (scan next : Scan) (field : 
         glued = objects-glued code is scan of less.tail less.tail state less.has_tail less.has_tail;
       }) below other_below))
 
-  times-identity : IsTimesIdentity layers less.tail less.head less.c
+  pub times-identity : IsTimesIdentity layers less.tail less.head less.c
   times-identity =
       record {
         objects_differ = less.differ;

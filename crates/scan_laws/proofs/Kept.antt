@@ -4,12 +4,13 @@
 -- an entry eliminated is alike to what the cancellation leaves, which has the same dimensions; and under other numbers each map
 -- has the same matrix. The first scan is alike to the cube, and from there induction goes over the steps to any scan that they
 -- lead to.
-use Rattle.std.proofs.Common.{◌≡◌, ℕ, inl, inr, ◌<◌, ◌∙◌, ℤ, List, [], ◌∷◌, sym, subst, ap, arith, IsTrue}
+use Rattle.std.proofs.Common.{◌≡◌, ℕ, inl, inr, ◌*◌, ◌%◌, ◌<◌, ◌∙◌, ℤ, List, [], ◌∷◌, sym, subst, ap, arith, IsTrue}
 use Rattle.std.specs.List.{AllByRecursion, Contains}
+use Rattle.std.proofs.Math.Nat.{mod-eq_of_lt}
 use Rattle.std.proofs.lemmas.Bool.{cases_eq}
 use Rattle.kh_types.specs.Acceptance.{accepted}
 use Rattle.kh_types.specs.Code.{Code}
-use Rattle.kh_types.specs.Residues.{HasInverses}
+use Rattle.kh_types.specs.Residues.{HasInverses, Same}
 use Rattle.kh_types.proofs.Residues.{same-equal}
 use Rattle.dotted_maps.specs.declared.term.Term.{Term}
 use Rattle.dotted_maps.proofs.MapProducts.{matrix-same}
@@ -27,7 +28,8 @@ use Rattle.scan_laws.specs.Complexes.{complex_of, inner_at, layers_of}
 use Rattle.scan_laws.specs.Adding.{IsAdding}
 use Rattle.scan_laws.specs.Eliminating.{IsEliminating}
 use Rattle.scan_laws.specs.Steps.{AreSteps, IsRenumbering, IsScanStep, LeadsTo, last_of}
-use Rattle.scan_laws.proofs.AddedCells.{IsAdded, to}
+use Rattle.scan_laws.specs.NextGenerators.{IsAdded}
+use Rattle.scan_laws.proofs.AddedCells.{to}
 use Rattle.scan_laws.proofs.AddedEdges.{alike-adding}
 use Rattle.scan_laws.proofs.Base.{alike-first}
 use Rattle.scan_laws.proofs.Coefficients.{between-states, inside-state, nowhere}
@@ -38,7 +40,7 @@ use Rattle.scan_laws.proofs.Renumbered.{alike-renumbered, renumbered}
 use Rattle.scan_laws.proofs.ScansOf.{scan-adding, scan-eliminating, scan-first, scan-renumbering}
 
 -- coefficients are below p
-coefficients-below : (p : ℕ) (code : Code) (plus minus : ℕ) (scan : Scan) → 1 < p → (x y : Layer)
+pub coefficients-below : (p : ℕ) (code : Code) (plus minus : ℕ) (scan : Scan) → 1 < p → (x y : Layer)
     → layer_coefficient (layers_of p code plus minus scan) x y < p
 coefficients-below p code plus minus scan above x y = elim (cases_eq x.state y.state) [
   | inl same ↦
@@ -52,6 +54,14 @@ coefficients-below p code plus minus scan above x y = elim (cases_eq x.state y.s
     | inr apart ↦ subst (λ n. n < p) (sym (nowhere (layers_of p code plus minus scan) x y other apart)) (omega (arith, above))
   ]
 ]
+
+-- coefficients below p that are the same modulo p are the same
+pub equal-below : (p a b : ℕ) → a < p → b < p → Same p a (1 * (1 * b)) → b ≡ a
+equal-below p a b a_below b_below same =
+    sym (mod-eq_of_lt b_below) ∙ ap (λ n. n % p) (once b) ∙ sym same ∙ mod-eq_of_lt a_below
+  where
+    once : (n : ℕ) → n ≡ 1 * (1 * n)
+    once n = omega arith
 
 -- what each scan on the way has, beside the cells that it comes from
 pub record Keeps {A : Type 0} (p : ℕ) (code : Code) (plus minus : ℕ) (cells : Cells A) (next : Scan) : Type 0 where

@@ -21,6 +21,7 @@ pub mod Renumbered
 pub mod Eliminating
 pub mod ScansOf
 pub mod Kept
+pub mod LeftGenerators
 pub mod LastPoints
 pub mod End
 pub mod Whole

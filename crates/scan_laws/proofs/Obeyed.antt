@@ -1,5 +1,5 @@
--- In a scan of an accepted code entries are sums over the dots behind one crossing more: by the laws of that crossing, at the whole state
--- whose bits behind it are those of the outer state.
+-- In a scan of an accepted code entries are sums over the dots after one crossing more: by the laws of that crossing, at the whole state
+-- whose bits after it are those of the outer state.
 use Rattle.std.proofs.Common.{◌≡◌, ℕ, ◌+◌, ◌*◌, ◌^◌, ◌<◌, ◌∙◌, List, [], ◌∷◌, ◌++◌, append_assoc, get_or, length, map, refl, sym, ap, ap₂, cond, ◌&&◌, arith, IsTrue}
 use Rattle.std.specs.Prelude.{slice_index, slice_index_or}
 use Rattle.kh_types.specs.Acceptance.{accepted}
@@ -11,7 +11,8 @@ use Rattle.cube_squares.proofs.LabelNumbers.{number_from}
 use Rattle.dotted_surfaces.specs.Points.{least_points}
 use Rattle.dotted_surfaces.specs.Surfaces.{value}
 use Rattle.dotted_maps.specs.Terms.{entry}
-use Rattle.added_crossings.specs.Codes.{circles_behind, closed_at, discs_behind, outer_smoothings, pairing_behind, points_at, smoothing_at}
+use Rattle.tangle_surfaces.specs.CutCodes.{outer_smoothings}
+use Rattle.added_crossings.specs.Codes.{circles_behind, closed_at, discs_behind, pairing_behind, points_at, smoothing_at}
 use Rattle.added_crossings.specs.Entries.{added_surface, closed_label, label_before, label_behind, saddle_surface}
 use Rattle.added_crossings.specs.Labels.{number_of}
 use Rattle.closed_surfaces.specs.Led.{IsLedAt}
@@ -29,10 +30,10 @@ number_of-map : (f : ℕ → ℕ) (xs : List ℕ) → number_of f xs ≡ number_
 number_of-map f [] = refl
 number_of-map f (x ∷ xs) = ap (λ n. f x + 2 * n) (number_of-map f xs)
 
--- labels at a whole state whose bits behind the crossing are those of u
+-- labels at a whole state whose bits after the crossing are those of u
 module _ (code : Code) (k e u state : ℕ) (m : List (ℕ × ℕ)) (below : k < length code.crossings) (e_below : e < 2)
-    (outer : outer_smoothings code state (k + 1) ≡ joined_outside code (k + 1) u) where
-  joins-same : (m ++ smoothing_at code k e) ++ outer_smoothings code state (k + 1) ≡ m ++ joined_outside code k (joint e u)
+    (outer : outer_smoothings code.crossings state (k + 1) ≡ joined_outside code (k + 1) u) where
+  joins-same : (m ++ smoothing_at code k e) ++ outer_smoothings code.crossings state (k + 1) ≡ m ++ joined_outside code k (joint e u)
   joins-same =
       ap (λ (w : List (ℕ × ℕ)). (m ++ smoothing_at code k e) ++ w) outer
       ∙ append_assoc m (smoothing_at code k e) (joined_outside code (k + 1) u)
@@ -75,7 +76,7 @@ module _ (code : Code) (is : IsTrue (accepted code)) (choice k : ℕ) (coloured 
     inner-law =
         let state = whole_state k e u in
         let outer = outer-rest code k e u e_below in
-        let w = outer_smoothings code state (k + 1) in
+        let w = outer_smoothings code.crossings state (k + 1) in
         let r = label_behind code k e state m label in
         let s = label_behind code k e state n other in
         let c = closed_part code k m e u label in
@@ -114,7 +115,7 @@ module _ (code : Code) (is : IsTrue (accepted code)) (choice k : ℕ) (coloured 
         let zero_below : 0 < 2 = omega arith in
         let one_below : 1 < 2 = omega arith in
         let outer = outer-rest code k 0 u zero_below in
-        let w = outer_smoothings code state (k + 1) in
+        let w = outer_smoothings code.crossings state (k + 1) in
         let r = label_behind code k 0 state m label in
         let s = label_behind code k 1 state m other in
         let c = closed_part code k m 0 u label in

@@ -7,7 +7,7 @@ use Rattle.kh_types.specs.Colours.{IsColoured}
 use Rattle.kh_types.specs.Darts.{HasArcsTwice}
 use Rattle.kh_types.proofs.AcceptedLemmas.{HasArcsTwice-accepted}
 use Rattle.kh_types.proofs.DartColours.{IsColoured-accepted}
-use Rattle.dotted_surfaces.specs.Points.{AreAmong, IsPairing, inner}
+use Rattle.dotted_surfaces.specs.Points.{AreAmong, IsOpenPairing, inner}
 use Rattle.dotted_maps.specs.Terms.{AreGlued}
 use Rattle.added_crossings.specs.Codes.{points_at}
 use Rattle.added_crossings.specs.Saddles.{pairing_of}
@@ -36,7 +36,7 @@ module _ (code : Code) (is : IsTrue (accepted code)) (scan : Scan) (of : IsScanO
   pub object-among : (x : ℕ) → Contains scan.numbers x → AreAmong (points_at code scan.done).opened (pairs_of scan x)
   object-among x has = (object-led x has).paired.among
 
-  pub object-pairing : (x : ℕ) → Contains scan.numbers x → IsPairing (points_at code scan.done) (pairs_of scan x)
+  pub object-pairing : (x : ℕ) → Contains scan.numbers x → IsOpenPairing (points_at code scan.done) (pairs_of scan x)
   object-pairing x has = pairing-paired code scan.done (pairs_of scan x) (object-led x has).paired
 
   pub objects-glued : (x y state : ℕ) → Contains scan.numbers x → Contains scan.numbers y

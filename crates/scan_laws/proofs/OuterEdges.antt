@@ -1,6 +1,6 @@
--- The coefficient of an edge at a later crossing, before one crossing more: it is that behind the crossing where the labels of closed
+-- The coefficient of an edge at a later crossing, before one crossing more: it is that after the crossing where the labels of closed
 -- circles stay, and else 0. The touched circles have as many labels on both sides, with the same sum, so they are a row of the tables on
--- both or on neither; and a circle that is not touched is closed, or has its label behind.
+-- both or on neither; and a circle that is not touched is closed, or has its label after.
 use Rattle.std.proofs.Common.{◌≡◌, ◌≢◌, ℕ, zero, suc, inl, inr, ◌+◌, ◌-◌, ◌*◌, ◌%◌, ◌^◌, ◌<◌, ◌≤◌, ◌∙◌, ◌⊎◌, List, [], ◌∷◌, ◌++◌, length, refl, sym, ap, ap₂, arith, Bool, true, false, cond, ◌&&◌, ◌||◌}
 use Rattle.std.specs.Prelude.{nat_eq, if◌then◌else◌}
 use Rattle.std.specs.List.{Contains, list_all, sum_by}

@@ -9,9 +9,9 @@ use Rattle.std.proofs.lemmas.List.Sorted.{IsPermutation-cons, IsPermutation-refl
 use Rattle.std.proofs.lemmas.List.Sums.{sum_by-cons, sum_by-remove}
 use Rattle.kh_types.specs.Code.{Code, arc_count, arcs_and_loops}
 use Rattle.kh_types.proofs.ListSums.{sum_by-alike}
-use Rattle.dotted_surfaces.specs.Points.{AreAmong, IsPairing, ends_of}
+use Rattle.dotted_surfaces.specs.Points.{AreAmong, IsOpenPairing, ends_of}
 use Rattle.added_crossings.specs.Codes.{is_open, points_at}
-use Rattle.added_crossings.specs.Pairings.{IsPaired, end_count, ends_in}
+use Rattle.added_crossings.specs.Pairings.{IsPairingOf, end_count, ends_in}
 use Rattle.cell_complexes.specs.Alike.{HasNoDoubles}
 use Rattle.cell_complexes.proofs.NoDoubles.{once-range, once-filter}
 use Rattle.cell_complexes.proofs.SameElements.{counted, counted-most, counted-once, hit, is, miss, some-there}
@@ -67,8 +67,8 @@ other-count z xs = sum_by-alike (λ y. cond (nat_eq z y) (let n : ℕ = 1 in n) 
     turned : (y : ℕ) → nat_eq z y ≡ nat_eq y z
     turned y = grind (arith, nat_tests)
 
-pub pairing-paired : (code : Code) (k : ℕ) (m : List (ℕ × ℕ)) → IsPaired (points_at code k).opened m
-    → IsPairing (points_at code k) m
+pub pairing-paired : (code : Code) (k : ℕ) (m : List (ℕ × ℕ)) → IsPairingOf (points_at code k).opened m
+    → IsOpenPairing (points_at code k) m
 pairing-paired code k m paired =
     record {
       ends = permuted (points_at code k).opened (ends_of m) same;

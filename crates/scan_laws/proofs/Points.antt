@@ -1,4 +1,4 @@
--- The points behind some crossings are placed: open arcs are alive, and all are arcs and loops of the code.
+-- The points after some crossings are placed: open arcs are alive, and all are arcs and loops of the code.
 use Rattle.std.proofs.Common.{◌≡◌, ℕ, ◌+◌, ◌<◌, arith, true}
 use Rattle.std.specs.Prelude.{nat_eq, nat_lt}
 use Rattle.std.specs.List.{Contains}

@@ -1,4 +1,4 @@
--- Outer states: the smoothing of the first crossing behind, and a state of the others.
+-- Outer states: the smoothing of the next crossing, and a state of the others still to come.
 use Rattle.std.proofs.Common.{◌≡◌, ℕ, suc, ◌+◌, ◌*◌, ◌/◌, ◌%◌, ◌^◌, ◌<◌, ◌∙◌, List, [], ◌∷◌, ◌++◌, get_or, length, ap, ap₂, arith}
 use Rattle.std.specs.List.{range_with_len}
 use Rattle.std.proofs.lemmas.List.{drop_more}
@@ -8,12 +8,13 @@ use Rattle.kh_types.specs.Bits.{bit, ones}
 use Rattle.kh_types.specs.Circles.{smoothing_of, smoothings_of}
 use Rattle.kh_types.specs.Code.{Code}
 use Rattle.kh_types.proofs.ListSums.{shifted, sum_by-range_alike}
-use Rattle.added_crossings.specs.Codes.{outer_smoothings, smoothing_at}
+use Rattle.tangle_surfaces.specs.CutCodes.{outer_smoothings}
+use Rattle.added_crossings.specs.Codes.{smoothing_at}
 use Rattle.closed_surfaces.specs.Made.{joined_outside}
 use Rattle.closed_surfaces.proofs.MadePairings.{bit-raised, outer-raised, smoothings-moved}
 use Rattle.scan_laws.specs.Scans.{count_behind, crossings_behind}
 
--- the state with a smoothing of the first crossing behind, and a state of the others
+-- the state with a smoothing of the next crossing, and a state of the others
 abbrev pub joint : ℕ → ℕ → ℕ
 joint e u = e + 2 * u
 
@@ -61,7 +62,7 @@ outside-more code k e u below e_below =
     one_more : (i : ℕ) → 1 + i ≡ suc i
     one_more i = omega arith
 
--- the state of all crossings that has such bits behind the first k
+-- the state of all crossings that has such bits after the first k
 abbrev pub whole_state : ℕ → ℕ → ℕ → ℕ
 whole_state k e u = 2 ^ k * joint e u
 
@@ -69,11 +70,11 @@ pub whole-at : (k e u : ℕ) → e < 2 → bit (whole_state k e u) k ≡ e
 whole-at k e u e_below =
     ap (bit (whole_state k e u)) (let g : k ≡ k + 0 = omega arith in g) ∙ bit-raised k (joint e u) 0 ∙ bit-joint_first e u e_below
 
-pub outer-whole : (code : Code) (k e u : ℕ) → outer_smoothings code (whole_state k e u) k ≡ joined_outside code k (joint e u)
+pub outer-whole : (code : Code) (k e u : ℕ) → outer_smoothings code.crossings (whole_state k e u) k ≡ joined_outside code k (joint e u)
 outer-whole code k e u = outer-raised code k (joint e u)
 
 pub outer-rest : (code : Code) (k e u : ℕ) → e < 2
-    → outer_smoothings code (whole_state k e u) (k + 1) ≡ joined_outside code (k + 1) u
+    → outer_smoothings code.crossings (whole_state k e u) (k + 1) ≡ joined_outside code (k + 1) u
 outer-rest code k e u e_below =
     smoothings-moved (k + 1) 0 (whole_state k e u) u (crossings_behind code (k + 1))
     (λ i.

@@ -26,7 +26,7 @@ use Rattle.scan_laws.proofs.Parts.{circle_with}
 use Rattle.cell_complexes.proofs.CellLists.{contains-range}
 use Rattle.scan_laws.proofs.States.{behind-more, bit-joint, joint}
 
--- an edge of the states behind the next crossing
+-- an edge of the states after the next crossing
 pub record IsLater (code : Code) (k crossing u v : ℕ) : Type 0 where
   pub from : 1 ≤ crossing
   pub within : crossing < 1 + count_behind code (k + 1)

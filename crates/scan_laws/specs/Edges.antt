@@ -24,7 +24,7 @@ abbrev pub labels_by : List ℕ → List ℕ → List ℕ → ℕ → List ℕ
 labels_by circles points slots label =
     map (label_by circles points label) (filter (touched_by circles slots) (filter (is_least circles) points))
 
--- every circle that is not touched has the same label before and behind
+-- every circle that is not touched has the same label before and after
 abbrev pub keeps_by : List ℕ → List ℕ → List ℕ → List ℕ → ℕ → ℕ → Bool
 keeps_by before behind points slots label other =
     list_all (λ circle.

@@ -1,13 +1,17 @@
 -- One entry less: the elimination of a map that is a number times the identity.
-use Rattle.std.specs.Prelude.{◌≡◌, ◌≢◌, ℕ, ◌+◌, ◌*◌, ◌<◌, ◌∷◌, nat_eq, if◌then◌else◌}
-use Rattle.std.specs.List.{Contains}
+use Rattle.std.specs.Prelude.{◌≡◌, ◌≢◌, ℕ, ◌+◌, ◌*◌, ◌^◌, ◌<◌, List, ◌∷◌, map, nat_eq, if◌then◌else◌, IsTrue}
+use Rattle.std.specs.List.{Contains, flat_map, range_with_len}
+use Rattle.kh_types.specs.Acceptance.{accepted}
 use Rattle.kh_types.specs.Code.{Code}
 use Rattle.kh_types.specs.Rank.{inverse}
-use Rattle.kh_types.specs.Residues.{Same}
+use Rattle.kh_types.specs.Residues.{HasInverses, Same}
 use Rattle.dotted_maps.specs.Maps.{coefficient_in, composed_in}
 use Rattle.added_crossings.specs.Codes.{points_at}
 use Rattle.cell_complexes.specs.Alike.{AreListed}
-use Rattle.scan_laws.specs.Scans.{HasDots, Scan, dot_sets, pairs_of}
+use Rattle.cell_complexes.specs.Cells.{AreComplex}
+use Rattle.cell_complexes.specs.Layers.{Layer, layer_of}
+use Rattle.scan_laws.specs.Scans.{HasDots, IsScanOf, Scan, circle_count_at, count_behind, dot_sets, pairs_of}
+use Rattle.scan_laws.specs.Complexes.{complex_of}
 
 -- the map from one object to another is c times the identity: both have the same pairs, and no set of dots but the empty one counts
 pub record IsNumber (p : ℕ) (code : Code) (scan : Scan) (tail head c : ℕ) : Type 0 where
@@ -43,3 +47,24 @@ pub record IsEliminating (p : ℕ) (code : Code) (scan next : Scan) : Type 0 whe
   pub terms : (x y kept : ℕ) → Contains next.numbers x → Contains next.numbers y → kept < dot_sets code next x y
       → Same p (coefficient_in (next.terms x y) kept + way_coefficient p code scan tail head c x y kept)
       (coefficient_in (scan.terms x y) kept)
+
+-- the pairs of generators that are cancelled with an entry: for each outer state, and each labelling of the tail's circles there, the
+-- generator of the tail and that of the head
+abbrev pub cancelled_pair : ℕ → ℕ → ℕ → ℕ → Layer × Layer
+cancelled_pair tail head state label = (layer_of tail state label, layer_of head state label)
+
+abbrev pub cancelled_at : Code → Scan → ℕ → ℕ → ℕ → List (Layer × Layer)
+cancelled_at code scan tail head state =
+    map (cancelled_pair tail head state) (range_with_len 0 (2 ^ circle_count_at code scan tail state))
+
+abbrev pub cancelled_pairs : Code → Scan → ℕ → ℕ → List (Layer × Layer)
+cancelled_pairs code scan tail head =
+    flat_map (cancelled_at code scan tail head) (range_with_len 0 (2 ^ count_behind code scan.done))
+
+-- an entry is eliminated from a scan of an accepted code, whose E is a complex
+pub record IsEliminated (p : ℕ) (code : Code) (plus minus : ℕ) (scan next : Scan) : Type 0 where
+  pub field : HasInverses p
+  pub accepted_is : IsTrue (accepted code)
+  pub of : IsScanOf code scan
+  pub complex : AreComplex p (complex_of p code plus minus scan)
+  pub less : IsEliminating p code scan next

@@ -2,6 +2,7 @@ pub mod Scans
 pub mod Edges
 pub mod Complexes
 pub mod Adding
+pub mod NextGenerators
 pub mod Eliminating
 pub mod Steps
 pub mod Counts

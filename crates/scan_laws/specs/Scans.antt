@@ -1,4 +1,4 @@
--- The state of a scan behind some crossings, as plain data, and what is open, alive and outside there.
+-- The state of a scan after some crossings, as plain data, and what is open, alive and outside there.
 use Rattle.std.specs.Prelude.{◌≡◌, ℕ, ◌^◌, ◌<◌, ◌≤◌, ℤ, pos, List, [], ◌∷◌, drop, length, nat_eq, ◌&&◌, slice_index_or, if◌then◌else◌}
 use Rattle.std.specs.List.{flat_map, AllByRecursion, Contains}
 use Rattle.kh_types.specs.Code.{Code}
@@ -70,7 +70,7 @@ pub record IsScanOf (code : Code) (scan : Scan) : Type 0 where
   pub dots : (x y : ℕ) → Contains scan.numbers x → Contains scan.numbers y → HasDots code scan x y
   pub made : (x : ℕ) → Contains scan.numbers x → (state : ℕ) × (pairs_of scan x ≡ pairing_of code state scan.done)
 
--- the crossings behind the first k, and how many there are
+-- the crossings still to come after the first k, and how many there are
 abbrev pub crossings_behind : Code → ℕ → List (List ℕ)
 crossings_behind code k = drop k code.crossings
 

@@ -1,4 +1,4 @@
--- The steps of a scan, from before the first crossing to behind the last one.
+-- The steps of a scan, from before the first crossing to after the last one.
 use Rattle.std.specs.Prelude.{◌≡◌, ℕ, ◌<◌, List, [], ◌∷◌, length}
 use Rattle.std.specs.List.{Contains}
 use Rattle.kh_types.specs.Code.{Code}

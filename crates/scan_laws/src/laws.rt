@@ -7,14 +7,16 @@ ghost use Rattle.kh_types.specs.Code.{Code};
 ghost use Rattle.kh_types.specs.Residues.{HasInverses};
 ghost use Rattle.kh_types.specs.Table.{dimension, table};
 ghost use Rattle.prime_field.specs.Residues.{IsSmallPrime};
-ghost use Rattle.cell_complexes.specs.Alike.{AreAlike};
+ghost use Rattle.cell_complexes.specs.Alike.{AreAlike, AreListed, AreMatched};
 ghost use Rattle.cell_complexes.specs.Cells.{AreComplex, dimension_at};
 ghost use Rattle.cell_complexes.specs.Cubes.{cube_of, IsReordered};
-ghost use Rattle.cell_complexes.specs.Layers.{layer_of};
+ghost use Rattle.cell_complexes.specs.Elimination.{ArePivots, all_of, eliminated};
+ghost use Rattle.cell_complexes.specs.Layers.{Layer, layer_of};
 ghost use Rattle.scan_laws.specs.Scans.{Scan, first_object, first_scan, listed_scan, IsScanOf};
 ghost use Rattle.scan_laws.specs.Complexes.{complex_of};
 ghost use Rattle.scan_laws.specs.Adding.{IsAdding};
-ghost use Rattle.scan_laws.specs.Eliminating.{IsEliminating, IsNumber};
+ghost use Rattle.scan_laws.specs.NextGenerators.{IsAdded, next_generator};
+ghost use Rattle.scan_laws.specs.Eliminating.{IsEliminating, IsEliminated, IsNumber, cancelled_pairs};
 ghost use Rattle.scan_laws.specs.Steps.{IsScanStep, LeadsTo, IsReached, IsLast, IsEndOfScan};
 ghost use Rattle.scan_laws.specs.Counts.{counted, counted_table};
 
@@ -67,6 +69,62 @@ pub fn scans_begin_with_the_cube()
     ensures { (p plus minus : ℕ) (code : Code) → 1 < p
         → AreAlike p (λ x. layer_of 0 x.state x.label) (λ x. 1) (cube_of p code plus minus)
         (complex_of p code plus minus first_scan) }
+{}
+
+/// One crossing more gives the generators of E other names, and changes no coefficient: each
+/// generator becomes one, the first bit of its state the smoothing of the new object, and the labels
+/// of the circles that this closes a part of it; the other bits and labels stay. This is one to one,
+/// keeps both degrees, and from any generator to any other the coefficient stays the same.
+pub fn crossings_change_no_coefficient()
+    ensures one_to_one { (p plus minus : ℕ) (code : Code) (scan next : Scan)
+        → (added : IsAdded p code scan next)
+        → (back : Layer → Layer) × AreMatched (next_generator code scan added.more.number) back
+        (complex_of p code plus minus scan).list (complex_of p code plus minus next).list }
+    ensures degrees { (p plus minus : ℕ) (code : Code) (scan next : Scan)
+        → (added : IsAdded p code scan next)
+        → (x : Layer) → Contains (complex_of p code plus minus scan).list x
+        → ((complex_of p code plus minus next).homological (next_generator code scan added.more.number x)
+        ≡ (complex_of p code plus minus scan).homological x)
+        × ((complex_of p code plus minus next).quantum (next_generator code scan added.more.number x)
+        ≡ (complex_of p code plus minus scan).quantum x) }
+    ensures coefficients { (p plus minus : ℕ) (code : Code) (scan next : Scan)
+        → (added : IsAdded p code scan next) → 1 < p
+        → (x y : Layer) → Contains (complex_of p code plus minus scan).list x
+        → Contains (complex_of p code plus minus scan).list y
+        → (complex_of p code plus minus next).coefficient
+        (next_generator code scan added.more.number x) (next_generator code scan added.more.number y)
+        ≡ (complex_of p code plus minus scan).coefficient x y }
+{}
+
+/// A cancelled entry is one cancelled pair of generators of E for each state and each labelling: from
+/// tail to head of each pair the coefficient is c, and to any other pair's head it is 0. The other
+/// generators are those of the next E, with their degrees; and the coefficients there are the old
+/// ones less the ways back through these pairs.
+pub fn eliminations_cancel_in_each_state()
+    ensures pivots { (p : ℕ) (code : Code) (plus minus : ℕ) (scan next : Scan)
+        → (out : IsEliminated p code plus minus scan next)
+        → ArePivots (complex_of p code plus minus scan).coefficient
+        (cancelled_pairs code scan out.less.tail out.less.head) }
+    ensures number { (p : ℕ) (code : Code) (plus minus : ℕ) (scan next : Scan)
+        → (out : IsEliminated p code plus minus scan next) → (pair : Layer × Layer)
+        → Contains (cancelled_pairs code scan out.less.tail out.less.head) pair
+        → (complex_of p code plus minus scan).coefficient pair.0 pair.1 ≡ out.less.c }
+    ensures left { (p : ℕ) (code : Code) (plus minus : ℕ) (scan next : Scan)
+        → (out : IsEliminated p code plus minus scan next)
+        → AreListed (λ (x : Layer). x) (complex_of p code plus minus scan).list
+        (all_of (cancelled_pairs code scan out.less.tail out.less.head) (complex_of p code plus minus next).list) }
+    ensures degrees { (p : ℕ) (code : Code) (plus minus : ℕ) (scan next : Scan)
+        → IsEliminated p code plus minus scan next
+        → (x : Layer) → Contains (complex_of p code plus minus next).list x
+        → ((complex_of p code plus minus next).homological x ≡ (complex_of p code plus minus scan).homological x)
+        × ((complex_of p code plus minus next).quantum x ≡ (complex_of p code plus minus scan).quantum x) }
+    ensures coefficients { (p : ℕ) (code : Code) (plus minus : ℕ) (scan next : Scan)
+        → (out : IsEliminated p code plus minus scan next)
+        → (x y : Layer) → Contains (complex_of p code plus minus next).list x
+        → Contains (complex_of p code plus minus next).list y
+        → (complex_of p code plus minus next).coefficient x y
+        ≡ eliminated p (complex_of p code plus minus scan).coefficient
+        (cancelled_pairs code scan out.less.tail out.less.head) x y }
 {}
 
 /// Each step keeps that a scan is one of the code, that its complex is one, and its dimensions.

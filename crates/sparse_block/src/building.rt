@@ -17,9 +17,10 @@ use smallvec::SmallVec;
 use std::alloc::Global;
 use std::marker::PhantomData;
 
-/// The complex with these names of places, by degree from `low` on, and the entries of these
-/// columns, all places alive.
-pub(crate) fn build<F: PrimeField>(
+/// The complex with these names and columns, all places alive: degree `low + k` has a place for
+/// each of `names[k]`, from 0, and `columns[k]` has one column for each, ascending entries other
+/// than 0 at places of the next degree, so none in the last. `Err` is want of memory alone.
+pub fn build<F: PrimeField>(
     alloc: Global,
     low: i16,
     names: Vec<Vec<Generator>>,

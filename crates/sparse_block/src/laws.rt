@@ -7,6 +7,7 @@ ghost use Rattle.kh_types.specs.Complex.{IsPivot, Pivot, cancel};
 ghost use Rattle.prime_field.specs.Residues.{IsField};
 ghost use Rattle.sparse_block.specs.Complexes.{column_of, place_count, row_of};
 ghost use Rattle.sparse_block.specs.Entries.{AreEntries, entries_of, entry_at, line_of, value_at};
+ghost use Rattle.sparse_block.specs.declared.entry.TheConstants.{INLINE_ENTRIES, MOST_PLACES, MOST_VALUES};
 ghost use Rattle.sparse_block.specs.Worked.{worked_complex};
 ghost use Rattle.sparse_block.specs.Entries.{Entry as Item};
 
@@ -25,6 +26,14 @@ pub fn complex_laws<F: PrimeField>(complex: &Complex<F>)
 {
     let _ = &complex.low;
 }
+
+/// The limits of entries: how many places and values they have, whose product is 2 to the 32, and
+/// how many entries a line holds in place.
+pub fn limits_of_entries()
+    ensures places { MOST_PLACES ≡ 536870912 }
+    ensures values { MOST_VALUES ≡ 8 }
+    ensures inline { INLINE_ENTRIES ≡ 12 }
+{}
 
 /// A column and a row read one matrix: both have its entries. In a complex the entries of a column
 /// are at places of the next degree, and those of a row at places of its own.

@@ -15,6 +15,7 @@ pub mod laws;
 mod lines;
 mod reading;
 
+pub use building::build;
 pub use change::{Change, Line};
 pub use column_complex::{ColumnComplex, ColumnParts};
 pub use complex::Complex;

@@ -14,7 +14,7 @@ use Rattle.std.proofs.lemmas.List.{map-append, append-nil, nil_from_length, get_
 use Rattle.dotted_maps.specs.declared.term.Term.{Term}
 use Rattle.dotted_maps.specs.Choices.{choices, fewer}
 use Rattle.tangle_maps.specs.Chosen.{chosen}
-use Rattle.tangle_maps.specs.Sums.{HaveDotsBelow, IsSum, term_of, term_with}
+use Rattle.tangle_maps.specs.Sums.{HaveDotsBelow, IsSum, dotted_term, dotted_times}
 use Rattle.tangle_maps.specs.Seams.{CanCompose, factor_by, left_by, seam_terms}
 use Rattle.tangle_maps.specs.declared.seam.Seam.{Seam}
 use Rattle.kh_types.specs.Residues.{Same}
@@ -26,7 +26,7 @@ use Rattle.std.proofs.lemmas.List.Sums.{sum_by-cons}
 use Rattle.tangle_maps.proofs.SumLemmas.{IsSum-alike, IsSum-chained, coefficient-append, sums-alike}
 
 abbrev made : ℕ → ℕ → ℕ → ℕ → Term
-made dots place value s = term_of (dots + 2 ^ place * s) value
+made dots place value s = dotted_term (dots + 2 ^ place * s) value
 
 -- a disc with a dot, and one without
 
@@ -47,11 +47,11 @@ even-dots a j s = lin a (2 ^ j) s ∙ ap (λ y. a + y * s) (sym (doubled j))
 
 chosen-odd : (a j v : ℕ) (xs : List ℕ) → chosen a j v (map (λ s. 1 + 2 * s) xs) ≡ chosen (a + 2 ^ j) (j + 1) v xs
 chosen-odd a j v [] = refl
-chosen-odd a j v (x ∷ xs) = ap₂ (λ (d : ℕ) (ts : List Term). term_of d v ∷ ts) (odd-dots a j x) (chosen-odd a j v xs)
+chosen-odd a j v (x ∷ xs) = ap₂ (λ (d : ℕ) (ts : List Term). dotted_term d v ∷ ts) (odd-dots a j x) (chosen-odd a j v xs)
 
 chosen-even : (a j v : ℕ) (xs : List ℕ) → chosen a j v (map (λ s. 2 * s) xs) ≡ chosen a (j + 1) v xs
 chosen-even a j v [] = refl
-chosen-even a j v (x ∷ xs) = ap₂ (λ (d : ℕ) (ts : List Term). term_of d v ∷ ts) (even-dots a j x) (chosen-even a j v xs)
+chosen-even a j v (x ∷ xs) = ap₂ (λ (d : ℕ) (ts : List Term). dotted_term d v ∷ ts) (even-dots a j x) (chosen-even a j v xs)
 
 -- terms with the coefficient 0 add nothing
 
@@ -132,13 +132,13 @@ within-some (x ∷ xs) (suc k) some = omega (arith, within-some xs k some)
 
 -- no disc is left
 pub chosen_last : (p dots place value : ℕ) (names discs : List ℕ) (left : ℕ → ℕ) (old new : List Term) → length discs ≡ 0
-    → list_all (λ k. nat_eq (left k) 0) names ≡ true → IsSum p old (term_of dots value ∷ []) new
+    → list_all (λ k. nat_eq (left k) 0) names ≡ true → IsSum p old (dotted_term dots value ∷ []) new
     → IsSum p old (chosen dots place value (choices names discs left)) new
 chosen_last p dots place value names discs left old new none done is =
     subst (λ xs. IsSum p old xs new)
     (sym (ap (λ ks. chosen dots place value (choices names ks left)) (nil_from_length discs none)
     ∙ ap (λ b. chosen dots place value (cond b (0 ∷ []) [])) done
-    ∙ ap (λ d. term_of d value ∷ []) (nothing dots (2 ^ place)))) is
+    ∙ ap (λ d. dotted_term d value ∷ []) (nothing dots (2 ^ place)))) is
   where
     nothing : (a b : ℕ) → a + b * 0 ≡ a
     nothing a b = omega arith
@@ -258,18 +258,18 @@ from_zero : (s : ℕ) → 0 + 2 ^ 0 * s ≡ s
 from_zero s = omega arith
 
 sets-alike : (p a f c : ℕ) → Same p a (f * c) → (sets : List ℕ) (dots : ℕ)
-    → Same p (coefficient_in (chosen 0 0 a sets) dots) (coefficient_in (scaled f (map (term_with c) sets)) dots)
+    → Same p (coefficient_in (chosen 0 0 a sets) dots) (coefficient_in (scaled f (map (dotted_times c) sets)) dots)
 sets-alike p a f c same [] dots = refl
 sets-alike p a f c same (s ∷ sets) dots =
     let count : Term → ℕ = λ term. cond (nat_eq term.dots dots) term.coefficient 0 in
-    ap (λ z. z % p) (sum_by-cons count (term_of (0 + 2 ^ 0 * s) a) (chosen 0 0 a sets)
+    ap (λ z. z % p) (sum_by-cons count (dotted_term (0 + 2 ^ 0 * s) a) (chosen 0 0 a sets)
     ∙ ap (λ d. cond (nat_eq d dots) a 0 + coefficient_in (chosen 0 0 a sets) dots) (from_zero s))
     ∙ same-add p (cond (nat_eq s dots) a 0) (cond (nat_eq s dots) (f * c) 0) (coefficient_in (chosen 0 0 a sets) dots)
-    (coefficient_in (scaled f (map (term_with c) sets)) dots) (sums-alike p a (f * c) (nat_eq s dots) same)
+    (coefficient_in (scaled f (map (dotted_times c) sets)) dots) (sums-alike p a (f * c) (nat_eq s dots) same)
     (sets-alike p a f c same sets dots)
-    ∙ ap (λ z. z % p) (sym (sum_by-cons count (term_of s (f * c)) (scaled f (map (term_with c) sets))))
+    ∙ ap (λ z. z % p) (sym (sum_by-cons count (dotted_term s (f * c)) (scaled f (map (dotted_times c) sets))))
 
-sets-below : (a f c : ℕ) (sets : List ℕ) (limit : ℕ) → HaveDotsBelow limit (scaled f (map (term_with c) sets))
+sets-below : (a f c : ℕ) (sets : List ℕ) (limit : ℕ) → HaveDotsBelow limit (scaled f (map (dotted_times c) sets))
     → HaveDotsBelow limit (chosen 0 0 a sets)
 sets-below a f c [] limit all = tt
 sets-below a f c (s ∷ sets) limit all =
@@ -290,7 +290,7 @@ composed_added p f value weighed seam term other left old new can lefts is_value
     let worth : Same p weighed (f * c) =
     is_weighed ∙ same-mul p value (f * (term.coefficient * other.coefficient)) parts parts is_value refl
     ∙ ap (λ z. z % p) (grouped f (term.coefficient * other.coefficient) parts) in
-    IsSum-alike p old (chosen 0 0 weighed sets) (scaled f (map (term_with c) sets)) new
+    IsSum-alike p old (chosen 0 0 weighed sets) (scaled f (map (dotted_times c) sets)) new
     (subst (λ xs. IsSum p old (chosen 0 0 weighed xs) new)
     (choices-on names seam.whole.items (slice_index left) (left_by seam term.dots other.dots) can.named lefts) is)
     (sets-alike p weighed f c worth sets) (sets-below weighed f c sets)

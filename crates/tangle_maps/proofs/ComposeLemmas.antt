@@ -27,7 +27,7 @@ use Rattle.tangle_maps.specs.declared.seam.Seam.{Seam}
 use Rattle.tangle_maps.specs.declared.way.Way.{Way}
 use Rattle.tangle_maps.specs.Pairings.{IsOpened}
 use Rattle.tangle_maps.specs.Seams.{CanCompose, IsSeam, dots_on, load_by, left_by, factor_by, factor_for, seam_terms, seam_behind, seam_listed}
-use Rattle.tangle_maps.specs.Sums.{HaveDotsBelow, IsSum, term_with}
+use Rattle.tangle_maps.specs.Sums.{HaveDotsBelow, IsSum, dotted_times}
 use Rattle.tangle_maps.specs.Ways.{IsCancelledAlong, IsComposedAlong, composed_along, joins_from, joins_over, joins_to, listed_along, points_on}
 use Rattle.tangle_maps.proofs.ChoiceLemmas.{choices-on}
 use Rattle.tangle_maps.proofs.SumLemmas.{coefficient-append, coefficient-scaled, scaled-below}
@@ -77,7 +77,7 @@ terms-same points m n o seam term other is are =
     ap (product_over (factor_by seam term.dots other.dots)) is.parts
     ∙ product-on (factor_by seam term.dots other.dots) (factor_at points m n o term.dots other.dots) names
     (λ k has. ap₂ factor_for (load k has) (is.genera k has)) in
-    ap₂ (λ c xs. map (term_with (term.coefficient * other.coefficient * c)) xs) factors sets
+    ap₂ (λ c xs. map (dotted_times (term.coefficient * other.coefficient * c)) xs) factors sets
 
 flat-alike : (f g : Term → List Term) (xs : List Term) → ((x : Term) → f x ≡ g x) → flat_map f xs ≡ flat_map g xs
 flat-alike f g [] alike = refl

@@ -16,11 +16,11 @@ use Rattle.kh_types.proofs.Lists.{AllByRecursion-append}
 use Rattle.dotted_maps.specs.declared.term.Term.{Term}
 use Rattle.dotted_maps.specs.Choices.{listed}
 use Rattle.dotted_maps.specs.Maps.{AreDotted, AreOneMap, coefficient_in, identity, matrix_of, scaled}
-use Rattle.dotted_surfaces.specs.Points.{Points, ArePlaced, IsPairing, circles, discs, inner}
+use Rattle.dotted_surfaces.specs.Points.{Points, ArePlaced, IsOpenPairing, circles, discs, inner}
 use Rattle.dotted_maps.specs.Terms.{AreGlued}
 use Rattle.dotted_maps.proofs.Listed.{IsComposition-listed}
 use Rattle.dotted_maps.proofs.MapProducts.{matrix-added, matrix-same}
-use Rattle.tangle_maps.specs.Sums.{AreReduced, IsSum, has_dots, number_in, term_of}
+use Rattle.tangle_maps.specs.Sums.{AreReduced, IsSum, has_dots, number_in, dotted_term}
 use Rattle.tangle_maps.proofs.SumLemmas.{scaled-below}
 
 abbrev counted : ℕ → Term → ℕ
@@ -139,7 +139,7 @@ number-told number [] is = absurd (no-some number is)
     no-some number is = grind (arith, nat_tests)
 number-told number (t ∷ []) is = elim (cases_eq t.dots 0) [
   | inl none ↦
-      ap₂ (λ d c. term_of d c ∷ []) none
+      ap₂ (λ d c. dotted_term d c ∷ []) none
       (same t.coefficient number (sym (ap (λ b. cond b (Some t.coefficient) None) (eq-eqb t.dots 0 none)) ∙ is) ∙ one_time number)
   | inr some ↦ absurd (differ number (sym (ap (λ b. cond b (Some t.coefficient) None) (apart-test t.dots 0 some)) ∙ is))
 ]
@@ -171,7 +171,7 @@ IsSum-map p points m n terms more sum first second is = record {
 }
 
 pub IsSum-matrix : (p : ℕ) (points : Points) (m n o w : List (ℕ × ℕ)) (first second old sum : List Term) (factor row column : ℕ)
-    → ArePlaced points → IsPairing points m → AreGlued points m n w → AreGlued points n o w → AreGlued points m o w
+    → ArePlaced points → IsOpenPairing points m → AreGlued points m n w → AreGlued points n o w → AreGlued points m o w
     → AreGlued (inner points) m o n → AreDotted points m o old
     → IsSum p old (scaled factor (listed points m n o first second)) sum
     → matrix_of p points m o w sum row column

@@ -1,4 +1,4 @@
--- A number times the identity, and a map behind it, are that map times the number.
+-- A number times the identity, and a map after it, are that map times the number.
 -- Where the first two of three pairings are one, the components are the discs of it and the third (`components-same`), so each component has one
 -- disc of the second map and one of the composition; its genus is 0 (`genus-none`). The dots that are left to choose are then those of the
 -- second map: each of its dot sets has one choice, itself (`choices-itself`).
@@ -18,7 +18,7 @@ use Rattle.kh_types.proofs.JoinedClasses.{classes_of-same}
 use Rattle.kh_types.proofs.Residues.{same-mul}
 use Rattle.kh_types.proofs.ListSums.{sum_by-alike, sum_by-zeros}
 use Rattle.kh_types.proofs.Lists.{AllByRecursion-append, AllByRecursion-first, AllByRecursion-second, count_by-map}
-use Rattle.dotted_surfaces.specs.Points.{ArePlaced, AreAmong, IsPairing, Points, discs, ends_of}
+use Rattle.dotted_surfaces.specs.Points.{ArePlaced, AreAmong, IsOpenPairing, Points, discs, ends_of}
 use Rattle.dotted_surfaces.proofs.Components.{AllByRecursion-at, AllByRecursion-weaker}
 use Rattle.dotted_maps.specs.declared.term.Term.{Term}
 use Rattle.dotted_maps.specs.Choices.{choices, composed_terms, factor_at, fewer, listed, load_on, undotted_at}
@@ -34,7 +34,7 @@ use Rattle.tangle_maps.proofs.SumLemmas.{IsSum-alike, coefficient-scaled}
 use Rattle.tangle_maps.proofs.WayLemmas.{WayFacts}
 use Rattle.tangle_maps.specs.declared.way.Way.{Way}
 use Rattle.tangle_maps.specs.Pairings.{joins_of}
-use Rattle.tangle_maps.specs.Sums.{AreReduced, HaveDotsBelow, IsSum, number_in, term_of, term_with}
+use Rattle.tangle_maps.specs.Sums.{AreReduced, HaveDotsBelow, IsSum, number_in, dotted_term, dotted_times}
 use Rattle.tangle_maps.specs.Ways.{HasReducedMaps, IsMultiple, joins_from, joins_over, joins_to, listed_along, points_on}
 
 -- lists without doubles
@@ -169,7 +169,7 @@ choices-itself names (k ∷ ks) left d once named others mine below =
 
 pub record IsDoubled (points : Points) (m o : List (ℕ × ℕ)) : Type 0 where
   pub placed : ArePlaced points
-  pub pairing : IsPairing points m
+  pub pairing : IsOpenPairing points m
   pub first : AreAmong points.opened m
   pub third : AreAmong points.opened o
 
@@ -339,21 +339,21 @@ one-choice points m o others is below =
 
 term-scaled : (points : Points) (m o : List (ℕ × ℕ)) (number : ℕ) (other : Term) → IsDoubled points m o
     → other.dots < 2 ^ length (discs points m o)
-    → composed_terms points m m o (term_of 0 number) other ≡ term_of other.dots (number * other.coefficient) ∷ []
+    → composed_terms points m m o (dotted_term 0 number) other ≡ dotted_term other.dots (number * other.coefficient) ∷ []
 term-scaled points m o number other is below =
-    ap₂ (λ c sets. map (term_with (number * other.coefficient * c)) sets) (one-factor points m o other.dots is)
+    ap₂ (λ c sets. map (dotted_times (number * other.coefficient * c)) sets) (one-factor points m o other.dots is)
     (one-choice points m o other.dots is below)
-    ∙ ap (λ c. term_of other.dots c ∷ []) (one_time (number * other.coefficient))
+    ∙ ap (λ c. dotted_term other.dots c ∷ []) (one_time (number * other.coefficient))
   where
     one_time : (x : ℕ) → x * 1 ≡ x
     one_time x = omega arith
 
 pub multiples : (points : Points) (m o : List (ℕ × ℕ)) (number : ℕ) (second : List Term) → IsDoubled points m o
-    → AreDotted points m o second → listed points m m o (term_of 0 number ∷ []) second ≡ scaled number second
+    → AreDotted points m o second → listed points m m o (dotted_term 0 number ∷ []) second ≡ scaled number second
 multiples points m o number second is dotted = append-nil (flat_map compose second) ∙ all second dotted
   where
     compose : Term → List Term
-    compose = composed_terms points m m o (term_of 0 number)
+    compose = composed_terms points m m o (dotted_term 0 number)
 
     all : (terms : List Term) → AreDotted points m o terms → flat_map compose terms ≡ scaled number terms
     all [] dots = refl
@@ -365,7 +365,7 @@ multiples points m o number second is dotted = append-nil (flat_map compose seco
 number-below : (p number : ℕ) (terms : List Term) → AreReduced p terms → number_in terms ≡ Some number → number < p
 number-below p number terms reduced told =
     let single = subst (AreReduced p) (number-told number terms told) reduced in
-    omega (arith, single.below 0 (term_of 0 (number * 1)) (omega arith))
+    omega (arith, single.below 0 (dotted_term 0 (number * 1)) (omega arith))
 
 pub multiple-below : (p number : ℕ) (way : Way) → HasReducedMaps p way → IsMultiple number way → number < p
 multiple-below p number way reduced is = number-below p number way.first.now reduced.front is.told

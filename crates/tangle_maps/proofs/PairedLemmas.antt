@@ -18,7 +18,7 @@ use Rattle.kh_types.proofs.ListSums.{sum_by-alike, sum_by-map, sum_by-flat_map, 
 use Rattle.kh_types.proofs.Lists.{Contains-filter}
 use Rattle.dotted_surfaces.proofs.TwoSides.{AllByRecursion-map}
 use Rattle.dotted_surfaces.proofs.Components.{AllByRecursion-at, AllByRecursion-weaker}
-use Rattle.dotted_surfaces.specs.Points.{AreAmong, ArePlaced, IsPairing, ends_of}
+use Rattle.dotted_surfaces.specs.Points.{AreAmong, ArePlaced, IsOpenPairing, ends_of}
 use Rattle.dotted_maps.proofs.LeastPoints.{AllByRecursion-filter, all-themselves}
 use Rattle.tangle_maps.specs.declared.pairing.TheConstants.{POINTS}
 use Rattle.tangle_maps.specs.Pairings.{ArePartners, IsOpened, is_paired, joins_of, leads, opened_points, paired_arcs, with_partner}
@@ -196,7 +196,7 @@ sums-agree p n z are = elim (cases_lt z n) [
 
 -- so partners pair these arcs
 pub paired : (partners : List ℕ) → ArePartners partners
-    → IsPairing (opened_points (paired_arcs partners)) (joins_of partners (paired_arcs partners))
+    → IsOpenPairing (opened_points (paired_arcs partners)) (joins_of partners (paired_arcs partners))
 paired partners are =
     let p = slice_index partners in
     let pairs : Pairs POINTS p = record { below = are.below; back = are.back } in

@@ -8,7 +8,7 @@ use Rattle.std.specs.List.{count_by, sum_by, enumerate_from, AllByRecursion}
 use Rattle.std.proofs.lemmas.List.Sums.{sum_by-cons}
 use Rattle.kh_types.specs.Bits.{bit}
 use Rattle.kh_types.specs.Classes.{classes_of, is_least}
-use Rattle.dotted_surfaces.specs.Points.{ArePlaced, AreAmong, IsPairing, discs, least_points}
+use Rattle.dotted_surfaces.specs.Points.{ArePlaced, AreAmong, IsOpenPairing, discs, least_points}
 use Rattle.dotted_surfaces.proofs.Components.{AllByRecursion-weaker}
 use Rattle.dotted_maps.specs.Composition.{composed}
 use Rattle.dotted_maps.specs.Parts.{components, component_in, dotted_on, undotted_on, genus_in, part_at, part_coefficient, product_over}
@@ -108,7 +108,7 @@ parts-agree n k opened m c o dots others kept x is =
     (dotted_on (numbered n opened) m c o x dots (few m c) + dotted_on (numbered n opened) m c o x others (few c o))) undotted
 
 pub composed-size : (n k : ℕ) (opened : List ℕ) (m c o : List (ℕ × ℕ)) (dots others kept : ℕ) → n ≤ k → ArePlaced (numbered n opened)
-    → IsPairing (numbered n opened) m → AreAmong opened m → AreAmong opened c → AreAmong opened o
+    → IsOpenPairing (numbered n opened) m → AreAmong opened m → AreAmong opened c → AreAmong opened o
     → composed (numbered k opened) m c o dots others kept ≡ composed (numbered n opened) m c o dots others kept
 composed-size n k opened m c o dots others kept within placed pairing first second third =
     let is : AreSized n k opened m c o =
@@ -127,7 +127,7 @@ composed-size n k opened m c o dots others kept within placed pairing first seco
     ∙ sym (composed-parts (numbered n opened) m c o dots others kept placed pairing first second third)
 
 pub composed-sizes : (l n k : ℕ) (opened : List ℕ) (m c o : List (ℕ × ℕ)) (dots others kept : ℕ) → l ≤ n → l ≤ k
-    → ArePlaced (numbered l opened) → IsPairing (numbered l opened) m → AreAmong opened m → AreAmong opened c → AreAmong opened o
+    → ArePlaced (numbered l opened) → IsOpenPairing (numbered l opened) m → AreAmong opened m → AreAmong opened c → AreAmong opened o
     → composed (numbered k opened) m c o dots others kept ≡ composed (numbered n opened) m c o dots others kept
 composed-sizes l n k opened m c o dots others kept first_within second_within placed pairing first second third =
     composed-size l k opened m c o dots others kept second_within placed pairing first second third

@@ -22,7 +22,7 @@ use Rattle.kh_types.proofs.Residues.{same-add, same-cancel}
 use Rattle.kh_types.proofs.Lists.{AllByRecursion-append, AllByRecursion-first, AllByRecursion-second}
 use Rattle.dotted_maps.specs.declared.term.Term.{Term}
 use Rattle.dotted_maps.specs.Maps.{coefficient_in, scaled}
-use Rattle.tangle_maps.specs.Sums.{AreReduced, HaveDotsBelow, IsSum, has_dots, term_of}
+use Rattle.tangle_maps.specs.Sums.{AreReduced, HaveDotsBelow, IsSum, has_dots, dotted_term}
 
 abbrev counted : ℕ → Term → ℕ
 counted dots term = cond (nat_eq term.dots dots) term.coefficient 0
@@ -68,10 +68,10 @@ IsSum-alike p old more others new is alike below = record {
 }
 
 -- one term, its coefficient modulo p
-pub IsSum-reduced : (p dots coefficient : ℕ) (old new : List Term) → IsSum p old (term_of dots (coefficient % p) ∷ []) new
-    → IsSum p old (term_of dots coefficient ∷ []) new
+pub IsSum-reduced : (p dots coefficient : ℕ) (old new : List Term) → IsSum p old (dotted_term dots (coefficient % p) ∷ []) new
+    → IsSum p old (dotted_term dots coefficient ∷ []) new
 IsSum-reduced p dots coefficient old new is =
-    IsSum-alike p old (term_of dots (coefficient % p) ∷ []) (term_of dots coefficient ∷ []) new is
+    IsSum-alike p old (dotted_term dots (coefficient % p) ∷ []) (dotted_term dots coefficient ∷ []) new is
     (λ other. ap (λ z. z % p) (single (nat_eq dots other) (coefficient % p)) ∙ test (nat_eq dots other)
     ∙ ap (λ z. z % p) (sym (single (nat_eq dots other) coefficient)))
     (λ limit below. below)
@@ -133,14 +133,14 @@ both-counted false a b = refl
 
 -- a term is taken out, since it becomes 0
 pub IsSum-remove : (p : ℕ) (terms : List Term) (place value : ℕ) → 0 < p → place < length terms
-    → ((get_or terms place (term_of 0 0)).coefficient + value) % p ≡ 0
-    → IsSum p terms (term_of (get_or terms place (term_of 0 0)).dots value ∷ []) (remove terms place)
+    → ((get_or terms place (dotted_term 0 0)).coefficient + value) % p ≡ 0
+    → IsSum p terms (dotted_term (get_or terms place (dotted_term 0 0)).dots value ∷ []) (remove terms place)
 IsSum-remove p terms place value positive within none =
-    let there = get_or terms place (term_of 0 0) in
-    let added = term_of there.dots value in
+    let there = get_or terms place (dotted_term 0 0) in
+    let added = dotted_term there.dots value in
     record {
       coefficients = changed p terms (remove terms place) there added (λ dots. 0)
-          (λ dots. sum_by-remove (counted dots) terms place (term_of 0 0) within ∙ plus_zero (coefficient_in terms dots))
+          (λ dots. sum_by-remove (counted dots) terms place (dotted_term 0 0) within ∙ plus_zero (coefficient_in terms dots))
           (λ dots.
           let test = nat_eq there.dots dots in
           zeros test
@@ -161,15 +161,15 @@ IsSum-remove p terms place value positive within none =
 
 -- or its coefficient changes
 pub IsSum-set : (p : ℕ) (terms : List Term) (place value : ℕ) → 0 < p → place < length terms
-    → IsSum p terms (term_of (get_or terms place (term_of 0 0)).dots value ∷ [])
-    (set terms place (term_of (get_or terms place (term_of 0 0)).dots (((get_or terms place (term_of 0 0)).coefficient + value) % p)))
+    → IsSum p terms (dotted_term (get_or terms place (dotted_term 0 0)).dots value ∷ [])
+    (set terms place (dotted_term (get_or terms place (dotted_term 0 0)).dots (((get_or terms place (dotted_term 0 0)).coefficient + value) % p)))
 IsSum-set p terms place value positive within =
-    let there = get_or terms place (term_of 0 0) in
-    let added = term_of there.dots value in
-    let made = term_of there.dots ((there.coefficient + value) % p) in
+    let there = get_or terms place (dotted_term 0 0) in
+    let added = dotted_term there.dots value in
+    let made = dotted_term there.dots ((there.coefficient + value) % p) in
     record {
       coefficients = changed p terms (set terms place made) there added (λ dots. counted dots made)
-          (λ dots. sum_by-set (counted dots) terms place made (term_of 0 0) within)
+          (λ dots. sum_by-set (counted dots) terms place made (dotted_term 0 0) within)
           (λ dots.
           let test = nat_eq there.dots dots in
           sums-alike p ((there.coefficient + value) % p) (there.coefficient + value) test (mod-mod (there.coefficient + value) p)
@@ -188,44 +188,44 @@ AreReduced-remove p terms place within is = record {
   some = All-remove (λ term. 0 < term.coefficient) terms place is.some;
   below = All-remove (λ term. term.coefficient < p) terms place is.below;
   once = λ dots.
-      let e = sum_by-remove (λ term. one_if (has_dots dots term)) terms place (term_of 0 0) within in
+      let e = sum_by-remove (λ term. one_if (has_dots dots term)) terms place (dotted_term 0 0) within in
       omega (arith, e, is.once dots);
 }
 
 pub AreReduced-set : (p : ℕ) (terms : List Term) (place coefficient : ℕ) → place < length terms → 0 < coefficient → coefficient < p
-    → AreReduced p terms → AreReduced p (set terms place (term_of (get_or terms place (term_of 0 0)).dots coefficient))
+    → AreReduced p terms → AreReduced p (set terms place (dotted_term (get_or terms place (dotted_term 0 0)).dots coefficient))
 AreReduced-set p terms place coefficient within some below is =
-    let made = term_of (get_or terms place (term_of 0 0)).dots coefficient in
+    let made = dotted_term (get_or terms place (dotted_term 0 0)).dots coefficient in
     record {
       some = All-set (λ term. 0 < term.coefficient) terms place made some is.some;
       below = All-set (λ term. term.coefficient < p) terms place made below is.below;
       once = λ dots.
-          let e = sum_by-set (λ term. one_if (has_dots dots term)) terms place made (term_of 0 0) within in
+          let e = sum_by-set (λ term. one_if (has_dots dots term)) terms place made (dotted_term 0 0) within in
           omega (arith, e, is.once dots);
     }
 
 -- as code has it
 pub removed_at : (p : ℕ) (terms new : List Term) (place value coefficient : ℕ) → 1 < p → place < length terms
-    → coefficient ≡ ((get_or terms place (term_of 0 0)).coefficient + value) % p → coefficient ≡ 0 → new ≡ remove terms place
-    → IsSum p terms (term_of (get_or terms place (term_of 0 0)).dots value ∷ []) new
+    → coefficient ≡ ((get_or terms place (dotted_term 0 0)).coefficient + value) % p → coefficient ≡ 0 → new ≡ remove terms place
+    → IsSum p terms (dotted_term (get_or terms place (dotted_term 0 0)).dots value ∷ []) new
 removed_at p terms new place value coefficient above within is none made =
-    subst (λ xs. IsSum p terms (term_of (get_or terms place (term_of 0 0)).dots value ∷ []) xs) (sym made)
+    subst (λ xs. IsSum p terms (dotted_term (get_or terms place (dotted_term 0 0)).dots value ∷ []) xs) (sym made)
     (IsSum-remove p terms place value (omega (arith, above)) within (sym is ∙ none))
 
 pub set_at : (p : ℕ) (terms new : List Term) (place value coefficient dots : ℕ) → 1 < p → place < length terms
-    → coefficient ≡ ((get_or terms place (term_of 0 0)).coefficient + value) % p
-    → dots ≡ (get_or terms place (term_of 0 0)).dots → new ≡ set terms place (term_of dots coefficient)
-    → IsSum p terms (term_of (get_or terms place (term_of 0 0)).dots value ∷ []) new
+    → coefficient ≡ ((get_or terms place (dotted_term 0 0)).coefficient + value) % p
+    → dots ≡ (get_or terms place (dotted_term 0 0)).dots → new ≡ set terms place (dotted_term dots coefficient)
+    → IsSum p terms (dotted_term (get_or terms place (dotted_term 0 0)).dots value ∷ []) new
 set_at p terms new place value coefficient dots above within is at made =
-    subst (λ xs. IsSum p terms (term_of (get_or terms place (term_of 0 0)).dots value ∷ []) xs)
-    (sym (made ∙ ap₂ (λ d x. set terms place (term_of d x)) at is))
+    subst (λ xs. IsSum p terms (dotted_term (get_or terms place (dotted_term 0 0)).dots value ∷ []) xs)
+    (sym (made ∙ ap₂ (λ d x. set terms place (dotted_term d x)) at is))
     (IsSum-set p terms place value (omega (arith, above)) within)
 
 pub reduced_set_at : (p : ℕ) (terms new : List Term) (place coefficient dots : ℕ) → place < length terms → coefficient ≢ 0
-    → coefficient < p → dots ≡ (get_or terms place (term_of 0 0)).dots → new ≡ set terms place (term_of dots coefficient)
+    → coefficient < p → dots ≡ (get_or terms place (dotted_term 0 0)).dots → new ≡ set terms place (dotted_term dots coefficient)
     → AreReduced p terms → AreReduced p new
 reduced_set_at p terms new place coefficient dots within some below at made is =
-    subst (λ xs. AreReduced p xs) (sym (made ∙ ap (λ d. set terms place (term_of d coefficient)) at))
+    subst (λ xs. AreReduced p xs) (sym (made ∙ ap (λ d. set terms place (dotted_term d coefficient)) at))
     (AreReduced-set p terms place coefficient within (omega (arith, some)) below is)
 
 all-fail : (p : Term → Bool) (xs : List Term) → length xs ≤ position_or_len p xs → count_by p xs ≡ 0
@@ -244,10 +244,10 @@ none-counted p xs is = all-fail p xs (past is)
     past none = grind (arith, nat_tests)
 
 pub AreReduced-push : (p : ℕ) (terms : List Term) (dots coefficient : ℕ) → position (has_dots dots) terms ≡ None → 0 < coefficient
-    → coefficient < p → AreReduced p terms → AreReduced p (terms ++ term_of dots coefficient ∷ [])
+    → coefficient < p → AreReduced p terms → AreReduced p (terms ++ dotted_term dots coefficient ∷ [])
 AreReduced-push p terms dots coefficient none some below is = record {
-  some = All-push (λ term. 0 < term.coefficient) terms (term_of dots coefficient) is.some some;
-  below = All-push (λ term. term.coefficient < p) terms (term_of dots coefficient) is.below below;
+  some = All-push (λ term. 0 < term.coefficient) terms (dotted_term dots coefficient) is.some some;
+  below = All-push (λ term. term.coefficient < p) terms (dotted_term dots coefficient) is.below below;
   once = λ other. once other;
 }
   where
@@ -258,25 +258,25 @@ AreReduced-push p terms dots coefficient none some below is = record {
     apart-test : (x y : ℕ) → x ≢ y → nat_eq x y ≡ false
     apart-test x y apart = grind (arith, nat_tests)
 
-    once : (other : ℕ) → count_by (has_dots other) (terms ++ term_of dots coefficient ∷ []) ≤ 1
+    once : (other : ℕ) → count_by (has_dots other) (terms ++ dotted_term dots coefficient ∷ []) ≤ 1
     once other =
-        let e = sum_by_push (λ term. one_if (has_dots other term)) terms (term_of dots coefficient) in
+        let e = sum_by_push (λ term. one_if (has_dots other term)) terms (dotted_term dots coefficient) in
         elim (cases_eq dots other) [
           | inl same ↦ omega (arith, e, none-counted (has_dots other) terms (subst (λ d. position (has_dots d) terms ≡ None) same none), most (nat_eq dots other))
           | inr apart ↦ omega (arith, e, is.once other, ap one_if (apart-test dots other apart))
         ]
 
 pub pushed_reduced : (p : ℕ) (terms new : List Term) (dots coefficient : ℕ) → position (has_dots dots) terms ≡ None → coefficient ≢ 0
-    → coefficient < p → new ≡ terms ++ term_of dots coefficient ∷ [] → AreReduced p terms → AreReduced p new
+    → coefficient < p → new ≡ terms ++ dotted_term dots coefficient ∷ [] → AreReduced p terms → AreReduced p new
 pushed_reduced p terms new dots coefficient none some below made is =
     subst (λ xs. AreReduced p xs) (sym made) (AreReduced-push p terms dots coefficient none (omega (arith, some)) below is)
 
 -- the term at the first place that has these dots has them
 pub found_dots : (p : ℕ) (terms new : List Term) (dots place value : ℕ) → position (has_dots dots) terms ≡ Some place
-    → IsSum p terms (term_of (get_or terms place (term_of 0 0)).dots value ∷ []) new → IsSum p terms (term_of dots value ∷ []) new
+    → IsSum p terms (dotted_term (get_or terms place (dotted_term 0 0)).dots value ∷ []) new → IsSum p terms (dotted_term dots value ∷ []) new
 found_dots p terms new dots place value found is =
-    let has = (position-Some (has_dots dots) terms place (term_of 0 0) found).1 in
-    subst (λ d. IsSum p terms (term_of d value ∷ []) new) (eqb-true (get_or terms place (term_of 0 0)).dots dots has) is
+    let has = (position-Some (has_dots dots) terms place (dotted_term 0 0) found).1 in
+    subst (λ d. IsSum p terms (dotted_term d value ∷ []) new) (eqb-true (get_or terms place (dotted_term 0 0)).dots dots has) is
 
 -- multiples of sums
 
@@ -300,28 +300,28 @@ scaled-append : (factor : ℕ) (xs ys : List Term) → scaled factor (xs ++ ys) 
 scaled-append factor xs ys = map-append (with_multiple factor) xs ys
 
 pub multiple_added : (p factor coefficient element dots : ℕ) (old new : List Term) → element ≡ coefficient
-    → IsSum p old (term_of dots (factor * element % p) ∷ []) new → IsSum p old (term_of dots (factor * coefficient) ∷ []) new
+    → IsSum p old (dotted_term dots (factor * element % p) ∷ []) new → IsSum p old (dotted_term dots (factor * coefficient) ∷ []) new
 multiple_added p factor coefficient element dots old new same is =
     IsSum-reduced p dots (factor * coefficient) old new
-    (subst (λ e. IsSum p old (term_of dots (factor * e % p) ∷ []) new) same is)
+    (subst (λ e. IsSum p old (dotted_term dots (factor * e % p) ∷ []) new) same is)
 
 pub multiples_more : (p factor k : ℕ) (old terms new more : List Term) → k < length more
-    → IsSum p old (scaled factor (take k more)) terms → IsSum p terms (scaled factor (get_or more k (term_of 0 0) ∷ [])) new
+    → IsSum p old (scaled factor (take k more)) terms → IsSum p terms (scaled factor (get_or more k (dotted_term 0 0) ∷ [])) new
     → IsSum p old (scaled factor (take (k + 1) more)) new
 multiples_more p factor k old terms new more within first second =
-    let term = get_or more k (term_of 0 0) in
+    let term = get_or more k (dotted_term 0 0) in
     subst (λ xs. IsSum p old xs new)
-    (sym (ap (scaled factor) (take_more more k (term_of 0 0) within) ∙ scaled-append factor (take k more) (term ∷ [])))
+    (sym (ap (scaled factor) (take_more more k (dotted_term 0 0) within) ∙ scaled-append factor (take k more) (term ∷ [])))
     (IsSum-chained p old (scaled factor (take k more)) terms (scaled factor (term ∷ [])) new first second)
 
 -- sums of what terms make, one term more
 pub made_more : (p factor k : ℕ) (make : Term → List Term) (old terms new more : List Term) → k < length more
-    → IsSum p old (scaled factor (flat_map make (take k more))) terms → IsSum p terms (scaled factor (make (get_or more k (term_of 0 0)))) new
+    → IsSum p old (scaled factor (flat_map make (take k more))) terms → IsSum p terms (scaled factor (make (get_or more k (dotted_term 0 0)))) new
     → IsSum p old (scaled factor (flat_map make (take (k + 1) more))) new
 made_more p factor k make old terms new more within first second =
-    let term = get_or more k (term_of 0 0) in
+    let term = get_or more k (dotted_term 0 0) in
     subst (λ xs. IsSum p old xs new)
-    (sym (ap (λ xs. scaled factor (flat_map make xs)) (take_more more k (term_of 0 0) within)
+    (sym (ap (λ xs. scaled factor (flat_map make xs)) (take_more more k (dotted_term 0 0) within)
     ∙ ap (scaled factor) (flat_map-append make (take k more) (term ∷ [])
     ∙ ap (λ (xs : List Term). flat_map make (take k more) ++ xs) (append-nil (make term)))
     ∙ scaled-append factor (flat_map make (take k more)) (make term)))

@@ -1,6 +1,6 @@
 -- What a composition needs of the three pairings of a way.
 use Rattle.std.proofs.Common.{◌≡◌, ℕ, ◌≤◌, List, length, subst, sym}
-use Rattle.dotted_surfaces.specs.Points.{ArePlaced, AreAmong, IsPairing}
+use Rattle.dotted_surfaces.specs.Points.{ArePlaced, AreAmong, IsOpenPairing}
 use Rattle.dotted_maps.proofs.Listed.{AreListed}
 use Rattle.tangle_maps.specs.declared.pairing.TheConstants.{POINTS}
 use Rattle.tangle_maps.specs.declared.way.Way.{Way}
@@ -26,7 +26,7 @@ way-facts way is =
       room = subst (λ xs. length xs ≤ POINTS) (sym is.source) (paired-room partners);
       listed = record {
         placed = subst (λ xs. ArePlaced (opened_points xs)) (sym is.source) (paired-placed partners);
-        pairing = subst (λ xs. IsPairing (opened_points xs) (joins_of partners xs)) (sym is.source)
+        pairing = subst (λ xs. IsOpenPairing (opened_points xs) (joins_of partners xs)) (sym is.source)
             (paired partners way.from.now.paired);
         first = among way.opened.now partners way.from.now.paired is.source;
         second = among way.opened.now way.over.now.partners way.over.now.paired is.middle;

@@ -6,7 +6,7 @@ use Rattle.dotted_surfaces.specs.Points.{Points, discs}
 use Rattle.dotted_maps.specs.Parts.{components, component_in, genus_in, product_over}
 use Rattle.dotted_maps.specs.Choices.{choices}
 use Rattle.dotted_maps.specs.declared.term.Term.{Term}
-use Rattle.tangle_maps.specs.Sums.{term_with}
+use Rattle.tangle_maps.specs.Sums.{dotted_times}
 use Rattle.tangle_maps.specs.declared.pairing.TheConstants.{POINTS}
 use Rattle.tangle_maps.specs.Pairings.{IsOpened}
 use Rattle.tangle_maps.specs.declared.seam.Seam.{Seam}
@@ -42,7 +42,7 @@ factor_by seam dots others component = factor_for (load_by seam dots others comp
 -- the composition of two terms, and of two maps, over a seam
 abbrev pub seam_terms : Seam → Term → Term → List Term
 seam_terms seam term other =
-    map (term_with
+    map (dotted_times
     (term.coefficient * other.coefficient * product_over (factor_by seam term.dots other.dots) seam.components.items))
     (choices seam.components.items seam.whole.items (left_by seam term.dots other.dots))
 

@@ -6,12 +6,12 @@ use Rattle.dotted_maps.specs.declared.term.Term.{Term}
 use Rattle.dotted_maps.specs.Maps.{coefficient_in}
 
 -- the term with these dots and this coefficient
-abbrev pub term_of : ℕ → ℕ → Term
-term_of dots coefficient = record { dots = dots; coefficient = coefficient }
+abbrev pub dotted_term : ℕ → ℕ → Term
+dotted_term dots coefficient = record { dots = dots; coefficient = coefficient }
 
 -- the same, for lists of dots that have one coefficient
-abbrev pub term_with : ℕ → ℕ → Term
-term_with coefficient dots = term_of dots coefficient
+abbrev pub dotted_times : ℕ → ℕ → Term
+dotted_times coefficient dots = dotted_term dots coefficient
 
 -- whether a term has these dots
 abbrev pub has_dots : ℕ → Term → Bool

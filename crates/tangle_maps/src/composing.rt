@@ -138,7 +138,7 @@ fn product<F: PrimeField>(term: &Term, other: &Term, factor: F) -> F
     factor.mul(F::of(term.coefficient).mul(F::of(other.coefficient)))
 }
 
-/// Adds a multiple of the composition of a term, and each term of a map behind it, to a sum.
+/// Adds a multiple of the composition of a term, and each term of a map after it, to a sum.
 fn add_behind<F: PrimeField>(
     terms: &mut Terms,
     seam: &Seam,

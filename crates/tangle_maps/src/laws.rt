@@ -6,18 +6,18 @@ ghost use Rattle.kh_types.specs.Residues.{Same};
 ghost use Rattle.dotted_maps.specs.Choices.{listed};
 ghost use Rattle.dotted_maps.specs.Composition.{composed};
 ghost use Rattle.dotted_maps.specs.Maps.{AreDotted, AreOneMap, coefficient_in, identity, matrix_of, scaled};
-ghost use Rattle.dotted_surfaces.specs.Points.{Points, ArePlaced, AreAmong, IsPairing, circles, inner, least_points};
+ghost use Rattle.dotted_surfaces.specs.Points.{Points, ArePlaced, AreAmong, IsOpenPairing, circles, inner, least_points};
 ghost use Rattle.std.specs.List.{AllByRecursion};
 ghost use Rattle.kh_types.specs.Classes.{AreBelow, classes_of};
 ghost use Rattle.dotted_maps.specs.Terms.{AreGlued};
 ghost use Rattle.dotted_maps.specs.declared.term.Term.{Term};
 ghost use Rattle.tangle_maps.specs.Pairings.{ArePartners, joins_of, numbered, opened_points, paired_arcs};
-ghost use Rattle.tangle_maps.specs.Sums.{AreReduced, IsSum, number_in, term_of};
+ghost use Rattle.tangle_maps.specs.Sums.{AreReduced, IsSum, number_in, dotted_term};
 
 /// Partners pair the arcs that have another arc for a partner.
 pub fn partners_pair_arcs()
     ensures pairing { (partners : List ℕ) → ArePartners partners
-        → IsPairing (opened_points (paired_arcs partners))
+        → IsOpenPairing (opened_points (paired_arcs partners))
         (joins_of partners (paired_arcs partners)) }
     ensures among { (partners : List ℕ) → ArePartners partners
         → AreAmong (paired_arcs partners) (joins_of partners (paired_arcs partners)) }
@@ -37,13 +37,13 @@ pub fn reduced_sums_tell_numbers()
         → terms ≡ scaled number identity }
 {}
 
-/// A number times the identity of a pairing, and a map behind it, compose to that map times the
+/// A number times the identity of a pairing, and a map after it, compose to that map times the
 /// number.
 pub fn multiples_of_the_identity_scale()
     ensures { (points : Points) (m o : List (ℕ × ℕ)) (number : ℕ) (second : List Term)
-        → ArePlaced points → IsPairing points m → AreAmong points.opened m
+        → ArePlaced points → IsOpenPairing points m → AreAmong points.opened m
         → AreAmong points.opened o → AreDotted points m o second
-        → listed points m m o (term_of 0 number ∷ []) second ≡ scaled number second }
+        → listed points m m o (dotted_term 0 number ∷ []) second ≡ scaled number second }
 {}
 
 /// A sum with more added to it is one map with the two lists together. So what a cancellation makes
@@ -54,7 +54,7 @@ pub fn sums_are_maps()
         → AreOneMap p points m n sum (terms ++ more) }
     ensures matrix { (p : ℕ) (points : Points) (m n o w : List (ℕ × ℕ))
         (first second old sum : List Term) (factor row column : ℕ) → ArePlaced points
-        → IsPairing points m → AreGlued points m n w → AreGlued points n o w → AreGlued points m o w
+        → IsOpenPairing points m → AreGlued points m n w → AreGlued points n o w → AreGlued points m o w
         → AreGlued (inner points) m o n → AreDotted points m o old
         → IsSum p old (scaled factor (listed points m n o first second)) sum
         → matrix_of p points m o w sum row column
@@ -72,7 +72,7 @@ pub fn sizes_do_not_matter()
         → AllByRecursion (λ x. x < n) points → AreBelow n joins
         → least_points k points joins ≡ least_points n points joins }
     ensures composed { (n k : ℕ) (opened : List ℕ) (m c o : List (ℕ × ℕ)) (dots others kept : ℕ)
-        → n ≤ k → ArePlaced (numbered n opened) → IsPairing (numbered n opened) m
+        → n ≤ k → ArePlaced (numbered n opened) → IsOpenPairing (numbered n opened) m
         → AreAmong opened m → AreAmong opened c → AreAmong opened o
         → composed (numbered k opened) m c o dots others kept
         ≡ composed (numbered n opened) m c o dots others kept }
@@ -87,7 +87,7 @@ pub fn sizes_above_arcs_do_not_matter()
         → AllByRecursion (λ x. x < l) points → AreBelow l joins
         → least_points k points joins ≡ least_points n points joins }
     ensures composed { (l n k : ℕ) (opened : List ℕ) (m c o : List (ℕ × ℕ)) (dots others kept : ℕ)
-        → l ≤ n → l ≤ k → ArePlaced (numbered l opened) → IsPairing (numbered l opened) m
+        → l ≤ n → l ≤ k → ArePlaced (numbered l opened) → IsOpenPairing (numbered l opened) m
         → AreAmong opened m → AreAmong opened c → AreAmong opened o
         → composed (numbered k opened) m c o dots others kept
         ≡ composed (numbered n opened) m c o dots others kept }

@@ -4,7 +4,7 @@ ghost use Rattle.std.specs.Prelude.{◌≡◌, ◌<◌, [], ◌∷◌, OnErr, On
 ghost use Rattle.std.specs.List.{position};
 ghost use Rattle.prime_field.specs.Residues.{sum_mod};
 ghost use Rattle.dotted_maps.specs.Maps.{scaled};
-ghost use Rattle.tangle_maps.specs.Sums.{AreReduced, IsSum, has_dots, number_in, term_of};
+ghost use Rattle.tangle_maps.specs.Sums.{AreReduced, IsSum, has_dots, number_in, dotted_term};
 
 use dotted_maps::term::Term;
 use kh_types::NoMemory;
@@ -23,7 +23,7 @@ pub fn add_term<F: PrimeField>(terms: &mut Terms, dots: u64, value: F) -> Result
     requires { AreReduced F.P terms.old.items }
     ensures kept { OnErr result (terms.new.items ≡ terms.old.items) }
     ensures sum { OnOk result
-        (IsSum F.P terms.old.items (term_of dots (F.value_of value) ∷ []) terms.new.items) }
+        (IsSum F.P terms.old.items (dotted_term dots (F.value_of value) ∷ []) terms.new.items) }
     ensures reduced { AreReduced F.P terms.new.items }
 {
     element_laws::<F>();
@@ -50,7 +50,7 @@ fn add_at<F: PrimeField>(terms: &mut Terms, place: usize, value: F)
     requires place { place < length terms.old.items }
     requires reduced { AreReduced F.P terms.old.items }
     ensures sum { IsSum F.P terms.old.items
-        (term_of (get_or terms.old.items place (term_of 0 0)).dots (F.value_of value) ∷ [])
+        (dotted_term (get_or terms.old.items place (dotted_term 0 0)).dots (F.value_of value) ∷ [])
         terms.new.items }
     ensures reduced { AreReduced F.P terms.new.items }
 {
@@ -67,9 +67,9 @@ fn add_at<F: PrimeField>(terms: &mut Terms, place: usize, value: F)
 /// The coefficient at a place, with an element added to it.
 fn sum_at<F: PrimeField>(terms: &[Term], place: usize, value: F) -> u8
     requires place { place < length terms.now }
-    requires below { (get_or terms.now place (term_of 0 0)).coefficient < F.P }
+    requires below { (get_or terms.now place (dotted_term 0 0)).coefficient < F.P }
     ensures sum { result
-        ≡ sum_mod F.P (get_or terms.now place (term_of 0 0)).coefficient (F.value_of value) }
+        ≡ sum_mod F.P (get_or terms.now place (dotted_term 0 0)).coefficient (F.value_of value) }
     ensures below { result < F.P }
 {
     F::of(terms[place].coefficient).add(value).value()

@@ -16,7 +16,7 @@ use std::test::Fail;
 
 type Pairs = &'static [(u8, u8)];
 
-/// Pairs of three pairings; the dots of a map from the first to the second, behind which one
+/// Pairs of three pairings; the dots of a map from the first to the second, after which one
 /// without dots leads to the third; the terms of the composition over three elements, by dots and
 /// coefficient, and those of its negative.
 struct Row {
@@ -55,7 +55,7 @@ const ROWS: &[Row] = &[
         whole: &[(3, 1)],
         negative: &[(3, 2)],
     },
-    // The identity behind a dotted sheet.
+    // The identity after a dotted sheet.
     Row {
         pairs: [ACROSS, ACROSS, ACROSS],
         dots: 2,

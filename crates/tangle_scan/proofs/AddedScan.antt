@@ -1,4 +1,4 @@
--- What is made is a complex behind one crossing more, and its scan comes from the old one by adding the crossing.
+-- What is made is a complex after one crossing more, and its scan comes from the old one by adding the crossing.
 -- All new objects are alive, so their numbers are the places from 0 on, and the origin of each stands at its place in the list of all
 -- origins. What has been shown of one column then holds of the column at each place.
 use Rattle.std.proofs.Common.{◌≡◌, ℕ, ◌+◌, ◌^◌, ◌<◌, ◌≤◌, ◌*◌, ◌∙◌, pos, ◌+ℤ◌, ◌≤ℤ◌, List, [], get_or, length, map, refl, sym, subst, ap, ap₂, arith, Bool, true, false}

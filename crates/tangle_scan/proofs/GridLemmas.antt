@@ -1,5 +1,5 @@
 -- Where a grid has two degrees, and what is added there.
-use Rattle.std.proofs.Common.{◌≡◌, ℕ, suc, inl, inr, ◌+◌, ◌-◌, ◌*◌, ◌/◌, ◌%◌, ◌<◌, ◌≤◌, ◌^◌, ◌∙◌, List, [], ◌∷◌, ◌++◌, ℤ, pos, negsuc, ◌+ℤ◌, length, map, refl, subst, sym, ap, ap₂, arith, Bool, true, false, cond, ◌&&◌}
+use Rattle.std.proofs.Common.{◌≡◌, ℕ, suc, inl, inr, ◌+◌, ◌-◌, ◌*◌, ◌/◌, ◌%◌, ◌<◌, ◌≤◌, ◌^◌, ◌∙◌, List, ℤ, pos, negsuc, ◌+ℤ◌, length, refl, subst, sym, ap, ap₂, arith, Bool, true, false, cond, ◌&&◌}
 use Rattle.std.specs.Prelude.{nat_le, slice_index, slice_set}
 use Rattle.std.specs.Int.RustNames.{unsigned_abs}
 use Rattle.std.specs.List.{filter, flat_map}

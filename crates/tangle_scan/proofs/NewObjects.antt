@@ -1,6 +1,6 @@
 -- The new objects are those of their origins, and small.
 -- An object in memory is one of the scan by its pairs, degree and shift. What `split_at` says of its pairing is what the theorem calls the
--- pairing behind and the closed circles; a closed circle changes the shift by one, and there are two at most. The objects at one place more
+-- pairing after it and the closed circles; a closed circle changes the shift by one, and there are two at most. The objects at one place more
 -- are those so far and, if the object there is alive, its copies with either smoothing.
 use Rattle.std.proofs.Common.{◌≡◌, ℕ, zero, suc, ◌+◌, ◌*◌, ◌^◌, ◌<◌, ◌≤◌, ◌∙◌, ℤ, pos, ◌+ℤ◌, ◌≤ℤ◌, List, [], ◌∷◌, ◌++◌, get_or, length, map, refl, sym, subst, ap, ap₂, arith, true, false}
 use Rattle.std.specs.Prelude.{Option, None, Some}
@@ -14,7 +14,7 @@ use Rattle.kh_types.proofs.BitLemmas.{ones-more}
 use Rattle.kh_types.proofs.Ranges.{range_more}
 use Rattle.added_crossings.specs.Codes.{closed_at, pairing_behind, points_at}
 use Rattle.added_crossings.proofs.Labels.{bit-below}
-use Rattle.added_crossings.specs.Pairings.{IsPaired}
+use Rattle.added_crossings.specs.Pairings.{IsPairingOf}
 use Rattle.tangle_maps.specs.Pairings.{joins_of, paired_arcs}
 use Rattle.crossing_maps.specs.Sides.{IsSiteAt, IsSplit}
 use Rattle.crossing_maps.specs.Sites.{IsPlace}
@@ -102,13 +102,13 @@ module _ (adding : Adding) where
   pub split-made : (place smoothing : ℕ) (old : Object) (split : Split) → IsReady adding → place < length (objects_in adding)
       → get_or (objects_in adding) place old ≡ old
       → ((code : Code) (k : ℕ) → IsPlace code k → IsSiteAt code k adding.site
-      → IsPaired (points_at code k).opened (joins_of old.pairing.partners adding.site.opened.now)
+      → IsPairingOf (points_at code k).opened (joins_of old.pairing.partners adding.site.opened.now)
       → joins_of split.pairing.partners next ≡ pairing_behind code k smoothing (joins_of old.pairing.partners adding.site.opened.now))
       → ((code : Code) (k : ℕ) → IsPlace code k → IsSiteAt code k adding.site
-      → IsPaired (points_at code k).opened (joins_of old.pairing.partners adding.site.opened.now)
+      → IsPairingOf (points_at code k).opened (joins_of old.pairing.partners adding.site.opened.now)
       → next ≡ paired_arcs split.pairing.partners)
       → ((code : Code) (k : ℕ) → IsPlace code k → IsSiteAt code k adding.site
-      → IsPaired (points_at code k).opened (joins_of old.pairing.partners adding.site.opened.now)
+      → IsPairingOf (points_at code k).opened (joins_of old.pairing.partners adding.site.opened.now)
       → split.closed.items ≡ closed_at code k smoothing (joins_of old.pairing.partners adding.site.opened.now))
       → IsSplitAt adding place smoothing split
   split-made place smoothing old split ready within is pairs arcs closed =
@@ -116,8 +116,8 @@ module _ (adding : Adding) where
       let k = done_in adding in
       let small = small-at k opened (objects_in adding) place old ready.objects within is in
       let m = joins_of old.pairing.partners adding.site.opened.now in
-      let paired : IsPaired (points_at code k).opened m =
-      subst (λ (xs : List ℕ). IsPaired xs m) ready.site.before
+      let paired : IsPairingOf (points_at code k).opened m =
+      subst (λ (xs : List ℕ). IsPairingOf xs m) ready.site.before
       (partners-paired old.pairing.partners adding.site.opened.now (ready.opened ∙ small.pairs) old.pairing.paired) in
       let same : m ≡ pairs_of (scan_in adding) place =
       ap (λ (xs : List ℕ). joins_of old.pairing.partners xs) ready.opened

@@ -11,7 +11,7 @@ use Rattle.kh_types.specs.Rank.{inverse}
 use Rattle.kh_types.specs.Residues.{Same}
 use Rattle.kh_types.proofs.DartPairs.{IsDart-at}
 use Rattle.kh_types.proofs.ListSums.{sum_by-alike, sum_by-none}
-use Rattle.dotted_surfaces.specs.Points.{AreAmong, ArePlaced, IsPairing, discs, least_points}
+use Rattle.dotted_surfaces.specs.Points.{AreAmong, ArePlaced, IsOpenPairing, discs, least_points}
 use Rattle.dotted_maps.specs.Composition.{composed}
 use Rattle.dotted_maps.specs.Maps.{AreDotted, coefficient_in, composed_in}
 use Rattle.dotted_maps.specs.declared.term.Term.{Term}
@@ -54,7 +54,7 @@ open-below code k twice within =
 -- pairs of open arcs, by partners
 pub record ArePairs (opened partners : List ℕ) : Type 0 where
   pub among : AreAmong opened (joins_of partners opened)
-  pub pairing : IsPairing (opened_points opened) (joins_of partners opened)
+  pub pairing : IsOpenPairing (opened_points opened) (joins_of partners opened)
 
 pairs-of : (opened partners : List ℕ) → ArePartners partners → opened ≡ paired_arcs partners → ArePairs opened partners
 pairs-of opened partners are is =
@@ -94,17 +94,17 @@ module _ (code : Code) (k : ℕ) (opened : List ℕ) (is : IsOpenAt code k opene
       ∙ ap (λ (xs : List ℕ). least_points size xs (m ++ o)) is.open_arcs
 
   composed-open : (m c o : List (ℕ × ℕ)) (dots others kept : ℕ) → AreAmong opened m → AreAmong opened c → AreAmong opened o
-      → IsPairing (opened_points opened) m
+      → IsOpenPairing (opened_points opened) m
       → composed (opened_points opened) m c o dots others kept ≡ composed (points_at code k) m c o dots others kept
   composed-open m c o dots others kept first second third pairing =
       let placed : ArePlaced (numbered few opened) = record { alive = below; opened = all-themselves opened } in
-      let pairs : IsPairing (numbered few opened) m = record { ends = pairing.ends; once = pairing.once } in
+      let pairs : IsOpenPairing (numbered few opened) m = record { ends = pairing.ends; once = pairing.once } in
       composed-size few POINTS opened m c o dots others kept is.fits placed pairs first second third
       ∙ sym (composed-size few size opened m c o dots others kept small placed pairs first second third)
       ∙ ap (λ (xs : List ℕ). composed (numbered size xs) m c o dots others kept) is.open_arcs
 
   composed_in-open : (m c o : List (ℕ × ℕ)) (first second : List Term) (kept : ℕ) → AreAmong opened m → AreAmong opened c
-      → AreAmong opened o → IsPairing (opened_points opened) m
+      → AreAmong opened o → IsOpenPairing (opened_points opened) m
       → composed_in (opened_points opened) m c o first second kept ≡ composed_in (points_at code k) m c o first second kept
   composed_in-open m c o first second kept m_among c_among o_among pairing =
       let wide = composed (opened_points opened) m c o in

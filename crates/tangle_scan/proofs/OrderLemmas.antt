@@ -4,7 +4,7 @@ use Rattle.std.specs.List.{remove}
 use Rattle.std.proofs.lemmas.List.{take-append-drop}
 use Rattle.cell_complexes.specs.Cubes.{IsReordered}
 
--- with those that are left behind them, in any order, the ones that have been taken are all, in another order
+-- with those that are still to come after them, in any order, the ones that have been taken are all, in another order
 pub record IsTaken {A : Type 0} (xs taken left : List A) : Type 0 where
   pub behind : (more : List A) → IsReordered left more → IsReordered xs (taken ++ more)
 

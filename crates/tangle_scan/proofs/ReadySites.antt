@@ -1,4 +1,4 @@
--- The site of the crossing behind a front.
+-- The site of a front's next crossing.
 use Rattle.std.proofs.Common.{◌≡◌, ℕ, ◌+◌, ◌<◌, ◌∙◌, List, [], length, sym, subst, ap₂}
 use Rattle.std.specs.Prelude.{slice_index_or}
 use Rattle.kh_types.specs.Code.{Code}

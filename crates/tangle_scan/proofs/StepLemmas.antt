@@ -1,4 +1,4 @@
--- Steps behind steps, and what a scan in memory keeps through them.
+-- Steps after steps, and what a scan in memory keeps through them.
 use Rattle.std.proofs.Common.{◌≡◌, ℕ, List, [], ◌∷◌, sym, subst}
 use Rattle.kh_types.specs.Code.{Code}
 use Rattle.scan_laws.specs.Adding.{IsAdding}

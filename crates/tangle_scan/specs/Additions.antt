@@ -30,7 +30,7 @@ use Rattle.tangle_scan.specs.declared.front.Front.{Front}
 use Rattle.tangle_scan.specs.declared.object.Object.{Object}
 use Rattle.tangle_scan.specs.Held.{AreObjects, IsComplexAt, IsFront, column_at, is_alive_at, object_of, scan_at}
 
--- a front is another behind one crossing more
+-- a front is another after one crossing more
 pub record IsNextFront (front next : Front) : Type 0 where
   pub there : IsFront next
   pub diagram : next.diagram ≡ front.diagram
@@ -56,7 +56,7 @@ pub record HasArcs (site : Site) : Type 0 where
   pub next : IsArcs POINTS site.next.now
   pub crossing : HasArcsBelow POINTS site.crossing.now
 
--- a crossing is added to objects at a front: its site is that of the crossing behind the front
+-- a crossing is added to objects at a front: its site is that of the front's next crossing
 pub record IsReady (adding : Adding) : Type 0 where
   pub front : IsFront adding.front.now
   pub objects : AreObjects (done_in adding) adding.front.now.opened.items (objects_in adding)

@@ -59,7 +59,7 @@ column_at complex x = slice_index_or (map (λ column. column.items) complex.colu
 abbrev pub terms_between : TangleComplex → ℕ → ℕ → List Term
 terms_between complex x y = terms_to (column_at complex x) y
 
--- the scan of the theorem that a complex is behind so many crossings, where these arcs are open
+-- the scan of the theorem that a complex is after so many crossings, where these arcs are open
 abbrev pub scan_behind : ℕ → List ℕ → TangleComplex → Scan
 scan_behind done opened complex = record {
   done = done;
@@ -74,7 +74,7 @@ pub record IsColumn (p n : ℕ) (column : List Entry) : Type 0 where
   pub once : (y : ℕ) → count_by (has_head y) column ≤ 1
   pub reduced : All (λ entry. AreReduced p entry.terms.items) column
 
--- the objects behind so many crossings: each pairs the open arcs, and its degree and its shift are small
+-- the objects after so many crossings: each pairs the open arcs, and its degree and its shift are small
 pub record AreObjects (done : ℕ) (opened : List ℕ) (objects : List Object) : Type 0 where
   pub pairs : All (λ object. opened ≡ paired_arcs object.pairing.partners) objects
   pub degrees : All (λ object. object.degree ≤ done) objects
@@ -86,14 +86,14 @@ abbrev pub RaisesDegree : TangleComplex → ℕ → Type 0
 RaisesDegree complex x =
     All (λ entry. degree_at complex.objects.items entry.head ≡ degree_at complex.objects.items x + 1) (column_at complex x)
 
--- a complex in memory behind so many crossings: its objects, a column for each, and maps that raise the degree by one
+-- a complex in memory after so many crossings: its objects, a column for each, and maps that raise the degree by one
 pub record IsComplexBehind (p done : ℕ) (opened : List ℕ) (complex : TangleComplex) : Type 0 where
   pub objects : AreObjects done opened complex.objects.items
   pub size : length complex.columns.items ≡ length complex.objects.items
   pub columns : All (λ column. IsColumn p (length complex.objects.items) column.items) complex.columns.items
   pub raises : (x : ℕ) → x < length complex.objects.items → RaisesDegree complex x
 
--- the arcs that are open behind the first k crossings of a code, each of whose arcs has two ends, and which a program can number
+-- the arcs that are open after the first k crossings of a code, each of whose arcs has two ends, and which a program can number
 pub record IsOpenAt (code : Code) (k : ℕ) (opened : List ℕ) : Type 0 where
   pub twice : HasArcsTwice code.crossings
   pub fits : arc_count code.crossings + 1 ≤ POINTS

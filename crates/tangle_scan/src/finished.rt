@@ -9,8 +9,8 @@ use kh_types::{Diagram, NoMemory};
 use prime_field::PrimeField;
 use std::alloc::Global;
 
-/// The scan of a diagram behind all its crossings, which takes them in their order. What can be
-/// cancelled is cancelled behind each.
+/// The scan of a diagram after all its crossings, which takes them in their order. What can be
+/// cancelled is cancelled after each.
 pub fn finished_scan<F: PrimeField>(alloc: Global, diagram: &Diagram) -> Result<Scan<F>, NoMemory>
     ensures behind { IfOk result (IsBehind diagram.now (length diagram.now.crossings)) }
     ensures finished { IfOk result IsFinished }
@@ -22,7 +22,7 @@ pub fn finished_scan<F: PrimeField>(alloc: Global, diagram: &Diagram) -> Result<
     Ok(scan)
 }
 
-/// The scan behind one crossing more, with what can be cancelled there cancelled.
+/// The scan after one crossing more, with what can be cancelled there cancelled.
 fn with_next<F: PrimeField>(alloc: Global, scan: Scan<F>) -> Result<Scan<F>, NoMemory>
     requires { scan.front.done < length scan.front.diagram.crossings }
     ensures behind { IfOk result (IsBehind scan.front.diagram (scan.front.done + 1)) }

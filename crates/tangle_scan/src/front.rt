@@ -8,7 +8,7 @@ use crossing_maps::site::next_arcs;
 use kh_types::{Crossing, Diagram};
 use tangle_maps::seam::Arcs;
 
-/// A diagram, how many of its crossings are done, in their order, and the arcs that are open behind
+/// A diagram, how many of its crossings are done, in their order, and the arcs that are open after
 /// these, ascending.
 #[derive(Drop)]
 pub struct Front {
@@ -18,7 +18,7 @@ pub struct Front {
 }
 
 impl Front {
-    /// The crossing behind those that are done.
+    /// The crossing that comes after those that are done.
     pub fn crossing(&self) -> &Crossing
         requires { self.now.done < length self.now.diagram.crossings }
         ensures { result.now ≡ slice_index_or self.now.diagram.crossings self.now.done [] }
@@ -26,7 +26,7 @@ impl Front {
         &self.diagram.crossings()[usize::from(self.done)]
     }
 
-    /// The front behind one crossing more.
+    /// The front after one crossing more.
     pub fn next(&self) -> Front
         requires front { IsFront self.now }
         requires more { self.now.done < length self.now.diagram.crossings }

@@ -14,7 +14,7 @@ type Crossings = ArrayVec<Crossing, CROSSINGS>;
 type Ends = [bool; 256];
 
 /// An order of crossings, and how much work it may be: the sum of 2 to the number of arcs that are
-/// open behind each crossing.
+/// open after each crossing.
 #[derive(Drop)]
 struct Order {
     crossings: Crossings,
@@ -90,7 +90,7 @@ fn next_place(crossings: &[Crossing], ends: &Ends) -> usize
     best
 }
 
-/// How many more arcs are open behind a crossing, counted from -4, and, among those with equally
+/// How many more arcs are open after a crossing, counted from -4, and, among those with equally
 /// many, how few of its slots have arcs that were open.
 fn cost(crossing: Crossing, ends: &Ends) -> u32 {
     let [a, b, c, d] = crossing.0;

@@ -1,7 +1,7 @@
 -- Behind the first k crossings of an accepted code, the smoothings of a state lead from arcs that do not end there to arcs that do not
 -- start there.
 --
--- Each arc has a dart of either colour, its end and its start. Cut behind the first k crossings, each of them is inside or outside, and an
+-- Each arc has a dart of either colour, its end and its start. Cut after the first k crossings, each of them is inside or outside, and an
 -- arc with one inside alone is open. A smoothing joins darts of different colours, so at an outer crossing it leads from arcs that end at
 -- the crossing to arcs that start there; all outer smoothings together lead from the arcs that end outside to those that start outside.
 use Rattle.std.proofs.Common.{◌≡◌, ◌≢◌, ℕ, inl, inr, ◌+◌, ◌*◌, ◌/◌, ◌%◌, ◌<◌, ◌≤◌, ◌∙◌, List, drop, refl, sym, ap, ap₂, subst, length, arith, IsTrue, Bool, true, false, not, ◌&&◌, cond, eq-eqb}
@@ -46,7 +46,7 @@ inside-found crossings choice k side name is =
       eqb-true (colour_at choice found.0) side passes.1,
     )
 
--- the arc of a dart behind the first k crossings
+-- the arc of a dart at a crossing still to come after the first k
 pub behind-outside : (crossings : List (List ℕ)) (choice k place : ℕ) → IsColoured crossings choice → k ≤ length crossings
     → 4 * k ≤ place → place < 4 * length crossings
     → is_inside crossings choice k (colour_at choice place) (arc_at crossings place) ≡ false
@@ -92,7 +92,7 @@ step-outside : (crossings : List (List ℕ)) (choice k state side name : ℕ) �
     → outer_step crossings choice k state side name ≡ follower crossings choice state side name
 step-outside crossings choice k state side name is = ap (λ b. cond b name (follower crossings choice state side name)) is
 
--- an arc whose dart of a colour is outside has that dart behind the first k crossings
+-- an arc whose dart of a colour is outside has that dart at a crossing still to come
 record IsBehind (crossings : List (List ℕ)) (choice k side name place : ℕ) : Type 0 where
   from : 4 * k ≤ place
   below : place < 4 * length crossings
@@ -202,7 +202,7 @@ step-back code choice k state side other x cut below from =
           ∙ (AreCycles-circles code choice state side other cut.is cut.coloured cut.sum).back_f x below
     ]
 
--- the smoothings behind join what the steps do
+-- the smoothings of the crossings still to come join what the steps do
 step-joins : (code : Code) (choice k state side other : ℕ) (g : ℕ → ℕ) → IsCut code choice k side other
     → Respects g (outer_smoothings code.crossings state k) → (x : ℕ)
     → g x ≡ g (outer_step code.crossings choice k state side x)

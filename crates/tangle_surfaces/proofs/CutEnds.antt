@@ -1,4 +1,4 @@
--- Before the first crossing and behind the last nothing is open.
+-- Before the first crossing and after the last nothing is open.
 use Rattle.std.proofs.Common.{◌≡◌, ℕ, inl, inr, ◌+◌, ◌-◌, ◌/◌, ◌%◌, ◌<◌, ◌∙◌, List, [], refl, sym, ap, subst, length, arith, Bool, true, false, not, ◌&&◌}
 use Rattle.std.proofs.lemmas.Bool.{cases_Bool}
 use Rattle.kh_types.specs.Bits.{bit}

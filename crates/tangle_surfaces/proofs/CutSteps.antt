@@ -21,7 +21,7 @@ use Rattle.kh_types.proofs.JoinedSlots.{arc_at-slot, pairs_by}
 use Rattle.kh_types.proofs.CircleCycles.{arc-at_place, one_place}
 use Rattle.kh_types.proofs.RangeCounts.{but}
 use Rattle.kh_types.proofs.BitLemmas.{bit-cases}
-use Rattle.tangle_surfaces.specs.Surfaces.{Lead, other_than, is_open}
+use Rattle.tangle_surfaces.specs.Surfaces.{Lead, other_than, ends_or_starts}
 use Rattle.tangle_surfaces.specs.CutCodes.{colour_at, is_inside, opens, ends_there, starts_there}
 use Rattle.tangle_surfaces.specs.Pairings.{JoinOpen}
 use Rattle.tangle_surfaces.proofs.Paths.{ArePaths, ArePaths-joined, ArePaths-lead, Lead-turned, Lead-paths, but-passes, only_one}
@@ -56,7 +56,7 @@ HavePaths-joined true n classes free other a b a_below b_below a_free b_free hav
     subst (λ (cs : List ℕ). HavePaths n cs (but free a) (but other b)) (sym (joined-swapped classes a b))
     (HavePaths-pair n classes free other a b a_below b_below a_free b_free have)
 
--- the two darts of one colour at the crossing behind the first k
+-- the two darts of one colour at the crossing that comes after the first k
 pub record IsPairAt (choice k side u v : ℕ) : Type 0 where
   pub u_from : 4 * k ≤ u
   pub u_below : u < 4 * (k + 1)
@@ -285,7 +285,7 @@ Lead-joined : (code : Code) (choice k u v r t : ℕ) (classes : List ℕ) (pairs
     (but (but (other_than (ends_there code.crossings choice k)) (arc_at code.crossings u)) (arc_at code.crossings v))
     (but (but (other_than (starts_there code.crossings choice k)) (arc_at code.crossings r)) (arc_at code.crossings t))
     → JoinOpen (arc_count code.crossings + code.loops + 1)
-    (is_open (ends_there code.crossings choice (k + 1)) (starts_there code.crossings choice (k + 1))) classes pairs
+    (ends_or_starts (ends_there code.crossings choice (k + 1)) (starts_there code.crossings choice (k + 1))) classes pairs
     → Lead (arc_count code.crossings + code.loops + 1) (ends_there code.crossings choice (k + 1))
     (starts_there code.crossings choice (k + 1)) pairs
 Lead-joined code choice k u v r t classes pairs next ends starts have join =
@@ -300,8 +300,8 @@ Lead-joined code choice k u v r t classes pairs next ends starts have join =
     subst (λ (e : ℕ → Bool). Lead n e (starts_there crossings choice (k + 1)) pairs) (sym ends_are)
     (subst (λ (s : ℕ → Bool). Lead n (only_one other free) s pairs) (sym starts_are)
     (Lead-paths n classes free other pairs have.onward have.back
-    (subst (λ (s : ℕ → Bool). JoinOpen n (is_open (only_one other free) s) classes pairs) starts_are
-    (subst (λ (e : ℕ → Bool). JoinOpen n (is_open e (starts_there crossings choice (k + 1))) classes pairs) ends_are join))))
+    (subst (λ (s : ℕ → Bool). JoinOpen n (ends_or_starts (only_one other free) s) classes pairs) starts_are
+    (subst (λ (e : ℕ → Bool). JoinOpen n (ends_or_starts e (starts_there crossings choice (k + 1))) classes pairs) ends_are join))))
 
 -- the four ways that colours and smoothing have
 
@@ -314,7 +314,7 @@ HaveCut code choice k classes =
 
 abbrev JoinNext : Code → ℕ → ℕ → List ℕ → List (ℕ × ℕ) → Type 0
 JoinNext code choice k classes pairs =
-    JoinOpen (size_of code) (is_open (ends_there code.crossings choice (k + 1)) (starts_there code.crossings choice (k + 1))) classes pairs
+    JoinOpen (size_of code) (ends_or_starts (ends_there code.crossings choice (k + 1)) (starts_there code.crossings choice (k + 1))) classes pairs
 
 abbrev LeadNext : Code → ℕ → ℕ → List (ℕ × ℕ) → Type 0
 LeadNext code choice k pairs =
@@ -394,7 +394,7 @@ pub Lead-more : (code : Code) (choice k smoothing : ℕ) (m pairs : List (ℕ ×
     → k < length code.crossings
     → Lead (arc_count code.crossings + code.loops + 1) (ends_there code.crossings choice k) (starts_there code.crossings choice k) m
     → JoinOpen (arc_count code.crossings + code.loops + 1)
-    (is_open (ends_there code.crossings choice (k + 1)) (starts_there code.crossings choice (k + 1)))
+    (ends_or_starts (ends_there code.crossings choice (k + 1)) (starts_there code.crossings choice (k + 1)))
     (classes_of (arc_count code.crossings + code.loops + 1)
     (m ++ smoothing_of smoothing (slice_index_or code.crossings k []))) pairs
     → Lead (arc_count code.crossings + code.loops + 1) (ends_there code.crossings choice (k + 1))

@@ -1,4 +1,4 @@
--- What a smoothing of one crossing and a pairing of what is open behind it join leads back from starts to ends.
+-- What a smoothing of one crossing and a pairing of what is open after it join leads back from starts to ends.
 --
 -- A pairing inside leads from starts to ends, what is outside from ends to starts. One crossing is two pairs of the latter kind. Put
 -- together, they lead from all ends to all starts, as each point is at the crossing, or open, or neither. So the discs between two pairings
@@ -58,7 +58,7 @@ Lead-crossing first second code choice k u v r t next ends starts =
     one true n a b a_below b_below = Lead-one_turned n a b a_below b_below
     one false n a b a_below b_below = Lead-one n a b a_below b_below
 
--- with the pairs of what is open behind
+-- with the pairs of what is open after it
 Lead-closed : (code : Code) (choice k u v r t : ℕ) (s pairs : List (ℕ × ℕ)) → IsNext code choice k → IsPairAt choice k 1 u v
     → IsPairAt choice k 0 r t → Lead (size_of code) (is_either code u v) (is_either code r t) s
     → Lead (size_of code) (ends_there code.crossings choice (k + 1)) (starts_there code.crossings choice (k + 1)) pairs

@@ -7,11 +7,11 @@ use Rattle.tangle_surfaces.proofs.Paths.{false_true}
 true_false : true ≡ false → ⊥
 true_false same = cc same
 
--- both ends are inside before, or both are behind the crossing
+-- both ends are inside before, or both are at crossings still to come
 abbrev pub stays : Bool → Bool → Bool → Bool → Bool
 stays i o i_after o_after = (i && o) || (not i_after && not o_after)
 
--- one is at the crossing, or it is behind it and the other is not
+-- one is at the crossing, or it is still to come and the other is not
 abbrev pub leads : Bool → Bool → Bool → Bool
 leads at after other_after = at || (other_after && not after)
 

@@ -13,11 +13,11 @@ use Rattle.kh_types.proofs.JoinedClasses.{IsNamed-classes_of}
 use Rattle.kh_types.proofs.Cycles.{AreCycles-cycles_of, IsNamed-cycles_of}
 use Rattle.kh_types.proofs.RangeCounts.{counted}
 use Rattle.tangle_surfaces.specs.Orbits.{is_in, count_in, between}
-use Rattle.tangle_surfaces.specs.Surfaces.{IsSurface, components, is_open, is_disc}
+use Rattle.tangle_surfaces.specs.Surfaces.{IsSurface, surface_components, ends_or_starts, is_disc}
 use Rattle.tangle_surfaces.proofs.Counts.{count_by-matched, counted-same}
 use Rattle.tangle_surfaces.proofs.PartCounts.{AreFiner}
 use Rattle.tangle_surfaces.proofs.OrbitLemmas.{Keeps, AreFiner-cycles, IsPermutation-between, Keeps-between}
-use Rattle.tangle_surfaces.proofs.Leading.{led-inside, led-outside, IsPermutation-led, Keeps-led, first_next, first_back, second_next, second_back, components-below}
+use Rattle.tangle_surfaces.proofs.Leading.{led-inside, led-outside, IsPermutation-led, Keeps-led, first_next, first_back, second_next, second_back, surface_components-below}
 use Rattle.tangle_surfaces.proofs.Paths.{or_else}
 
 -- tests that pass together
@@ -58,11 +58,11 @@ pub record AreDiscs (n : ℕ) (ends starts : ℕ → Bool) (all discs cycles : L
   pub discs_finer : AreFiner n discs all
   pub cycles_finer : AreFiner n cycles all
   pub end_below : (x : ℕ) → x < n → end_of x < n
-  pub end_in : (x : ℕ) → x < n → is_open ends starts x ≡ true → slice_index all (end_of x) ≡ slice_index all x
-  pub end_is : (x : ℕ) → x < n → is_open ends starts x ≡ true → ends (end_of x) ≡ true
+  pub end_in : (x : ℕ) → x < n → ends_or_starts ends starts x ≡ true → slice_index all (end_of x) ≡ slice_index all x
+  pub end_is : (x : ℕ) → x < n → ends_or_starts ends starts x ≡ true → ends (end_of x) ≡ true
   pub end_own : (x : ℕ) → ends x ≡ true → end_of x ≡ x
-  pub end_disc : (x : ℕ) → x < n → is_open ends starts x ≡ true → slice_index discs (end_of x) ≡ slice_index discs x
-  pub disc_open : (x : ℕ) → x < n → is_open ends starts (slice_index discs x) ≡ is_open ends starts x
+  pub end_disc : (x : ℕ) → x < n → ends_or_starts ends starts x ≡ true → slice_index discs (end_of x) ≡ slice_index discs x
+  pub disc_open : (x : ℕ) → x < n → ends_or_starts ends starts (slice_index discs x) ≡ ends_or_starts ends starts x
   pub cycle_ends : (x : ℕ) → x < n → ends (slice_index cycles x) ≡ ends x
   pub onward : (x y : ℕ) → x < n → y < n → slice_index discs x ≡ slice_index discs y
       → slice_index cycles (end_of x) ≡ slice_index cycles (end_of y)
@@ -74,14 +74,14 @@ discs-counted : (n : ℕ) (ends starts : ℕ → Bool) (all discs cycles : List 
     → count_in n all name (λ x. ends x && is_least cycles x) ≡ count_in n all name (is_disc ends starts discs)
 discs-counted n ends starts all discs cycles end_of name are =
     let p : ℕ → Bool = λ x. is_in all name x && (ends x && is_least cycles x) in
-    let q : ℕ → Bool = λ x. is_in all name x && (is_open ends starts x && is_least discs x) in
+    let q : ℕ → Bool = λ x. is_in all name x && (ends_or_starts ends starts x && is_least discs x) in
     let p_each = λ (x : ℕ) (holds : p x ≡ true). all_three (is_in all name x) (ends x) (is_least cycles x) holds in
-    let q_each = λ (x : ℕ) (holds : q x ≡ true). all_three (is_in all name x) (is_open ends starts x) (is_least discs x) holds in
+    let q_each = λ (x : ℕ) (holds : q x ≡ true). all_three (is_in all name x) (ends_or_starts ends starts x) (is_least discs x) holds in
     count_by-matched p q (λ x. slice_index discs x) (λ x. slice_index cycles (end_of x)) n
     (λ x below holds.
     let passes = p_each x holds in (
       omega (arith, are.discs_named.least x below, below),
-      both_pass (is_in all name (slice_index discs x)) (is_open ends starts (slice_index discs x))
+      both_pass (is_in all name (slice_index discs x)) (ends_or_starts ends starts (slice_index discs x))
           (is_least discs (slice_index discs x)) (ap (λ c. nat_eq c name) (are.discs_finer x below) ∙ passes.0)
           (are.disc_open x below ∙ or_left (ends x) (starts x) passes.1)
           (eq-eqb (slice_index discs (slice_index discs x)) (slice_index discs x) (are.discs_named.own x below)),
@@ -121,7 +121,7 @@ end_by-back : (ends : ℕ → Bool) (back : ℕ → ℕ) (x : ℕ) → ends x �
 end_by-back ends back x other = ap (λ b. cond b x (back x)) other
 
 pub AreDiscs-surface : (n : ℕ) (ends starts : ℕ → Bool) (m k w : List (ℕ × ℕ)) (is : IsSurface n ends starts m k w)
-    → AreDiscs n ends starts (components n m k w) (classes_of n (m ++ k))
+    → AreDiscs n ends starts (surface_components n m k w) (classes_of n (m ++ k))
     (cycles_of n (between (first_back n ends starts m k w is) (second_next n ends starts m k w is)))
     (end_by ends (first_back n ends starts m k w is))
 AreDiscs-surface n ends starts m k w is =
@@ -130,7 +130,7 @@ AreDiscs-surface n ends starts m k w is =
     let g = second_next n ends starts m k w is in
     let g_back = second_back n ends starts m k w is in
     let h = between f_back g in
-    let all = components n m k w in
+    let all = surface_components n m k w in
     let discs = classes_of n (m ++ k) in
     let cycles = cycles_of n h in
     let end_of = end_by ends f_back in
@@ -143,7 +143,7 @@ AreDiscs-surface n ends starts m k w is =
     let class : ℕ → ℕ = λ x. slice_index all x in
     let disc : ℕ → ℕ = λ x. slice_index discs x in
     let cycle : ℕ → ℕ = λ x. slice_index cycles x in
-    let all_respects = classes-together n (m ++ (k ++ w)) (components-below n ends starts m k w is) in
+    let all_respects = classes-together n (m ++ (k ++ w)) (surface_components-below n ends starts m k w is) in
     let all_m = Respects-first class m (k ++ w) all_respects in
     let all_rest = Respects-second class m (k ++ w) all_respects in
     let all_k = Respects-first class k w all_rest in
@@ -197,7 +197,7 @@ AreDiscs-surface n ends starts m k w is =
     let next = is.second.next x in
     ap cycle (end_by-own ends f_back x end) ∙ sym (are.step x below)
     ∙ ap cycle (ap f_back (g_end x end) ∙ sym (end_start next (is.second.next_below x below end) (is.second.next_to x below end)))) in
-    let opened : ℕ → ℕ = λ x. counted (is_open ends starts x) in
+    let opened : ℕ → ℕ = λ x. counted (ends_or_starts ends starts x) in
     let open_end = λ (x : ℕ) (end : ends x ≡ true). or_left (ends x) (starts x) end in
     let open_m : Respects opened m =
     is.first.only opened (λ x below end.
@@ -205,7 +205,7 @@ AreDiscs-surface n ends starts m k w is =
     let open_k : Respects opened k =
     is.second.only opened (λ x below end.
     ap counted (open_end x end ∙ sym (or_right (ends (is.second.next x)) (starts (is.second.next x)) (is.second.next_to x below end)))) in
-    let to_end : (x : ℕ) → x < n → is_open ends starts x ≡ true
+    let to_end : (x : ℕ) → x < n → ends_or_starts ends starts x ≡ true
     → (ends x ≡ true) ⊎ ((ends x ≡ false) × (starts x ≡ true)) =
     λ x below open_x. elim (cases_Bool (ends x)) [
       | inl end ↦ inl end
@@ -244,7 +244,7 @@ AreDiscs-surface n ends starts m k w is =
             ∙ ap disc (is.first.next_back x below start.1)
       ];
       disc_open = λ x below.
-          counted-same (is_open ends starts (disc x)) (is_open ends starts x)
+          counted-same (ends_or_starts ends starts (disc x)) (ends_or_starts ends starts x)
           (classes-finest opened n (m ++ k) (Respects-append opened m k open_m open_k) pairs_below (disc x) x (disc_below x below) below
           (discs_named.own x below));
       cycle_ends = λ x below.
@@ -257,10 +257,10 @@ AreDiscs-surface n ends starts m k w is =
     }
 
 pub discs-cycles : (n : ℕ) (ends starts : ℕ → Bool) (m k w : List (ℕ × ℕ)) (is : IsSurface n ends starts m k w) (name : ℕ)
-    → count_in n (components n m k w) name
+    → count_in n (surface_components n m k w) name
     (λ x. ends x && is_least (cycles_of n (between (first_back n ends starts m k w is) (second_next n ends starts m k w is))) x)
-    ≡ count_in n (components n m k w) name (is_disc ends starts (classes_of n (m ++ k)))
+    ≡ count_in n (surface_components n m k w) name (is_disc ends starts (classes_of n (m ++ k)))
 discs-cycles n ends starts m k w is name =
-    discs-counted n ends starts (components n m k w) (classes_of n (m ++ k))
+    discs-counted n ends starts (surface_components n m k w) (classes_of n (m ++ k))
     (cycles_of n (between (first_back n ends starts m k w is) (second_next n ends starts m k w is)))
     (end_by ends (first_back n ends starts m k w is)) name (AreDiscs-surface n ends starts m k w is)

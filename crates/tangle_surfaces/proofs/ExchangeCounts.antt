@@ -2,6 +2,7 @@
 use Rattle.std.proofs.Common.{◌≡◌, ℕ, inl, inr, ◌+◌, ◌<◌, ◌∙◌, List, ◌++◌, sym, ap, subst, arith}
 use Rattle.std.specs.Prelude.{slice_index}
 use Rattle.std.proofs.lemmas.Bool.{cases_eq}
+use Rattle.kh_types.specs.Bits.{one_if}
 use Rattle.kh_types.specs.Classes.{merged, Respects, IsNamed}
 use Rattle.kh_types.specs.Permutations.{IsPermutation, IsExchange, AreJoined, cycles_of}
 use Rattle.kh_types.proofs.ClassLemmas.{slice_index-joined, merged-both, Respects-append, Respects-first, Respects-second}
@@ -9,7 +10,7 @@ use Rattle.kh_types.proofs.JoinedClasses.{classes_of-same}
 use Rattle.kh_types.proofs.Cycles.{AreCycles-cycles_of, IsNamed-cycles_of}
 use Rattle.kh_types.proofs.ExchangedCycles.{AreJoined-apart, AreJoined-split, AreJoined-together}
 use Rattle.kh_types.proofs.Exchanges.{IsExchange-back}
-use Rattle.tangle_surfaces.specs.Orbits.{is_in, parts_in, steps_of, orbits_of, one_if}
+use Rattle.tangle_surfaces.specs.Orbits.{is_in, parts_in, steps_of, orbits_of}
 use Rattle.tangle_surfaces.proofs.PartCounts.{AreFiner, parts_in-joined}
 use Rattle.tangle_surfaces.proofs.OrbitGenus.{parts_in-self}
 use Rattle.tangle_surfaces.proofs.OrbitLemmas.{Keeps, Respects-steps, Keeps-steps, steps-below, orbit_steps-below, each}

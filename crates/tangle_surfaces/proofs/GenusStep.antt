@@ -12,7 +12,7 @@ use Rattle.kh_types.specs.Permutations.{AreJoined}
 use Rattle.kh_types.proofs.ClassLemmas.{slice_index-joined, merged-both, merged-first}
 use Rattle.kh_types.proofs.JoinedClasses.{joined-together, max-fixed}
 use Rattle.kh_types.proofs.RangeCounts.{counted}
-use Rattle.tangle_surfaces.specs.Orbits.{is_in, count_in, parts_in, size_in, HasGenus}
+use Rattle.tangle_surfaces.specs.Orbits.{is_in, count_in, parts_in, size_in, HaveWholeGenus}
 use Rattle.tangle_surfaces.proofs.PartCounts.{AreFiner, parts_in-joined, count_in-one, count_in-other}
 
 -- the classes of two numbers become one; so do their parts of one kind, and of another kind too, or else one part becomes two
@@ -37,7 +37,7 @@ faces_of n classes f g h name = parts_in n classes name f + (parts_in n classes 
 -- each class has a genus
 abbrev pub HaveGenus : ℕ → List ℕ → List ℕ → List ℕ → List ℕ → Type 0
 HaveGenus n classes f g h =
-    (name : ℕ) → name < n → slice_index classes name ≡ name → HasGenus (faces_of n classes f g h name) (size_in n classes name)
+    (name : ℕ) → name < n → slice_index classes name ≡ name → HaveWholeGenus (faces_of n classes f g h name) (size_in n classes name)
 
 -- parts that are finer than classes are finer than these when two of them have become one
 AreFiner-joined : (n : ℕ) (parts classes : List ℕ) (x y : ℕ) → IsNamed n parts → IsNamed n classes → AreFiner n parts classes

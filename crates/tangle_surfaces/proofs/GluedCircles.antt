@@ -13,7 +13,7 @@ use Rattle.kh_types.proofs.ClassLemmas.{classes-together, classes-finest, Respec
 use Rattle.kh_types.proofs.JoinedClasses.{IsNamed-classes_of}
 use Rattle.kh_types.proofs.RangeCounts.{list_any-at, list_any-one, count_by-alike, counted}
 use Rattle.tangle_surfaces.specs.Orbits.{is_in, count_in, parts_in}
-use Rattle.tangle_surfaces.specs.Pairings.{JoinOpen, seek, JoinOpenAlone, has_open, is_closed}
+use Rattle.tangle_surfaces.specs.Pairings.{JoinOpen, seek, JoinOpenAlone, has_open, is_closed_circle}
 use Rattle.tangle_surfaces.proofs.Counts.{count_by-matched, count_by-either, counted-one}
 use Rattle.tangle_surfaces.proofs.PartCounts.{AreFiner}
 use Rattle.tangle_surfaces.proofs.DiscCounts.{all_three, both_pass}
@@ -144,7 +144,7 @@ AreGlued-parts n opened xs ys m xs_below ys_below are join =
 -- the circles of both parts, in each class of whatever is coarser
 glued-counted : (n : ℕ) (opened : ℕ → Bool) (c a d all : List ℕ) (name : ℕ) → AreGlued n opened c a d → AreFiner n a all
     → parts_in n all name a
-    ≡ count_in n all name (is_closed n opened c) + count_in n all name (λ x. opened x && is_least d x)
+    ≡ count_in n all name (is_closed_circle n opened c) + count_in n all name (λ x. opened x && is_least d x)
 glued-counted n opened c a d all name are finer =
     let has : ℕ → Bool = has_open n opened c in
     let all_of : (x y : ℕ) → x < n → y < n → slice_index a x ≡ slice_index a y → slice_index all x ≡ slice_index all y =
@@ -168,7 +168,7 @@ glued-counted n opened c a d all name are finer =
     ≡ count_in n all name (λ x. is_least a x && not (has x)) + count_in n all name (λ x. is_least a x && has x) =
     count_by-either (λ x. is_in all name x && (is_least a x && not (has x))) (λ x. is_in all name x && (is_least a x && has x))
     (λ x. is_in all name x && is_least a x) n (λ x below. parted (is_in all name x) (is_least a x) (has x)) in
-    let closed : count_in n all name (λ x. is_least a x && not (has x)) ≡ count_in n all name (is_closed n opened c) =
+    let closed : count_in n all name (λ x. is_least a x && not (has x)) ≡ count_in n all name (is_closed_circle n opened c) =
     count_by-alike (λ x. is_in all name x && (is_least a x && not (has x))) (λ x. is_in all name x && (is_least c x && not (has x))) 0 n
     (λ x from below. ap (λ t. is_in all name x && t) (elim (cases_Bool (has x)) [
       | inl some ↦ ended (is_least a x) (is_least c x) (has x) some
@@ -244,7 +244,7 @@ pub circles-glued : (n : ℕ) (opened : ℕ → Bool) (xs ys m : List (ℕ × �
     → JoinOpenAlone n opened ys → JoinOpen n opened (classes_of n xs) m
     → ((x : ℕ) → x < n → slice_index all (slice_index (classes_of n (xs ++ ys)) x) ≡ slice_index all x)
     → parts_in n all name (classes_of n (xs ++ ys))
-    ≡ count_in n all name (is_closed n opened (classes_of n xs))
+    ≡ count_in n all name (is_closed_circle n opened (classes_of n xs))
     + count_in n all name (λ x. opened x && is_least (classes_of n (m ++ ys)) x)
 circles-glued n opened xs ys m all name xs_below ys_below are join finer =
     glued-counted n opened (classes_of n xs) (classes_of n (xs ++ ys)) (classes_of n (m ++ ys)) all name

@@ -3,16 +3,13 @@
 -- `Lead n from to pairs`: the pairs join each point of one kind with one point of the other, one to one, and whatever respects the pairs
 -- agrees on both. Two such lists for kinds that have no point in common make one for both kinds (`Lead-append`), and the other kinds close
 -- what is led.
-use Rattle.std.proofs.Common.{◌≡◌, ℕ, inl, inr, ◌<◌, ◌∙◌, List, [], ◌∷◌, ◌++◌, refl, sym, ap, subst, Bool, true, false, not, ◌&&◌, ◌||◌, eq-eqb}
-use Rattle.std.specs.Prelude.{nat_eq, slice_index, unwrap_or}
-use Rattle.std.specs.List.{find, range_with_len}
+use Rattle.std.proofs.Common.{◌≡◌, ℕ, inl, inr, ◌<◌, ◌∙◌, List, [], ◌∷◌, ◌++◌, refl, sym, ap, subst, Bool, true, false, not, ◌||◌, eq-eqb}
+use Rattle.std.specs.Prelude.{nat_eq}
 use Rattle.std.proofs.lemmas.Bool.{cases_Bool, eqb-true, or_left, or_right, not-true}
 use Rattle.kh_types.proofs.ClassLemmas.{Respects-append, Respects-first, Respects-second, AreBelow-append}
 use Rattle.tangle_surfaces.specs.Surfaces.{Lead, other_than, IsSurface}
-use Rattle.tangle_surfaces.specs.Pairings.{JoinOpen, seek, joins_of}
-use Rattle.tangle_surfaces.proofs.OrbitLemmas.{Respects-steps, Keeps-steps, steps-below}
 use Rattle.tangle_surfaces.proofs.Leading.{led, led-inside, led-outside}
-use Rattle.tangle_surfaces.proofs.Paths.{false_true, IsSought, IsSought-seek, or_else}
+use Rattle.tangle_surfaces.proofs.Paths.{false_true, or_else}
 
 -- no point is of both kinds
 abbrev pub AreApart : ℕ → (ℕ → Bool) → (ℕ → Bool) → Type 0
@@ -224,30 +221,3 @@ IsSurface-three n ends starts m k l apart first second third = record {
   second = second;
   outer = Lead-closing n ends starts l apart third;
 }
-
--- each open point with the least one of its class
-pub JoinOpen-joins_of : (n : ℕ) (opened : ℕ → Bool) (classes : List ℕ) → JoinOpen n opened classes (joins_of n opened classes)
-JoinOpen-joins_of n opened classes =
-    let least : ℕ → ℕ = seek n classes opened in
-    let stay : ℕ → ℕ = λ x. x in
-    let f : ℕ → ℕ = led opened least stay in
-    let there : (x : ℕ) → x < n → opened x ≡ true → IsSought n classes opened x (least x) =
-    λ x below is. IsSought-seek n classes opened x x (record { below = below; is = is; together = refl }) in
-    record {
-      below = steps-below n f (λ x below. elim (cases_Bool (opened x)) [
-        | inl is ↦ subst (λ (z : ℕ). z < n) (sym (led-inside opened least stay x is)) (there x below is).below
-        | inr other ↦ subst (λ (z : ℕ). z < n) (sym (led-outside opened least stay x other)) below
-      ]);
-      joins = λ g respects x y x_below y_below x_is y_is same.
-          let keeps = Keeps-steps n f g respects in
-          keeps x x_below ∙ ap g (led-inside opened least stay x x_is)
-          ∙ ap (λ c. g (unwrap_or (find (λ z. opened z && nat_eq (slice_index classes z) c) (range_with_len 0 n)) 0)) same
-          ∙ ap g (sym (led-inside opened least stay y y_is)) ∙ sym (keeps y y_below);
-      only = λ g keeps.
-          Respects-steps n f g (λ x below. elim (cases_Bool (opened x)) [
-            | inl is ↦
-                let found = there x below is in
-                keeps x (least x) below found.below is found.is (sym found.together) ∙ ap g (sym (led-inside opened least stay x is))
-            | inr other ↦ ap g (sym (led-outside opened least stay x other))
-          ]);
-    }

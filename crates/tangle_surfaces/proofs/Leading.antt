@@ -9,7 +9,7 @@ use Rattle.kh_types.specs.Permutations.{IsPermutation, cycles_of}
 use Rattle.kh_types.proofs.JoinedClasses.{classes_of-same}
 use Rattle.kh_types.proofs.ClassLemmas.{Respects-append, Respects-first, Respects-second, AreBelow-append}
 use Rattle.tangle_surfaces.specs.Orbits.{steps_of, orbits_of}
-use Rattle.tangle_surfaces.specs.Surfaces.{Lead, other_than, IsSurface, components}
+use Rattle.tangle_surfaces.specs.Surfaces.{Lead, other_than, IsSurface, surface_components}
 use Rattle.tangle_surfaces.proofs.OrbitLemmas.{Keeps, Respects-steps, Keeps-steps, steps-below, orbit_steps-below}
 
 -- inside at points of a kind, and outside at the others
@@ -124,19 +124,19 @@ second_next n ends starts m k w is = led ends is.second.next is.outer.next
 abbrev pub second_back : (n : ℕ) (ends starts : ℕ → Bool) (m k w : List (ℕ × ℕ)) → IsSurface n ends starts m k w → ℕ → ℕ
 second_back n ends starts m k w is = led starts is.second.back is.outer.back
 
-pub components-below : (n : ℕ) (ends starts : ℕ → Bool) (m k w : List (ℕ × ℕ)) → IsSurface n ends starts m k w
+pub surface_components-below : (n : ℕ) (ends starts : ℕ → Bool) (m k w : List (ℕ × ℕ)) → IsSurface n ends starts m k w
     → AreBelow n (m ++ (k ++ w))
-components-below n ends starts m k w is =
+surface_components-below n ends starts m k w is =
     AreBelow-append n m (k ++ w) is.first.below (AreBelow-append n k w is.second.below is.outer.below)
 
-pub components-orbits : (n : ℕ) (ends starts : ℕ → Bool) (m k w : List (ℕ × ℕ)) (is : IsSurface n ends starts m k w)
-    → components n m k w ≡ orbits_of n (first_next n ends starts m k w is) (second_next n ends starts m k w is)
-components-orbits n ends starts m k w is =
+pub surface_components-orbits : (n : ℕ) (ends starts : ℕ → Bool) (m k w : List (ℕ × ℕ)) (is : IsSurface n ends starts m k w)
+    → surface_components n m k w ≡ orbits_of n (first_next n ends starts m k w is) (second_next n ends starts m k w is)
+surface_components-orbits n ends starts m k w is =
     let f = first_next n ends starts m k w is in
     let g = second_next n ends starts m k w is in
     let f_steps = steps_of n f in
     let g_steps = steps_of n g in
-    classes_of-same n (m ++ (k ++ w)) (f_steps ++ g_steps) (components-below n ends starts m k w is)
+    classes_of-same n (m ++ (k ++ w)) (f_steps ++ g_steps) (surface_components-below n ends starts m k w is)
     (orbit_steps-below n f g (led-below n ends starts m w is.first is.outer) (led-below n ends starts k w is.second is.outer))
     (λ c respects.
     let rest = Respects-second c m (k ++ w) respects in

@@ -11,7 +11,7 @@ use Rattle.kh_types.proofs.ListSums.{sum_by-none}
 use Rattle.kh_types.proofs.RangeCounts.{count_by-alike, counted}
 use Rattle.kh_types.proofs.ClassLemmas.{Respects-append, Respects-first}
 use Rattle.kh_types.proofs.ExchangedCycles.{exchange_back}
-use Rattle.tangle_surfaces.specs.Orbits.{is_in, parts_in, size_in, steps_of, orbits_of, between, cycles_in, HasGenus}
+use Rattle.tangle_surfaces.specs.Orbits.{is_in, parts_in, size_in, steps_of, orbits_of, between, cycles_in, HaveWholeGenus}
 use Rattle.tangle_surfaces.proofs.Counts.{count_by-one_less}
 use Rattle.tangle_surfaces.proofs.GenusStep.{HaveGenus, HaveGenus-step}
 use Rattle.tangle_surfaces.proofs.OrbitLemmas.{Respects-steps, Keeps-steps, steps-below, orbit_steps-below, IsPermutation-between, exchanged, IsExchange-exchanged, IsPermutation-exchanged, IsStep-exchanged}
@@ -112,8 +112,8 @@ HaveGenus-orbits (suc d) n f f_back g g_back f_permutes g_permutes agree = elim 
 ]
 
 -- so any two
-pub HasGenus-orbits : (n : ℕ) (f f_back g g_back : ℕ → ℕ) → IsPermutation n f f_back → IsPermutation n g g_back
+pub HaveWholeGenus-orbits : (n : ℕ) (f f_back g g_back : ℕ → ℕ) → IsPermutation n f f_back → IsPermutation n g g_back
     → (name : ℕ) → name < n → slice_index (orbits_of n f g) name ≡ name
-    → HasGenus (cycles_in n f f_back g name) (size_in n (orbits_of n f g) name)
-HasGenus-orbits n f f_back g g_back f_permutes g_permutes =
+    → HaveWholeGenus (cycles_in n f f_back g name) (size_in n (orbits_of n f g) name)
+HaveWholeGenus-orbits n f f_back g g_back f_permutes g_permutes =
     HaveGenus-orbits n n f f_back g g_back f_permutes g_permutes (λ x from below. absurd (omega (arith, from, below)))

@@ -11,7 +11,7 @@ use Rattle.kh_types.specs.Classes.{merged, joined, classes_of, Respects}
 use Rattle.kh_types.proofs.ClassLemmas.{slice_index-joined, merged-both, classes-together, classes-finest}
 use Rattle.kh_types.proofs.Exchanges.{merged-same}
 use Rattle.kh_types.proofs.RangeCounts.{but, count_by-but, found-counted}
-use Rattle.tangle_surfaces.specs.Surfaces.{Lead, other_than, is_open}
+use Rattle.tangle_surfaces.specs.Surfaces.{Lead, other_than, ends_or_starts}
 use Rattle.tangle_surfaces.specs.Pairings.{JoinOpen, seek}
 
 -- a class has at most one point of a free kind, and then it has one of the other free kind
@@ -178,7 +178,7 @@ only_one-free free other x is = (and_parts (free x) (not (other x)) is).0
 -- pairs that join the open points of paths lead from those with a free start to those with a free end
 pub Lead-paths : (n : ℕ) (classes : List ℕ) (free other : ℕ → Bool) (pairs : List (ℕ × ℕ))
     → ArePaths n classes free other → ArePaths n classes other free
-    → JoinOpen n (is_open (only_one other free) (only_one free other)) classes pairs
+    → JoinOpen n (ends_or_starts (only_one other free) (only_one free other)) classes pairs
     → Lead n (only_one other free) (only_one free other) pairs
 Lead-paths n classes free other pairs paths back_paths join =
     let class : ℕ → ℕ = λ x. slice_index classes x in
@@ -194,7 +194,7 @@ Lead-paths n classes free other pairs paths back_paths join =
     let one_start : (x y : ℕ) → x < n → y < n → starts x ≡ true → starts y ≡ true → class x ≡ class y → x ≡ y =
     λ x y x_below y_below x_is y_is.
     paths.one x y x_below y_below (only_one-free free other x x_is) (only_one-free free other y y_is) in
-    let kinds : (x : ℕ) → is_open ends starts x ≡ true → (ends x ≡ true) ⊎ (starts x ≡ true) =
+    let kinds : (x : ℕ) → ends_or_starts ends starts x ≡ true → (ends x ≡ true) ⊎ (starts x ≡ true) =
     λ x is. elim (cases_Bool (ends x)) [ inl end ↦ inl end | inr no_end ↦ inr (or_else (ends x) (starts x) is no_end) ] in
     record {
       next = seek n classes starts;

@@ -7,6 +7,7 @@ use Rattle.std.proofs.Common.{◌≡◌, ℕ, inl, inr, ◌+◌, ◌*◌, ◌%�
 use Rattle.std.specs.Prelude.{nat_eq, slice_index, slice_index_or}
 use Rattle.std.proofs.Math.Path.{fun_ext}
 use Rattle.std.proofs.lemmas.Bool.{or_left, or_right}
+use Rattle.kh_types.specs.Bits.{one_if}
 use Rattle.kh_types.specs.Code.{Code, arc_in}
 use Rattle.kh_types.specs.Classes.{classes_of, Respects, AreBelow}
 use Rattle.kh_types.specs.Circles.{smoothing_of}
@@ -16,10 +17,10 @@ use Rattle.kh_types.proofs.ClassLemmas.{classes-together, classes-finest, Respec
 use Rattle.kh_types.proofs.JoinedClasses.{classes_of-same, IsNamed-classes_of}
 use Rattle.kh_types.proofs.JoinedSlots.{arc_at-slot}
 use Rattle.kh_types.proofs.BitLemmas.{bit-cases}
-use Rattle.tangle_surfaces.specs.Orbits.{is_in, count_in, parts_in, one_if}
-use Rattle.tangle_surfaces.specs.Surfaces.{Lead, other_than, is_open, is_disc}
+use Rattle.tangle_surfaces.specs.Orbits.{is_in, count_in, parts_in}
+use Rattle.tangle_surfaces.specs.Surfaces.{Lead, other_than, ends_or_starts, is_disc}
 use Rattle.tangle_surfaces.specs.CutCodes.{is_inside, ends_there, starts_there}
-use Rattle.tangle_surfaces.specs.Pairings.{JoinOpen, JoinOpenAlone, is_closed}
+use Rattle.tangle_surfaces.specs.Pairings.{JoinOpen, JoinOpenAlone, is_closed_circle}
 use Rattle.tangle_surfaces.specs.Saddles.{JoinTwo}
 use Rattle.tangle_surfaces.proofs.PartCounts.{AreFiner}
 use Rattle.tangle_surfaces.proofs.Paths.{Lead-turned}
@@ -83,7 +84,7 @@ Lead-round code choice k u v r t m pairs next ends starts before after =
 
 -- what leads joins open points alone
 alone-lead : (n : ℕ) (ends starts : ℕ → Bool) (pairs : List (ℕ × ℕ)) → Lead n ends starts pairs
-    → JoinOpenAlone n (is_open ends starts) pairs
+    → JoinOpenAlone n (ends_or_starts ends starts) pairs
 alone-lead n ends starts pairs lead g same =
     lead.only g (λ x below end.
     let next = lead.next x in
@@ -98,22 +99,22 @@ saddle-joined : (code : Code) (choice k u v r q : ℕ) (s t m m0 m1 : List (ℕ 
     → JoinTwo t (arc_at code.crossings u) (arc_at code.crossings q) (arc_at code.crossings v) (arc_at code.crossings r)
     → Lead (size_of code) (ends_there code.crossings choice k) (starts_there code.crossings choice k) m
     → Lead (size_of code) (ends_there code.crossings choice (k + 1)) (starts_there code.crossings choice (k + 1)) m1
-    → JoinOpen (size_of code) (is_open (ends_there code.crossings choice (k + 1)) (starts_there code.crossings choice (k + 1)))
+    → JoinOpen (size_of code) (ends_or_starts (ends_there code.crossings choice (k + 1)) (starts_there code.crossings choice (k + 1)))
     (classes_of (size_of code) (m ++ s)) m0
-    → JoinOpen (size_of code) (is_open (ends_there code.crossings choice (k + 1)) (starts_there code.crossings choice (k + 1)))
+    → JoinOpen (size_of code) (ends_or_starts (ends_there code.crossings choice (k + 1)) (starts_there code.crossings choice (k + 1)))
     (classes_of (size_of code) (m ++ t)) m1
     → (name : ℕ) → name < size_of code → slice_index (classes_of (size_of code) (m ++ (s ++ t))) name ≡ name
     → let n = size_of code in let all = classes_of n (m ++ (s ++ t)) in
     let ends = ends_there code.crossings choice (k + 1) in let starts = starts_there code.crossings choice (k + 1) in
-    (count_in n all name (is_closed n (is_open ends starts) (classes_of n (m ++ s)))
+    (count_in n all name (is_closed_circle n (ends_or_starts ends starts) (classes_of n (m ++ s)))
     + count_in n all name (is_disc ends starts (classes_of n (m0 ++ m1))))
-    + (count_in n all name (is_closed n (is_open ends starts) (classes_of n (m ++ t)))
+    + (count_in n all name (is_closed_circle n (ends_or_starts ends starts) (classes_of n (m ++ t)))
     + count_in n all name (is_disc ends starts (classes_of n (m1 ++ m1))))
     ≡ 2 + one_if (is_in all name (arc_at code.crossings u))
 saddle-joined code choice k u v r q s t m m0 m1 next ends starts s_below t_below s_two t_two before after first second name below own =
     let crossings = code.crossings in
     let n = size_of code in
-    let opened : ℕ → Bool = is_open (ends_there crossings choice (k + 1)) (starts_there crossings choice (k + 1)) in
+    let opened : ℕ → Bool = ends_or_starts (ends_there crossings choice (k + 1)) (starts_there crossings choice (k + 1)) in
     let all = classes_of n (m ++ (s ++ t)) in
     let a = arc_at crossings u in
     let all_below = AreBelow-append n m (s ++ t) before.below (AreBelow-append n s t s_below t_below) in
@@ -205,18 +206,18 @@ abbrev SaddleCount : Code → ℕ → ℕ → List (ℕ × ℕ) → List (ℕ ×
 SaddleCount code choice k s t m m0 m1 name arc =
     let n = size_of code in let all = classes_of n (m ++ (s ++ t)) in
     let ends = ends_there code.crossings choice (k + 1) in let starts = starts_there code.crossings choice (k + 1) in
-    (count_in n all name (is_closed n (is_open ends starts) (classes_of n (m ++ s)))
+    (count_in n all name (is_closed_circle n (ends_or_starts ends starts) (classes_of n (m ++ s)))
     + count_in n all name (is_disc ends starts (classes_of n (m0 ++ m1))))
-    + (count_in n all name (is_closed n (is_open ends starts) (classes_of n (m ++ t)))
+    + (count_in n all name (is_closed_circle n (ends_or_starts ends starts) (classes_of n (m ++ t)))
     + count_in n all name (is_disc ends starts (classes_of n (m1 ++ m1))))
     ≡ 2 + one_if (is_in all name arc)
 
 saddle-at : (code : Code) (choice k : ℕ) (m m0 m1 : List (ℕ × ℕ)) → IsNext code choice k
     → Lead (size_of code) (ends_there code.crossings choice k) (starts_there code.crossings choice k) m
     → Lead (size_of code) (ends_there code.crossings choice (k + 1)) (starts_there code.crossings choice (k + 1)) m1
-    → JoinOpen (size_of code) (is_open (ends_there code.crossings choice (k + 1)) (starts_there code.crossings choice (k + 1)))
+    → JoinOpen (size_of code) (ends_or_starts (ends_there code.crossings choice (k + 1)) (starts_there code.crossings choice (k + 1)))
     (classes_of (size_of code) (m ++ pairs_at true code k)) m0
-    → JoinOpen (size_of code) (is_open (ends_there code.crossings choice (k + 1)) (starts_there code.crossings choice (k + 1)))
+    → JoinOpen (size_of code) (ends_or_starts (ends_there code.crossings choice (k + 1)) (starts_there code.crossings choice (k + 1)))
     (classes_of (size_of code) (m ++ pairs_at false code k)) m1
     → (name : ℕ) → name < size_of code
     → slice_index (classes_of (size_of code) (m ++ (pairs_at true code k ++ pairs_at false code k))) name ≡ name
@@ -260,9 +261,9 @@ saddle-at code choice k m m0 m1 next before after first second name below own =
 pub saddle-code : (code : Code) (choice k : ℕ) (m m0 m1 : List (ℕ × ℕ)) → IsColoured code.crossings choice
     → k < length code.crossings
     → Lead (size_of code) (ends_there code.crossings choice k) (starts_there code.crossings choice k) m
-    → JoinOpen (size_of code) (is_open (ends_there code.crossings choice (k + 1)) (starts_there code.crossings choice (k + 1)))
+    → JoinOpen (size_of code) (ends_or_starts (ends_there code.crossings choice (k + 1)) (starts_there code.crossings choice (k + 1)))
     (classes_of (size_of code) (m ++ smoothing_of 0 (slice_index_or code.crossings k []))) m0
-    → JoinOpen (size_of code) (is_open (ends_there code.crossings choice (k + 1)) (starts_there code.crossings choice (k + 1)))
+    → JoinOpen (size_of code) (ends_or_starts (ends_there code.crossings choice (k + 1)) (starts_there code.crossings choice (k + 1)))
     (classes_of (size_of code) (m ++ smoothing_of 1 (slice_index_or code.crossings k []))) m1
     → (name : ℕ) → name < size_of code
     → slice_index (classes_of (size_of code)
@@ -273,7 +274,7 @@ saddle-code code choice k m m0 m1 coloured within before first second name below
     let n = size_of code in
     let crossings = code.crossings in
     let slots = slice_index_or crossings k [] in
-    let opened = is_open (ends_there crossings choice (k + 1)) (starts_there crossings choice (k + 1)) in
+    let opened = ends_or_starts (ends_there crossings choice (k + 1)) (starts_there crossings choice (k + 1)) in
     let next : IsNext code choice k = record { coloured = coloured; within = within } in
     let s_is = smoothing-at code k 0 in
     let t_is = smoothing-at code k 1 in

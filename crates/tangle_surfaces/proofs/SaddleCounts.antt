@@ -2,10 +2,11 @@
 -- together, or two where the crossing is not.
 use Rattle.std.proofs.Common.{◌≡◌, ◌≢◌, ℕ, ◌+◌, ◌<◌, ◌∙◌, List, ◌++◌, sym, ap, ap₂, subst}
 use Rattle.std.specs.Prelude.{slice_index}
+use Rattle.kh_types.specs.Bits.{one_if}
 use Rattle.kh_types.specs.Classes.{classes_of, AreBelow}
 use Rattle.kh_types.proofs.JoinedClasses.{classes_of-same}
 use Rattle.kh_types.proofs.ClassLemmas.{Respects-append, Respects-first, Respects-second, AreBelow-append}
-use Rattle.tangle_surfaces.specs.Orbits.{is_in, parts_in, steps_of, orbits_of, one_if}
+use Rattle.tangle_surfaces.specs.Orbits.{is_in, parts_in, steps_of, orbits_of}
 use Rattle.tangle_surfaces.specs.Surfaces.{Lead, other_than}
 use Rattle.tangle_surfaces.specs.Saddles.{JoinTwo}
 use Rattle.tangle_surfaces.proofs.OrbitLemmas.{Respects-steps, Keeps-steps, orbit_steps-below}

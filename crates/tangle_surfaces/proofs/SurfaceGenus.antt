@@ -12,13 +12,13 @@ use Rattle.kh_types.specs.Permutations.{IsPermutation, cycles_of}
 use Rattle.kh_types.proofs.ClassLemmas.{classes-together, Respects-first}
 use Rattle.kh_types.proofs.Cycles.{AreCycles-cycles_of, IsNamed-cycles_of}
 use Rattle.kh_types.proofs.RangeCounts.{count_by-alike, counted}
-use Rattle.tangle_surfaces.specs.Orbits.{is_in, count_in, parts_in, size_in, between, HasGenus}
-use Rattle.tangle_surfaces.specs.Surfaces.{IsSurface, components, is_open, is_disc, faces_in, strips_in}
+use Rattle.tangle_surfaces.specs.Orbits.{is_in, count_in, parts_in, size_in, between, HaveWholeGenus}
+use Rattle.tangle_surfaces.specs.Surfaces.{IsSurface, surface_components, ends_or_starts, is_disc, faces_in, strips_in}
 use Rattle.tangle_surfaces.proofs.Counts.{count_by-matched, count_by-either, counted-split}
 use Rattle.tangle_surfaces.proofs.OrbitLemmas.{IsPermutation-between}
-use Rattle.tangle_surfaces.proofs.Leading.{led-outside, IsPermutation-led, circles-led, components-orbits, first_next, first_back, second_next, second_back, components-below}
+use Rattle.tangle_surfaces.proofs.Leading.{led-outside, IsPermutation-led, circles-led, surface_components-orbits, first_next, first_back, second_next, second_back, surface_components-below}
 use Rattle.tangle_surfaces.proofs.DiscCounts.{discs-cycles}
-use Rattle.tangle_surfaces.proofs.OrbitGenus.{HasGenus-orbits}
+use Rattle.tangle_surfaces.proofs.OrbitGenus.{HaveWholeGenus-orbits}
 
 -- a number that a permutation leaves is alone on its cycle
 alone : (n : ℕ) (h back : ℕ → ℕ) (x : ℕ) → IsPermutation n h back → x < n → h x ≡ x → slice_index (cycles_of n h) x ≡ x
@@ -56,21 +56,21 @@ by_kind n classes name kind test =
     split true true false = refl
     split true true true = refl
 
-pub HasGenus-surface : (n : ℕ) (ends starts : ℕ → Bool) (m k w : List (ℕ × ℕ)) → IsSurface n ends starts m k w
-    → (name : ℕ) → name < n → slice_index (components n m k w) name ≡ name
-    → HasGenus (faces_in n ends starts m k w name) (strips_in n ends m k w name)
-HasGenus-surface n ends starts m k w is name below own =
+pub HaveWholeGenus-surface : (n : ℕ) (ends starts : ℕ → Bool) (m k w : List (ℕ × ℕ)) → IsSurface n ends starts m k w
+    → (name : ℕ) → name < n → slice_index (surface_components n m k w) name ≡ name
+    → HaveWholeGenus (faces_in n ends starts m k w name) (strips_in n ends m k w name)
+HaveWholeGenus-surface n ends starts m k w is name below own =
     let f = first_next n ends starts m k w is in
     let f_back = first_back n ends starts m k w is in
     let g = second_next n ends starts m k w is in
     let g_back = second_back n ends starts m k w is in
     let h = between f_back g in
-    let all = components n m k w in
+    let all = surface_components n m k w in
     let f_permutes : IsPermutation n f f_back = IsPermutation-led n ends starts m w is.first is.outer in
     let g_permutes : IsPermutation n g g_back = IsPermutation-led n ends starts k w is.second is.outer in
     let h_permutes = IsPermutation-between n f f_back g g_back f_permutes g_permutes in
-    let orbits_are = components-orbits n ends starts m k w is in
-    let found = HasGenus-orbits n f f_back g g_back f_permutes g_permutes name below
+    let orbits_are = surface_components-orbits n ends starts m k w is in
+    let found = HaveWholeGenus-orbits n f f_back g g_back f_permutes g_permutes name below
     (ap (λ cs. slice_index cs name) (sym orbits_are) ∙ own) in
     let formula : parts_in n all name (cycles_of n f) + (parts_in n all name (cycles_of n g) + parts_in n all name (cycles_of n h))
     + 2 * found.genus ≡ size_in n all name + 2 =
@@ -117,12 +117,12 @@ HasGenus-surface n ends starts m k w is name below own =
 
 -- the first pairing takes the ends of a component one to one to its starts
 starts-counted : (n : ℕ) (ends starts : ℕ → Bool) (m k w : List (ℕ × ℕ)) → IsSurface n ends starts m k w → (name : ℕ)
-    → count_in n (components n m k w) name ends ≡ count_in n (components n m k w) name starts
+    → count_in n (surface_components n m k w) name ends ≡ count_in n (surface_components n m k w) name starts
 starts-counted n ends starts m k w is name =
-    let all = components n m k w in
+    let all = surface_components n m k w in
     let class : ℕ → ℕ = λ x. slice_index all x in
     let first = is.first in
-    let respects = Respects-first class m (k ++ w) (classes-together n (m ++ (k ++ w)) (components-below n ends starts m k w is)) in
+    let respects = Respects-first class m (k ++ w) (classes-together n (m ++ (k ++ w)) (surface_components-below n ends starts m k w is)) in
     count_by-matched (λ x. is_in all name x && ends x) (λ x. is_in all name x && starts x) first.next first.back n
     (λ x below holds.
     let passes = and_parts (is_in all name x) (ends x) holds in (
@@ -148,14 +148,14 @@ starts-counted n ends starts m k w is name =
     ∙ first.next_back y y_below (and_parts (is_in all name y) (starts y) y_holds).1)
 
 pub open-counted : (n : ℕ) (ends starts : ℕ → Bool) (m k w : List (ℕ × ℕ)) → IsSurface n ends starts m k w → (name : ℕ)
-    → count_in n (components n m k w) name (is_open ends starts) ≡ 2 * strips_in n ends m k w name
+    → count_in n (surface_components n m k w) name (ends_or_starts ends starts) ≡ 2 * strips_in n ends m k w name
 open-counted n ends starts m k w is name =
-    let all = components n m k w in
-    let sum : count_in n all name (is_open ends starts) ≡ count_in n all name ends + count_in n all name starts =
+    let all = surface_components n m k w in
+    let sum : count_in n all name (ends_or_starts ends starts) ≡ count_in n all name ends + count_in n all name starts =
     count_by-either (λ x. is_in all name x && ends x) (λ x. is_in all name x && starts x)
     (λ x. is_in all name x && (ends x || starts x)) n
     (λ x below. counted-split (is_in all name x) (ends x) (starts x) (is.apart x below)) in
-    twice (count_in n all name (is_open ends starts)) (count_in n all name ends) (count_in n all name starts) sum
+    twice (count_in n all name (ends_or_starts ends starts)) (count_in n all name ends) (count_in n all name starts) sum
     (starts-counted n ends starts m k w is name)
   where
     twice : (o e s : ℕ) → o ≡ e + s → e ≡ s → o ≡ 2 * e

@@ -31,24 +31,24 @@ pub record IsSurface (n : ℕ) (ends starts : ℕ → Bool) (m k w : List (ℕ �
   pub outer : Lead n (other_than ends) (other_than starts) w
 
 -- the components of the surface
-abbrev pub components : ℕ → List (ℕ × ℕ) → List (ℕ × ℕ) → List (ℕ × ℕ) → List ℕ
-components n m k w = classes_of n (m ++ (k ++ w))
+abbrev pub surface_components : ℕ → List (ℕ × ℕ) → List (ℕ × ℕ) → List (ℕ × ℕ) → List ℕ
+surface_components n m k w = classes_of n (m ++ (k ++ w))
 
 -- an open point
-abbrev pub is_open : (ℕ → Bool) → (ℕ → Bool) → ℕ → Bool
-is_open ends starts x = ends x || starts x
+abbrev pub ends_or_starts : (ℕ → Bool) → (ℕ → Bool) → ℕ → Bool
+ends_or_starts ends starts x = ends x || starts x
 
 -- the discs of two pairings are the classes of open points, by their least points
 abbrev pub is_disc : (ℕ → Bool) → (ℕ → Bool) → List ℕ → ℕ → Bool
-is_disc ends starts discs x = is_open ends starts x && is_least discs x
+is_disc ends starts discs x = ends_or_starts ends starts x && is_least discs x
 
 -- the faces of a component: the discs of the two pairings, and the circles of each with what is joined outside
 abbrev pub faces_in : ℕ → (ℕ → Bool) → (ℕ → Bool) → List (ℕ × ℕ) → List (ℕ × ℕ) → List (ℕ × ℕ) → ℕ → ℕ
 faces_in n ends starts m k w name =
-    let all = components n m k w in
+    let all = surface_components n m k w in
     count_in n all name (is_disc ends starts (classes_of n (m ++ k)))
     + (parts_in n all name (classes_of n (m ++ w)) + parts_in n all name (classes_of n (k ++ w)))
 
 -- its strips: half its open points, which are its ends
 abbrev pub strips_in : ℕ → (ℕ → Bool) → List (ℕ × ℕ) → List (ℕ × ℕ) → List (ℕ × ℕ) → ℕ → ℕ
-strips_in n ends m k w name = count_in n (components n m k w) name ends
+strips_in n ends m k w name = count_in n (surface_components n m k w) name ends

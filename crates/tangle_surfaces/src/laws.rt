@@ -2,38 +2,38 @@
 
 ghost use Rattle.std.specs.Prelude.{◌≡◌, ℕ, ◌+◌, ◌*◌, ◌<◌, ◌≤◌, List, [], ◌++◌, length, Bool, true, false, ◌&&◌, IsTrue, slice_index, slice_index_or};
 ghost use Rattle.kh_types.specs.Acceptance.{accepted};
-ghost use Rattle.kh_types.specs.Bits.{bit};
+ghost use Rattle.kh_types.specs.Bits.{one_if};
 ghost use Rattle.kh_types.specs.Code.{Code, arc_count, arc_in};
 ghost use Rattle.kh_types.specs.Classes.{classes_of, is_least, AreBelow};
 ghost use Rattle.kh_types.specs.Circles.{smoothing_of};
 ghost use Rattle.kh_types.specs.Colours.{IsColoured};
 ghost use Rattle.kh_types.specs.Permutations.{IsPermutation, IsExchange, cycles_of};
-ghost use Rattle.tangle_surfaces.specs.Orbits.{orbits_of, parts_in, cycles_in, size_in, count_in, is_in, one_if, HasGenus};
-ghost use Rattle.tangle_surfaces.specs.Surfaces.{IsSurface, Lead, other_than, components, faces_in, strips_in, is_open};
-ghost use Rattle.tangle_surfaces.specs.Pairings.{JoinOpen, joins_of, JoinOpenAlone, is_closed};
+ghost use Rattle.tangle_surfaces.specs.Orbits.{orbits_of, parts_in, cycles_in, size_in, count_in, is_in, HaveWholeGenus};
+ghost use Rattle.tangle_surfaces.specs.Surfaces.{IsSurface, Lead, other_than, surface_components, faces_in, strips_in, ends_or_starts};
+ghost use Rattle.tangle_surfaces.specs.Pairings.{JoinOpen, JoinOpenAlone, is_closed_circle};
 ghost use Rattle.tangle_surfaces.specs.Saddles.{saddle_components, side_faces};
-ghost use Rattle.tangle_surfaces.specs.CutCodes.{is_alive, ends_there, starts_there, outer_smoothings};
+ghost use Rattle.tangle_surfaces.specs.CutCodes.{ends_there, starts_there, outer_smoothings};
 
 /// Two permutations, on each orbit of both: the cycles of the one, of the other, and of the one
-/// behind which the other leads back, are the size of the orbit and 2, less an even number.
+/// after which the other leads back, are the size of the orbit and 2, less an even number.
 pub fn orbits_have_a_genus()
     ensures { (n : ℕ) (f f_back g g_back : ℕ → ℕ) → IsPermutation n f f_back → IsPermutation n g g_back
         → (name : ℕ) → name < n → slice_index (orbits_of n f g) name ≡ name
-        → HasGenus (cycles_in n f f_back g name) (size_in n (orbits_of n f g) name) }
+        → HaveWholeGenus (cycles_in n f f_back g name) (size_in n (orbits_of n f g) name) }
 {}
 
 /// Two pairings of open points and what is joined outside: each component has a genus, and its open
 /// points are twice its strips.
 pub fn surfaces_have_a_genus()
     ensures genus { (n : ℕ) (ends starts : ℕ → Bool) (m k w : List (ℕ × ℕ)) → IsSurface n ends starts m k w
-        → (name : ℕ) → name < n → slice_index (components n m k w) name ≡ name
-        → HasGenus (faces_in n ends starts m k w name) (strips_in n ends m k w name) }
+        → (name : ℕ) → name < n → slice_index (surface_components n m k w) name ≡ name
+        → HaveWholeGenus (faces_in n ends starts m k w name) (strips_in n ends m k w name) }
     ensures strips { (n : ℕ) (ends starts : ℕ → Bool) (m k w : List (ℕ × ℕ)) → IsSurface n ends starts m k w
-        → (name : ℕ) → count_in n (components n m k w) name (is_open ends starts) ≡ 2 * strips_in n ends m k w name }
+        → (name : ℕ) → count_in n (surface_components n m k w) name (ends_or_starts ends starts) ≡ 2 * strips_in n ends m k w name }
 {}
 
-/// An accepted code, cut behind its first k crossings: the arcs have two colours, so that what the
-/// crossings behind join in any state leads from arcs that do not end inside alone to arcs that do
+/// An accepted code, cut after k crossings: the arcs have two colours, so that what the crossings
+/// still to come join in any state leads from arcs that do not end inside alone to arcs that do
 /// not start inside alone, and no arc is open at both.
 pub fn codes_lead_outside()
     ensures leads { (code : Code) (choice k state : ℕ) → IsTrue (accepted code) → IsColoured code.crossings choice
@@ -53,7 +53,7 @@ pub fn new_pairings_lead()
         → Lead (arc_count code.crossings + code.loops + 1) (ends_there code.crossings choice k)
         (starts_there code.crossings choice k) m
         → JoinOpen (arc_count code.crossings + code.loops + 1)
-        (is_open (ends_there code.crossings choice (k + 1)) (starts_there code.crossings choice (k + 1)))
+        (ends_or_starts (ends_there code.crossings choice (k + 1)) (starts_there code.crossings choice (k + 1)))
         (classes_of (arc_count code.crossings + code.loops + 1)
         (m ++ smoothing_of smoothing (slice_index_or code.crossings k []))) pairs
         → Lead (arc_count code.crossings + code.loops + 1) (ends_there code.crossings choice (k + 1))
@@ -67,14 +67,8 @@ pub fn compositions_are_surfaces()
         → Lead n ends starts m → Lead n ends starts k → Lead n ends starts l → IsSurface n ends starts m k l }
 {}
 
-/// There are pairs that join the open points of each class.
-pub fn open_points_are_joined()
-    ensures { (n : ℕ) (opened : ℕ → Bool) (classes : List ℕ)
-        → JoinOpen n opened classes (joins_of n opened classes) }
-{}
-
-/// Two pairings of what is open behind the first k crossings, with the crossings behind in any
-/// state: a surface.
+/// Two pairings of what is open after k crossings, with the crossings still to come in any state: a
+/// surface.
 pub fn cut_codes_are_surfaces()
     ensures { (code : Code) (choice k state : ℕ) (m l : List (ℕ × ℕ)) → IsTrue (accepted code)
         → IsColoured code.crossings choice → k ≤ length code.crossings
@@ -86,8 +80,8 @@ pub fn cut_codes_are_surfaces()
         (starts_there code.crossings choice k) m l (outer_smoothings code.crossings state k) }
 {}
 
-/// Two pairings of what is open behind the first k crossings, with the next crossing smoothed and a
-/// pairing of what is open behind that: a surface, of which a term's new coefficient is counted.
+/// Two pairings of what is open after k crossings, with the next crossing smoothed and a pairing of
+/// what is open after that: a surface, of which a term's new coefficient is counted.
 pub fn added_crossings_are_surfaces()
     ensures { (code : Code) (choice k smoothing : ℕ) (m l pairs : List (ℕ × ℕ)) → IsColoured code.crossings choice
         → k < length code.crossings
@@ -111,12 +105,13 @@ pub fn circles_are_glued()
         → ((x : ℕ) → x < n
         → slice_index all (slice_index (classes_of n (xs ++ ys)) x) ≡ slice_index all x)
         → parts_in n all name (classes_of n (xs ++ ys))
-        ≡ count_in n all name (is_closed n opened (classes_of n xs))
+        ≡ count_in n all name (is_closed_circle n opened (classes_of n xs))
         + count_in n all name (λ x. opened x && is_least (classes_of n (m ++ ys)) x) }
 {}
 
-/// Before the first crossing no arc is open, and no pairs are its pairing; behind the last crossing
-/// no arc is open either.
+/// Before the first crossing no arc is open, and no pairs are its pairing; after the last crossing
+/// no arc is open either. (Nothing stands on this law: it shows what `ends_there` and `starts_there`
+/// say where a cut is before or after all crossings.)
 pub fn nothing_is_open_at_either_end()
     ensures first { (crossings : List (List ℕ)) (choice n : ℕ)
         → Lead n (ends_there crossings choice 0) (starts_there crossings choice 0) [] }
@@ -151,29 +146,10 @@ pub fn saddles_have_no_genus()
         let t = smoothing_of 1 slots in
         let all = saddle_components n m s t in
         Lead n (ends_there code.crossings choice k) (starts_there code.crossings choice k) m
-        → JoinOpen n (is_open ends starts) (classes_of n (m ++ s)) m0
-        → JoinOpen n (is_open ends starts) (classes_of n (m ++ t)) m1
+        → JoinOpen n (ends_or_starts ends starts) (classes_of n (m ++ s)) m0
+        → JoinOpen n (ends_or_starts ends starts) (classes_of n (m ++ t)) m1
         → (name : ℕ) → name < n → slice_index all name ≡ name
         → side_faces n ends starts all (classes_of n (m ++ s)) m0 m1 name
         + side_faces n ends starts all (classes_of n (m ++ t)) m1 m1 name
         ≡ 2 + one_if (is_in all name (arc_in slots 0)) }
-{}
-
-/// With one crossing more, at any state, in each class of whatever is coarser: the circles of a
-/// pairing are the closed circles, and the circles of the new pairing.
-pub fn added_crossings_keep_circles()
-    ensures { (code : Code) (choice k state : ℕ) (m pairs : List (ℕ × ℕ)) (all : List ℕ) (name : ℕ)
-        → IsTrue (accepted code) → IsColoured code.crossings choice → k < length code.crossings
-        → let n = arc_count code.crossings + code.loops + 1 in
-        let inside = classes_of n (m ++ smoothing_of (bit state k) (slice_index_or code.crossings k [])) in
-        let alive = is_alive code.crossings choice (k + 1) in
-        let circles = classes_of n (m ++ outer_smoothings code.crossings state k) in
-        let new_circles = classes_of n (pairs ++ outer_smoothings code.crossings state (k + 1)) in
-        Lead n (ends_there code.crossings choice k) (starts_there code.crossings choice k) m
-        → JoinOpen n (is_open (ends_there code.crossings choice (k + 1)) (starts_there code.crossings choice (k + 1)))
-        inside pairs
-        → ((x : ℕ) → x < n → slice_index all (slice_index circles x) ≡ slice_index all x)
-        → parts_in n all name circles
-        ≡ count_in n all name (is_closed n alive inside)
-        + count_in n all name (λ x. alive x && is_least new_circles x) }
 {}

@@ -3,7 +3,8 @@ use Rattle.std.proofs.Common.{◌≡◌, ◌≢◌, ℕ, Bool, true, false, ◌+
 use Rattle.std.proofs.lemmas.Bool.{ltb-true, ltb-false, leb-true, leb-false}
 use native.Mathlib.Decide.{ℕ_discrete}
 use mathlib.Core.Logic.{dite}
-use Rattle.version_lock.specs.Places.{Each, IsAscending, copies, one_if, inserted, merged_places, longer}
+use Rattle.kh_types.specs.Bits.{one_if}
+use Rattle.version_lock.specs.Places.{Each, IsAscending, copies, inserted, merged_places, longer}
 use Rattle.kh_types.proofs.Prefixes.{prefix_shorter}
 use mathlib.Core.List.{IsPrefix}
 use Rattle.version_lock.proofs.Sums.{Each-map}

@@ -4,7 +4,8 @@ use Rattle.std.specs.List.{range_with_len}
 use Rattle.std.proofs.lemmas.List.FromFn.{length-range_with_len}
 use mathlib.Core.Logic.{dite}
 use native.Mathlib.Decide.{ℕ_discrete, dec_le}
-use Rattle.version_lock.specs.Places.{IsAscending, copies, one_if, merged_places}
+use Rattle.kh_types.specs.Bits.{one_if}
+use Rattle.version_lock.specs.Places.{IsAscending, copies, merged_places}
 use Rattle.version_lock.proofs.Sums.{Each-map}
 use Rattle.version_lock.proofs.Merging.{copies-none, length-merged_places}
 

@@ -13,6 +13,7 @@ use Rattle.std.proofs.lemmas.Bool.{leb-true, leb-false}
 use native.Mathlib.Decide.{dec_le}
 use Rattle.std.specs.List.{range_with_len}
 use Rattle.version_lock.proofs.Places.{places_are}
+use Rattle.kh_types.specs.Bits.{one_if}
 use Rattle.version_lock.specs.Places.{longer}
 use Rattle.version_lock.specs.Views.{kept_view, given_view, joined_view}
 use Rattle.version_lock.proofs.Merging.{Each-merged_places, copies-merged_places, copies-none, IsAscending-merged_places}
@@ -26,7 +27,7 @@ use prog.Atomic.{either}
 use Rattle.atomic_table.specs.Table.{State, Me, Act, opening, step, keeps, takes, gives, stepped, Allows, Splits, Joins, Final, Seen, Valid, carried_after}
 use Rattle.atomic_table.proofs.Lists.{at_set, set_again, set_else, at_snoc, exchanged}
 use Rattle.version_lock.specs.declared.rule.View.{View}
-use Rattle.version_lock.specs.Places.{total, Each, IsAscending, copies, one_if}
+use Rattle.version_lock.specs.Places.{total, Each, IsAscending, copies}
 use Rattle.version_lock.specs.Views.{opening_view, one_held, latest, spent, holding, grown, freed}
 use Rattle.version_lock.specs.Rule.{turn_of, share_of, owns, Knows, Dealt, IsAtHome, LockRule}
 use Rattle.version_lock.specs.Steps.{tried, measured, committed, released, withdrawn, affirmed}

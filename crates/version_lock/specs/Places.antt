@@ -1,5 +1,6 @@
 -- Lists of places in a history, counted from 0, and sums over lists. The rule is this project's.
-use Rattle.std.specs.Prelude.{ℕ, Bool, true, false, ◌+◌, ◌<◌, List, [], ◌∷◌, length, if◌then◌else◌, nat_eq, nat_lt, nat_le}
+use Rattle.std.specs.Prelude.{ℕ, ◌+◌, ◌<◌, List, [], ◌∷◌, length, if◌then◌else◌, nat_eq, nat_lt, nat_le}
+use Rattle.kh_types.specs.Bits.{one_if}
 
 -- the sum of the number f of each
 abbrev pub total : {A : Type 0} → (A → ℕ) → List A → ℕ
@@ -15,10 +16,6 @@ Each P (x ∷ xs) = P x × Each P xs
 abbrev pub IsAscending : List ℕ → Type 0
 IsAscending [] = Unit {0}
 IsAscending (x ∷ xs) = Each (λ y. x < y) xs × IsAscending xs
-
-abbrev pub one_if : Bool → ℕ
-one_if true = 1
-one_if false = 0
 
 -- how often the place stands in the list
 abbrev pub copies : ℕ → List ℕ → ℕ

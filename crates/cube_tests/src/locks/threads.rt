@@ -1,6 +1,6 @@
 //! Two threads that add numbers to one list under a lock.
 ghost use Rattle.std.specs.Prelude.{◌≡◌, ◌+◌, ◌≤◌, ◌<◌, ◌^◌, [], length, IfOk};
-ghost use Rattle.version_lock.specs.Places.{one_if};
+ghost use Rattle.kh_types.specs.Bits.{one_if};
 ghost use Rattle.version_lock.specs.Calls.{IsSeatOf};
 
 use super::numbers::{Addition, Looks, Numbers};

@@ -1,14 +1,10 @@
 use Rattle.added_crossings.specs.Codes.{closed_at, circles_behind}
 use Rattle.added_crossings.specs.Entries.{label_before}
 use Rattle.added_crossings.proofs.Labels.{bit-below, number_of-below}
-use Rattle.added_crossings.proofs.SplitLabels.{labels-determined}
 use Rattle.added_crossings.proofs.laws.labels_split.Goals as goal
 
 pub returns : goal.returns
-returns c = record {
-  below = λ code k smoothing state number m. (
-    number_of-below (label_before code k smoothing state m number) (closed_at code k smoothing m) (λ x. bit-below number _),
-    number_of-below (label_before code k smoothing state m number) (circles_behind code k smoothing state m) (λ x. bit-below number _),
-  );
-  determined = labels-determined;
-}
+returns c = λ code k smoothing state number m. (
+  number_of-below (label_before code k smoothing state m number) (closed_at code k smoothing m) (λ x. bit-below number _),
+  number_of-below (label_before code k smoothing state m number) (circles_behind code k smoothing state m) (λ x. bit-below number _),
+)

@@ -2,7 +2,7 @@ use Rattle.std.proofs.Common.{◌∷◌, [], subst}
 use Rattle.std.proofs.lemmas.Result.{on_ok_weaker}
 use Rattle.dotted_maps.specs.Maps.{scaled}
 use Rattle.tangle_maps.specs.Seams.{seam_listed}
-use Rattle.tangle_maps.specs.Sums.{IsSum, term_of}
+use Rattle.tangle_maps.specs.Sums.{IsSum, dotted_term}
 use Rattle.crossing_maps.proofs.NewLemmas.{AreReduced_one, saddle_made}
 use Rattle.crossing_maps.proofs.terms.add_saddle.Goals as goal
 
@@ -20,7 +20,7 @@ returns-clause-sum g c = λ code k m label other are is.
     (λ sum. saddle_made g.F.PrimeField.P (g.F.PrimeField.value_of c.args.sign) code k m label other c.args.seam.now c.args.marks
     c.args.terms.now.items c.add_all.new.terms.items are is
     (subst (λ t. IsSum g.F.PrimeField.P c.args.terms.now.items
-    (scaled (g.F.PrimeField.value_of c.args.sign) (seam_listed c.args.seam.now (term_of 0 1 ∷ []) (t ∷ []))) c.add_all.new.terms.items)
+    (scaled (g.F.PrimeField.value_of c.args.sign) (seam_listed c.args.seam.now (dotted_term 0 1 ∷ []) (t ∷ []))) c.add_all.new.terms.items)
     c.dotted.ensures
     (subst (λ t. IsSum g.F.PrimeField.P c.args.terms.now.items
     (scaled (g.F.PrimeField.value_of c.args.sign) (seam_listed c.args.seam.now (t ∷ []) (c.dotted.result ∷ []))) c.add_all.new.terms.items)

@@ -1,6 +1,6 @@
 use Rattle.std.proofs.Common.{subst}
 use Rattle.kh_types.specs.WorkedCodes.{trefoil}
-use Rattle.added_crossings.specs.Pairings.{IsPaired}
+use Rattle.added_crossings.specs.Pairings.{IsPairingOf}
 use Rattle.tangle_maps.specs.Pairings.{joins_of}
 use Rattle.crossing_maps.proofs.Composable.{slots-numbered}
 use Rattle.crossing_maps.proofs.PairedPartners.{partners-paired}
@@ -24,7 +24,7 @@ returns c =
     let place = trefoil-place c.args.place c.requires.place in
     let site = c.requires.site in
     let pairs = joins_of c.args.pairing.now.partners c.args.site.now.opened.now in
-    let paired = subst (λ xs. IsPaired xs pairs) site.before
+    let paired = subst (λ xs. IsPairingOf xs pairs) site.before
     (partners-paired c.args.pairing.now.partners c.args.site.now.opened.now c.requires.arcs c.args.pairing.now.paired) in
     record {
       among = paired.among;

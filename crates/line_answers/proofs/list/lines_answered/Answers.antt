@@ -17,8 +17,8 @@ returns-in_err-write_all g c =
     (IsListRun-unbegun (g.A.Answering.answers c.args.answering.now) c.args.fields.now
     (seen (g.S.Source.left c.args.source.now) (g.S.Source.faults c.args.source.now))
     (seen (g.K.Sink.written c.args.sink.now) (g.K.Sink.faults c.args.sink.now))
-    (seen (g.K.Sink.written c.write_all.new.sink) (g.K.Sink.faults c.write_all.new.sink)) part.0
-    (subst (λ (l : List ℕ). Appends (g.K.Sink.written c.args.sink.now) (g.K.Sink.written c.write_all.new.sink) (take part.0 l)) c.as_bytes.ensures.value part.1)
+    (seen (g.K.Sink.written c.write_all.new.sink) (g.K.Sink.faults c.write_all.new.sink)) part.count
+    (subst (λ (l : List ℕ). Appends (g.K.Sink.written c.args.sink.now) (g.K.Sink.written c.write_all.new.sink) (take part.count l)) c.as_bytes.ensures.value part.written)
     c.in_err-write_all.ensures.cause.failed)
 
 -- before the first line of the list
