@@ -2,6 +2,8 @@
 
 What a run writes is proved (docs/THEOREM.md); that this module hands it on unchanged is not.
 """
+from __future__ import annotations
+
 import atexit
 import contextlib
 import os

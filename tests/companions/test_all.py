@@ -14,7 +14,7 @@ from shared.places import TOP
 from shared.scanning import scan_of
 
 COMPANIONS = (
-    "tabulation show page page_server page_browser scan pages reference checked code_forms spoken shortening scripts".split()
+    "tabulation show page page_server page_browser scan pages reference checked code_forms spoken shortening cones scripts".split()
 )
 BUILT = os.path.join(TOP, "crates", "kh_main", "out", "kh_main")
 PROGRAM = os.path.abspath(os.environ.get("KH_PROGRAM", BUILT))
@@ -32,7 +32,8 @@ def plain_surroundings():
 def told(program, row, fault):
     """A row that has failed, whole."""
     given = bytes(row.given[:2_000]).decode(errors="replace")
-    return f"{row.name}\nwords:  {program} {row.words}\ninput:  {given}\nwanted: status {row.status}, {row.wrote[:2_000]!r}\ngot:    {fault}"
+    asked = f"words:  {program} {row.words}\ninput:  {given}"
+    return f"{row.name}\n{asked}\nwanted: status {row.status}, {row.wrote[:2_000]!r}\ngot:    {fault}"
 
 
 def check(program, row):

@@ -17,6 +17,13 @@ def test_types():
     assert came.returncode == 0, came.stdout
 
 
+def test_what_installs_the_rest_says_what_it_does():
+    path = os.path.join(TOP, "tools", "for-tests")
+    came = subprocess.run([path, "--help"], capture_output=True, text=True, timeout=60)
+    assert came.returncode == 0 and "tools/for-tests [all]" in came.stdout and not came.stderr
+    assert subprocess.run([path, "everything"], capture_output=True, timeout=60).returncode == 1
+
+
 def installed(folder):
     """The package as pip installs it into a folder, without the net."""
     words = [sys.executable, "-m", "pip", "install", "--quiet", "--no-build-isolation", "--no-index", "--no-deps", "--target", folder, TOP]
@@ -39,4 +46,6 @@ def test_it_is_installed_with_all_that_it_needs(tmp_path):
     assert came.returncode == 0, came.stderr
     place, version, code, agrees = came.stdout.splitlines()
     assert place.startswith(folder) and version and code.startswith("PD[") and "Knot Atlas" in code and agrees == "True"
+    codes = subprocess.run([os.path.join(folder, "bin", "kh-codes"), "--link", "3_1"], capture_output=True, text=True, env=settings)
+    assert codes.stdout == "PD[X[4, 2, 5, 1], X[2, 6, 3, 5], X[6, 4, 1, 3]]\n"
     assert os.path.exists(os.path.join(folder, "kh", "py.typed")) and os.path.exists(os.path.join(folder, "kh", "show", "page_style.css"))
