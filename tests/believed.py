@@ -89,6 +89,11 @@ def with_sizes(page):
     return LINES.sub(lambda it: f"[{size_of('HasWrittenHomology')[1]} lines{it[1] or ''}]({it[2] or ''}STATEMENT.md)", page)
 
 
+def unnamed(page):
+    """The laws among the statements that a page does not name."""
+    return [it.partition("::")[2] for it in STATEMENTS if " " not in it and f"`{it.partition('::')[2]}`" not in page]
+
+
 def statement_page():
     """The page that `tools/statement` writes."""
     loader = importlib.machinery.SourceFileLoader("statement", os.path.join(TOP, "tools", "statement"))
@@ -99,6 +104,7 @@ def statement_page():
 
 def faults(read):
     """The name of each rule, and what breaks it, if anything does."""
+    yield "README.md names the laws whose cone DEFINITIONS.md has", ", ".join(unnamed(read("README.md"))) or None
     page = read("docs", "DEFINITIONS.md")
     yield "DEFINITIONS.md has the cone of what README.md claims", ", ".join(wrong_names(page)) or None
     yield "DEFINITIONS.md has each definition behind those that it rests on", ", ".join(early_names(page)) or None
