@@ -14,15 +14,12 @@ import drawn.inputs
 import plain.answers
 import plain.codes
 from companions import scripts
+from kh.codes import explain, pointing, refusals
 from plain.codes import LIMIT, REFUSED
 from rows import said
 from rows.texts import CHECK, HOMOLOGY, JONES, TREFOIL, curls
 from shared.places import TOP
 from shared.running import PATIENCE
-
-sys.path.append(os.path.join(TOP, "tools"))
-import explain
-from kh.codes import pointing, refusals
 
 FILE, COLUMNS = "code", 100
 DRAWN = 300
@@ -317,7 +314,7 @@ def drawn_faults():
 
 def page_faults():
     """The pages and headings are there that are named."""
-    for path in (("tools", "kh-help"), ("tools", "explain.py"), ("python", "kh", "codes", "refusals.py")):
+    for path in (("tools", "kh-help"), ("python", "kh", "codes", "explain.py"), ("python", "kh", "codes", "refusals.py")):
         with open(os.path.join(TOP, *path), encoding="utf-8") as file:
             named = set(PAGE.findall(file.read().replace('\\"', '"')))
         for page, heading in sorted(named):
