@@ -6,7 +6,6 @@ import random
 import re
 import shutil
 import subprocess
-import sys
 import tempfile
 from unittest import mock
 
