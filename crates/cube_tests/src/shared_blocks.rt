@@ -1,9 +1,10 @@
 //! Blocks with histories: that the calls succeed where there is memory, and worked blocks.
 
-use cancel_step::Pivot;
+mod foreign_patches;
+
 use cube_signs::{block_degrees, check_size};
 use kh_types::NoMemory;
-use known_links::{FIGURE_EIGHT, HOPF, TREFOIL, diagram_of};
+use known_links::{HOPF, TREFOIL, diagram_of};
 use prime_field::{F2, F3, F5, F7, PrimeField};
 use shared_block::{CommitAnswer, SharedBlock, blocks_of};
 use std::alloc::Global;
@@ -114,108 +115,6 @@ fn total<F: PrimeField>(rt: &impl Abort, block: &SharedBlock<F>) -> u32 {
         sum = sum.saturating_add(block.dim(i));
     }
     sum
-}
-
-/// The first pivot of a block of the figure eight, whose block stands at this place among its
-/// blocks: its degree; and for each block the least column at which its patch shows as foreign.
-struct Handed {
-    place: usize,
-    degree: i16,
-    columns: [u32; 6],
-}
-
-/// The blocks from -3 to 3: those at -5 and at 5 have one generator each, and no pivot. What is
-/// copied for a pivot, and where it differs, was found by `tests/plain/cube.py` and ten lines that
-/// compare; at a block's own place nothing differs, and 9 stands for no column.
-const HANDED: &[Handed] = &[
-    Handed {
-        place: 1,
-        degree: -1,
-        columns: [2, 9, 0, 0, 2, 2],
-    },
-    Handed {
-        place: 2,
-        degree: 1,
-        columns: [0, 0, 9, 0, 0, 0],
-    },
-    Handed {
-        place: 3,
-        degree: 1,
-        columns: [0, 0, 0, 9, 0, 0],
-    },
-    Handed {
-        place: 4,
-        degree: 1,
-        columns: [0, 0, 0, 0, 9, 0],
-    },
-];
-
-/// How many turns each of these blocks takes over two elements: the sum of its ranks, by
-/// `tests/plain/cube.py`.
-const TURNS: [u64; 6] = [0, 3, 11, 11, 3, 0];
-
-#[test]
-fn patches_are_foreign_to_all_other_blocks(rt: HostRuntime) -> Result<(), Fail> {
-    let alloc = rt.alloc();
-    let diagram = diagram_of(FIGURE_EIGHT, 0)?;
-    check_size(&diagram)?;
-    let mut blocks = blocks_of(alloc, &diagram)?;
-    assert!(rt; blocks.len() == TURNS.len());
-    for handed in HANDED {
-        for place in 0..TURNS.len() {
-            if place != handed.place {
-                hand_over(&rt, alloc, &mut blocks, handed, place)?;
-            }
-        }
-    }
-    for place in 0..TURNS.len().min(blocks.len()) {
-        assert!(rt; take_turns(&rt, alloc, &mut blocks[place])? == TURNS[place]);
-        has_no_pivot(&rt, alloc, &mut blocks[place])?;
-    }
-    Ok(())
-}
-
-/// Hands a patch of a block to the block at another place, which it leaves as it is.
-fn hand_over(
-    rt: &impl Abort,
-    alloc: Global,
-    blocks: &mut [SharedBlock<F2>],
-    handed: &Handed,
-    place: usize,
-) -> Result<(), Fail> {
-    if handed.place < blocks.len() && place < blocks.len() && place < handed.columns.len() {
-        let look = blocks[handed.place].look(alloc, 0)?;
-        assert!(rt; look.is_some());
-        if let Some(look) = look {
-            let patch = look.patch(alloc)?;
-            let alive = blocks[place].alive();
-            let foreign = CommitAnswer::Foreign {
-                degree: handed.degree,
-                column: handed.columns[place],
-            };
-            assert!(rt; blocks[place].commit(patch) == foreign);
-            assert!(rt; blocks[place].version() == 0 && blocks[place].alive() == alive);
-        }
-    }
-    Ok(())
-}
-
-/// In a block that is cancelled to zero no entry is found, and none is where its last pivot was or
-/// where others are.
-fn has_no_pivot(rt: &impl Abort, alloc: Global, block: &mut SharedBlock<F2>) -> Result<(), Fail> {
-    assert!(rt; block.look(alloc, 0)?.is_none());
-    let other = Pivot {
-        degree: 0,
-        column: 0,
-        row: 0,
-    };
-    let last = block.history().last().copied().unwrap_or(other);
-    let version = block.version();
-    let mut scratch = Vec::new(alloc);
-    assert!(rt; !block.cancel_at(&mut scratch, last)?);
-    assert!(rt; !block.cancel_at(&mut scratch, other)?);
-    assert!(rt; block.version() == version);
-    Ok(())
 }
 
 #[test]

@@ -9,7 +9,7 @@ ghost use Rattle.sparse_block.specs.Worked.{worked_columns, worked_complex, work
 use crate::made_complexes::{Columns, NONE, labels, lines, name};
 use kh_types::NoMemory;
 use prime_field::{F3, F5, PrimeField};
-use sparse_block::{ColumnComplex, Complex, Entry, Generator};
+use sparse_block::{ColumnComplex, Complex, Entry, Generator, build};
 use std::alloc::Global;
 use std::test::Fail;
 
@@ -51,6 +51,20 @@ fn worked<F: PrimeField>(alloc: Global, last: [u8; 3]) -> Result<Complex<F>, NoM
     ColumnComplex::new(-1, names, columns).build(alloc)
 }
 
+/// The same complex, made by `build` alone.
+fn worked_at_once<F: PrimeField>(alloc: Global, last: [u8; 3]) -> Result<Complex<F>, NoMemory>
+    requires entries { HaveEntries F.P worked_names
+        (worked_columns (slice_index last 0) (slice_index last 1) (slice_index last 2)) }
+    requires squares { SquaresToZero F.P
+        (worked_complex (slice_index last 0) (slice_index last 1) (slice_index last 2)).complex }
+    ensures { IfOk result (λ made.
+        made ≡ worked_complex (slice_index last 0) (slice_index last 1) (slice_index last 2)) }
+{
+    let names = names(alloc)?;
+    let columns = columns(alloc, last)?;
+    build(alloc, -1, names, columns)
+}
+
 fn over_three(alloc: Global) -> Result<Complex<F3>, NoMemory>
     ensures { IfOk result (λ made. made ≡ worked_complex 2 1 1) }
 {
@@ -61,6 +75,12 @@ fn over_five(alloc: Global) -> Result<Complex<F5>, NoMemory>
     ensures { IfOk result (λ made. made ≡ worked_complex 2 3 1) }
 {
     worked(alloc, [2, 3, 1])
+}
+
+fn over_five_at_once(alloc: Global) -> Result<Complex<F5>, NoMemory>
+    ensures { IfOk result (λ made. made ≡ worked_complex 2 3 1) }
+{
+    worked_at_once(alloc, [2, 3, 1])
 }
 
 /// The complex with one place, at degree 7.
@@ -158,6 +178,7 @@ fn rows_have_the_same_entries(rt: HostRuntime) -> Result<(), Fail> {
 #[test]
 fn entries_are_those_of_the_matrices(rt: HostRuntime) -> Result<(), Fail> {
     let complex = over_five(rt.alloc())?;
+    let at_once = over_five_at_once(rt.alloc())?;
     for (i, row, entries) in [
         (-1, 0, [1, 0, 1, 1, 0, 1]),
         (-1, 1, [1, 1, 1, 1, 1, 1]),
@@ -166,6 +187,24 @@ fn entries_are_those_of_the_matrices(rt: HostRuntime) -> Result<(), Fail> {
         (1, 0, [9, 9, 9, 9, 9, 9]),
     ] {
         assert!(rt; numbers(&complex, i, row) == entries);
+        assert!(rt; numbers(&at_once, i, row) == entries);
+    }
+    Ok(())
+}
+
+/// `build` makes of names and columns what comes of them by way of `ColumnComplex`.
+#[test]
+fn both_ways_make_one_complex(rt: HostRuntime) -> Result<(), Fail> {
+    let complex = over_five(rt.alloc())?;
+    let at_once = over_five_at_once(rt.alloc())?;
+    assert!(rt; at_once.low() == complex.low() && at_once.high() == complex.high());
+    for i in -3..=4i16 {
+        for place in 0..7u32 {
+            assert!(rt; at_once.is_alive(i, place) == complex.is_alive(i, place));
+            assert!(rt; name_at(&at_once, i, place) == name_at(&complex, i, place));
+            assert!(rt; column_at(&at_once, i, place) == column_at(&complex, i, place));
+            assert!(rt; row_at(&at_once, i, place) == row_at(&complex, i, place));
+        }
     }
     Ok(())
 }

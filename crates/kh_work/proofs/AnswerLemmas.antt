@@ -7,7 +7,7 @@ use Rattle.std.proofs.Common.{◌≡◌, ◌≤◌, ◌<◌, ◌++◌, ℕ, List
 use Rattle.std.specs.declared.option.Option.{Option}
 use Rattle.kh_types.specs.declared.limits.TheConstants.{INPUT_BYTES}
 use Rattle.kh_types.specs.Code.{Code}
-use Rattle.std.specs.Prelude.{false, is_none, nat_lt, unwrap_or, IsTrue}
+use Rattle.std.specs.Prelude.{false, is_none, nat_lt, unwrap_or, IfSome, IsTrue}
 use Rattle.std.proofs.lemmas.Grind.{common_steps}
 use Rattle.kh_types.specs.Acceptance.{accepted, first_fault}
 use Rattle.kh_types.specs.Table.{table, table_text}
@@ -22,7 +22,8 @@ use Rattle.word_line.proofs.Readings.{IsCommand-one}
 use Rattle.kh_replies.specs.declared.status.Status.TheVariants.{Done}
 use Rattle.kh_work.specs.ByteLimits.{byte_limit}
 use Rattle.kh_replies.specs.Replies.{Reply, reply_of}
-use Rattle.kh_replies.specs.Refusals.{usage, too_large_number}
+use Rattle.kh_replies.specs.LimitedReplies.{IsLimitedReply}
+use Rattle.kh_replies.specs.Refusals.{usage, too_large_number, too_many_bytes}
 use Rattle.kh_replies.specs.Parts.{code_part, part_behind}
 use Rattle.kh_replies.specs.Inputs.{IsCodeRead}
 use Rattle.kh_replies.specs.Jones.{jones_line}
@@ -48,15 +49,17 @@ use Rattle.kh_work.specs.Answer.{IsAnswer, IsBlindReply, IsInputReply, IsOrderRe
 use Rattle.kh_work.specs.declared.draft.Draft.{Draft}
 use Rattle.kh_work.specs.Drafts.{reply_in}
 use Rattle.kh_work.specs.Runs.{IsBlindAnswer}
-use Rattle.kh_work.specs.Told.{IsKnownAnswer, IsKnownReply}
+use Rattle.kh_work.specs.Told.{AnswersOrder, AnswersWords}
 use Rattle.kh_replies.specs.Told.{IsReadOut}
+use Rattle.kh_replies.proofs.SourceAnswers.{AnswersSource-long, AnswersSource-other}
 use Rattle.kh_work.proofs.ReplyLemmas.{IsInputReply-few, cond-false, cond-true, less-false, less-true}
 
--- nothing of a source is needed where the bytes do not matter
-pub IsKnownReply-blind : (left : Option (List ℕ)) (order : Order) (reply : Reply) → IsBlindReply order reply
-    → IsKnownReply left order reply
-IsKnownReply-blind None order reply is = record { known = tt }
-IsKnownReply-blind (Some bytes) order reply is = record { known = is bytes }
+-- more bytes than an order reads are answered by the line of its limit
+pub AnswersOrder-long : (order : Order) (left : Option (List ℕ)) (reply : Reply) (limit : ℕ) → byte_limit order ≡ Some limit
+    → reply ≡ too_many_bytes limit → IfSome left (λ all. limit < length all) → AnswersOrder order left reply
+AnswersOrder-long order left reply limit reads is long =
+    AnswersSource-long (IsInputReply order) left reply limit long
+    (λ bytes more. subst (λ (l : Option ℕ). IsLimitedReply l bytes (IsOrderReply order bytes) reply) (sym reads) (inl (more, is)))
 
 -- words are answered by the order of their command, or by the usage line
 answer-command : (words : List (List ℕ)) (bytes : List ℕ) (command : Command) (order : Order) (reply : Reply) → IsCommand words command
@@ -69,18 +72,13 @@ pub IsBlindAnswer-usage : (words : List (List ℕ)) (reply : Reply) → IsUsage 
 unfolding IsAnswer
 IsBlindAnswer-usage words reply none is bytes = inr (none, is)
 
-pub IsKnownAnswer-command : {E : Type 0} (result : Result Draft E) (left : Option (List ℕ)) (words : List (List ℕ)) (command : Command)
-    (order : Order) → IsCommand words command → order ≡ order_of command → IfOk result (λ draft. IsKnownReply left order (reply_in draft))
-    → IfOk result (λ draft. IsKnownAnswer left words (reply_in draft))
-IsKnownAnswer-command (Ok draft) None words command order is_command is replied = record { known = tt }
-IsKnownAnswer-command (Ok draft) (Some bytes) words command order is_command is replied =
-    record { known = answer-command words bytes command order (reply_in draft) is_command is replied.known }
-IsKnownAnswer-command (Err stop) left words command order is_command is replied = tt
-
-pub IsKnownAnswer-blind : (left : Option (List ℕ)) (words : List (List ℕ)) (reply : Reply) → IsBlindAnswer words reply
-    → IsKnownAnswer left words reply
-IsKnownAnswer-blind None words reply is = record { known = tt }
-IsKnownAnswer-blind (Some bytes) words reply is = record { known = is bytes }
+pub AnswersWords-command : {E : Type 0} (result : Result Draft E) (left : Option (List ℕ)) (words : List (List ℕ)) (command : Command)
+    (order : Order) → IsCommand words command → order ≡ order_of command → IfOk result (λ draft. AnswersOrder order left (reply_in draft))
+    → IfOk result (λ draft. AnswersWords words left (reply_in draft))
+AnswersWords-command (Ok draft) left words command order is_command is told =
+    AnswersSource-other (IsInputReply order) (IsAnswer words) left (reply_in draft)
+    (λ bytes. answer-command words bytes command order (reply_in draft) is_command is) told
+AnswersWords-command (Err stop) left words command order is_command is told = tt
 
 pub IsBlindAnswer-command : {E : Type 0} (result : Result Draft E) (words : List (List ℕ)) (command : Command) (order : Order)
     → IsCommand words command → order ≡ order_of command → IfOk result (λ draft. IsBlindReply order (reply_in draft))

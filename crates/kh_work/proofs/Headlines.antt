@@ -1,6 +1,5 @@
 -- A run keeps the headline, since there is one answer to its words and bytes.
 use Rattle.std.proofs.Common.{◌≡◌, inl, inr, ℕ, ℤ, ◌≤◌, List, length, ◌++◌, IsTrue, refl, ap, sym, subst, ◌∙◌}
-use Rattle.std.specs.Prelude.{IfSome}
 use Rattle.std.specs.declared.option.Option.{Option}
 use Rattle.std.specs.Io.KnownBytes.{Appends}
 use Rattle.kh_types.specs.Acceptance.{accepted}
@@ -25,6 +24,7 @@ use Rattle.kh_replies.specs.Replies.{Reply, reply_of}
 use Rattle.kh_replies.proofs.TextFaults.{few_crossings-read}
 use Rattle.kh_replies.specs.Told.{Gives, Seen}
 use Rattle.kh_replies.proofs.RunLemmas.{whole-undisturbed}
+use Rattle.kh_replies.proofs.SourceAnswers.{AnswersSource-known}
 use Rattle.kh_work.specs.Runs.{IsProgramRun, IsAcceptedText, HasWrittenHomology, KeepsHeadline, request_of}
 use Rattle.kh_work.proofs.AnswerLemmas.{IsAnswer-table}
 use Rattle.kh_work.proofs.OneAnswer.{HaveOneReply-task, IsAnswer-one}
@@ -86,9 +86,8 @@ pub headline-run : (words : List (List ℕ)) (source_before source_after sink_be
 headline-run words source_before source_after sink_before sink_after same_source same_sink status is_run
     bytes command code is_bytes is_command is_homology text undisturbed =
     let whole = whole-undisturbed (request_of words) source_before source_after sink_before sink_after same_source same_sink status is_run undisturbed in
-    let Answered : Option (List ℕ) → Type 0 = λ known. IfSome known (λ all.
-    (reply : Reply) × IsAnswer words all reply × Gives reply status sink_before.bytes sink_after.bytes) in
-    let told = subst Answered is_bytes (is_run.answered whole) in
+    let told = is_run.answered whole in
+    let answer = AnswersSource-known (IsAnswer words) source_before.bytes bytes told.0 is_bytes told.1 in
     written-headline status sink_before.bytes sink_after.bytes command.field code told.0 (IsCommand-sizes words command is_command).0
     text.diagram.is_accepted (few_crossings-read bytes code text.diagram.read)
-    (headline-answer words bytes command code told.0 is_command is_homology text told.1) told.2
+    (headline-answer words bytes command code told.0 is_command is_homology text answer) told.2

@@ -1,6 +1,5 @@
 -- A run on `reduced` writes the reduced table, since there is one answer to its words and bytes.
 use Rattle.std.proofs.Common.{◌≡◌, ℕ, ◌≤◌, List, length, ◌++◌, true, IsTrue, refl, ap, subst, ◌∙◌, Some}
-use Rattle.std.specs.Prelude.{IfSome}
 use Rattle.std.specs.declared.option.Option.{Option}
 use Rattle.std.specs.Io.KnownBytes.{Appends}
 use Rattle.kh_types.specs.Acceptance.{accepted}
@@ -25,6 +24,7 @@ use Rattle.kh_work.specs.Answer.{IsAnswer}
 use Rattle.kh_work.specs.Reduced.{mark_line}
 use Rattle.kh_replies.specs.Told.{Gives, Seen}
 use Rattle.kh_replies.proofs.RunLemmas.{whole-undisturbed}
+use Rattle.kh_replies.proofs.SourceAnswers.{AnswersSource-known}
 use Rattle.kh_work.specs.Runs.{IsProgramRun, IsAcceptedText, HasWrittenReduced, KeepsReduced, request_of}
 use Rattle.kh_work.proofs.Headlines.{field-sized}
 use Rattle.kh_work.proofs.OneAnswer.{HaveOneReply-task, IsAnswer-one}
@@ -72,9 +72,8 @@ pub reduced-run : (words : List (List ℕ)) (source_before source_after sink_bef
 reduced-run words source_before source_after sink_before sink_after same_source same_sink status is_run
     bytes command mark code is_bytes is_command is_reduced is_given text marked undisturbed =
     let whole = whole-undisturbed (request_of words) source_before source_after sink_before sink_after same_source same_sink status is_run undisturbed in
-    let Answered : Option (List ℕ) → Type 0 = λ known. IfSome known (λ all.
-    (reply : Reply) × IsAnswer words all reply × Gives reply status sink_before.bytes sink_after.bytes) in
-    let told = subst Answered is_bytes (is_run.answered whole) in
+    let told = is_run.answered whole in
+    let answer = AnswersSource-known (IsAnswer words) source_before.bytes bytes told.0 is_bytes told.1 in
     written-reduced status sink_before.bytes sink_after.bytes command.field mark code told.0 (IsCommand-sizes words command is_command).0
     text.diagram.is_accepted (few_crossings-read bytes code text.diagram.read) marked
-    (reduced-answer words bytes command mark code told.0 is_command is_reduced is_given text marked told.1) told.2
+    (reduced-answer words bytes command mark code told.0 is_command is_reduced is_given text marked answer) told.2

@@ -1,15 +1,15 @@
--- What is known of an answer where the bytes of the source are. All of it is this project's rule.
+-- Which replies answer words and orders over a source, some of whose bytes may not be known. All of it is this project's rule.
 use Rattle.std.specs.Prelude.{ℕ, List}
 use Rattle.std.specs.declared.option.Option.{Option}
 use Rattle.kh_replies.specs.Replies.{Reply}
-use Rattle.kh_replies.specs.Runs.{IsKnown}
+use Rattle.kh_replies.specs.Runs.{AnswersSource}
 use Rattle.kh_work.specs.Answer.{IsAnswer, IsInputReply}
 use Rattle.kh_work.specs.declared.order.Order.{Order}
 
--- a reply is the answer to the words and the bytes that a source had left, where these are known
-abbrev pub IsKnownAnswer : Option (List ℕ) → List (List ℕ) → Reply → Type 0
-IsKnownAnswer left words reply = IsKnown (IsAnswer words) left reply
+-- a reply is an answer to words and some bytes: all that a source had left, where these are known
+abbrev pub AnswersWords : List (List ℕ) → Option (List ℕ) → Reply → Type 0
+AnswersWords words left reply = AnswersSource (IsAnswer words) left reply
 
--- a reply is that of an order to the bytes that a source had left, where these are known
-abbrev pub IsKnownReply : Option (List ℕ) → Order → Reply → Type 0
-IsKnownReply left order reply = IsKnown (IsInputReply order) left reply
+-- a reply is one of an order to some bytes: all that a source had left, where these are known
+abbrev pub AnswersOrder : Order → Option (List ℕ) → Reply → Type 0
+AnswersOrder order left reply = AnswersSource (IsInputReply order) left reply

@@ -11,7 +11,7 @@ ghost use Rattle.kh_work.specs.ByteLimits.{AreWithin, byte_limit};
 ghost use Rattle.kh_work.specs.Drafts.{AwaitsWorkers, reply_in};
 ghost use Rattle.kh_work.specs.Orders.{HasWorkers};
 ghost use Rattle.kh_work.specs.Runs.{IsBlindAnswer};
-ghost use Rattle.kh_work.specs.Told.{IsKnownAnswer, IsKnownReply};
+ghost use Rattle.kh_work.specs.Told.{AnswersOrder, AnswersWords};
 ghost use Rattle.kh_types.specs.declared.limits.TheConstants.{INPUT_BYTES, LOOPS};
 ghost use Rattle.word_line.specs.Commands.{IsUsage};
 
@@ -35,8 +35,8 @@ use word_line::{WordStop, read_words};
 /// A draft of the reply to words and a source, which is read where the words mean a command that
 /// reads. Source: this project's rule.
 pub fn draft_to<S: Source>(alloc: Global, words: &Words, source: &mut S) -> Result<Draft, ReplyStop>
-    ensures known { IfOk result (λ draft.
-        IsKnownAnswer (S.left source.old) words.now (reply_in draft)) }
+    ensures answered { IfOk result (λ draft.
+        AnswersWords words.now (S.left source.old) (reply_in draft)) }
     ensures blind { ReadsNothing words.now
         → IfOk result (λ draft. IsBlindAnswer words.now (reply_in draft)) }
     ensures workers { IfOk result AwaitsWorkers }
@@ -66,8 +66,8 @@ fn draft_to_order<S: Source>(
     source: &mut S,
 ) -> Result<Draft, ReplyStop>
     requires workers { HasWorkers order }
-    ensures known { IfOk result (λ draft.
-        IsKnownReply (S.left source.old) order (reply_in draft)) }
+    ensures answered { IfOk result (λ draft.
+        AnswersOrder order (S.left source.old) (reply_in draft)) }
     ensures blind { byte_limit order ≡ None
         → IfOk result (λ draft. IsBlindReply order (reply_in draft)) }
     ensures workers { IfOk result AwaitsWorkers }

@@ -1,4 +1,5 @@
 mod ScanAnswers
 mod ScanRuns
+mod ScanCases
 mod ListRuns
 mod SmallTables

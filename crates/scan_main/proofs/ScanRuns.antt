@@ -19,12 +19,13 @@ use Rattle.kh_replies.specs.DiagramReplies.{IsDiagramReply}
 use Rattle.kh_replies.specs.Inputs.{IsDiagramRead, IsDiagramText}
 use Rattle.kh_replies.specs.Jones.{jones_line}
 use Rattle.kh_replies.specs.Replies.{Reply, reply_of}
-use Rattle.kh_replies.specs.Runs.{IsBlind, IsKnown, IsReplied, IsWritten, status_of}
+use Rattle.kh_replies.specs.Runs.{AnswersSource, IsBlind, IsReplied, IsWritten, status_of}
 use Rattle.kh_replies.specs.Statuses.{IsReplyStatus, IsWhole}
 use Rattle.kh_replies.specs.Told.{Gives, IsReadOut, Seen}
 use Rattle.kh_replies.specs.declared.stop.ReplyStop.{ReplyStop}
 use Rattle.kh_replies.specs.declared.stop.ReplyStop.TheVariants as stops
 use Rattle.kh_replies.proofs.RunLemmas.{IsRun-written, whole-undisturbed}
+use Rattle.kh_replies.proofs.SourceAnswers.{AnswersSource-blind, AnswersSource-known, AnswersSource-other}
 use Rattle.kh_replies.proofs.TextFaults.{few_crossings-read}
 use Rattle.kh_work.specs.Homology.{homology_text}
 use Rattle.kh_work.proofs.Headlines.{headline_text, written-headline}
@@ -37,25 +38,17 @@ pub IsScanAnswer-command : (words : List (List ℕ)) (bytes : List ℕ) (field :
 unfolding IsScanAnswer
 IsScanAnswer-command words bytes field reply meant replied = inl (field, meant, replied)
 
-IsKnown-answer : (words : List (List ℕ)) (left : Option (List ℕ)) (field : ℕ) (reply : Reply)
-    → IsScanCommand words (Alone field) → IsKnown (IsScanReply field) left reply → IsKnown (IsScanAnswer words) left reply
-IsKnown-answer words None field reply meant replied = record { known = tt }
-IsKnown-answer words (Some bytes) field reply meant replied =
-    record { known = IsScanAnswer-command words bytes field reply meant replied.known }
-
-IsKnown-command : {E : Type 0} (result : Result Reply E) (words : List (List ℕ)) (left : Option (List ℕ)) (field : ℕ)
-    → IsScanCommand words (Alone field) → IfOk result (IsKnown (IsScanReply field) left) → IfOk result (IsKnown (IsScanAnswer words) left)
-IsKnown-command (Ok reply) words left field meant replied = IsKnown-answer words left field reply meant replied
-IsKnown-command (Err stop) words left field meant replied = tt
+answered-command : {E : Type 0} (result : Result Reply E) (words : List (List ℕ)) (left : Option (List ℕ)) (field : ℕ)
+    → IsScanCommand words (Alone field) → IfOk result (AnswersSource (IsScanReply field) left)
+    → IfOk result (AnswersSource (IsScanAnswer words) left)
+answered-command (Ok reply) words left field meant told =
+    AnswersSource-other (IsScanReply field) (IsScanAnswer words) left reply
+    (λ bytes. IsScanAnswer-command words bytes field reply meant) told
+answered-command (Err stop) words left field meant told = tt
 
 IsBlind-usage : (words : List (List ℕ)) (reply : Reply) → IsScanUsage words → reply ≡ scan_usage → IsBlind (IsScanAnswer words) reply
 unfolding IsScanAnswer
 IsBlind-usage words reply none is bytes = inr (none, is)
-
-IsKnown-usage : (words : List (List ℕ)) (left : Option (List ℕ)) (reply : Reply) → IsScanUsage words → reply ≡ scan_usage
-    → IsKnown (IsScanAnswer words) left reply
-IsKnown-usage words None reply none is = record { known = tt }
-IsKnown-usage words (Some bytes) reply none is = record { known = IsBlind-usage words reply none is bytes }
 
 whole-status : (status : Status) → IsReplyStatus status → IsWhole status
 whole-status Done is = tt
@@ -87,7 +80,7 @@ pub IsReplied-alone : (words : List (List ℕ)) (field : ℕ) (source_before sou
     → IsScanCommand words (Alone field) → IsReadOver field source_before source_after made
     → IsReplied (request_of words) source_before source_after same_source made
 IsReplied-alone words field source_before source_after same_source made meant read = record {
-  known = IsKnown-command made words source_before.bytes field meant read.known;
+  answered = answered-command made words source_before.bytes field meant read.answered;
   blind = λ none. absurd (none (Alone field) meant);
   whole = whole-replied made read.status;
   usage_only = usage-replied made (IsScanUsage words) read.status;
@@ -108,7 +101,7 @@ pub IsReplied-none : (words : List (List ℕ)) (source : Seen) (same_source : Ty
 IsReplied-none words source same_source word_stops.Usage (Ok reply) none is same =
     let usage_of = none refl in
     record {
-      known = IsKnown-usage words source.bytes reply usage_of is;
+      answered = AnswersSource-blind (IsScanAnswer words) source.bytes reply (IsBlind-usage words reply usage_of is);
       blind = λ _. IsBlind-usage words reply usage_of is;
       whole = subst (λ (r : Reply). IsWhole r.status) (sym is) tt;
       usage_only = λ _. usage_of;
@@ -119,7 +112,7 @@ IsReplied-none words source same_source word_stops.Usage (Ok reply) none is same
       stayed = λ _. refl;
     }
 IsReplied-none words source same_source word_stops.Usage (Err stop) none is same = record {
-  known = tt;
+  answered = tt;
   blind = λ _. tt;
   whole = tt;
   usage_only = tt;
@@ -131,7 +124,7 @@ IsReplied-none words source same_source word_stops.Usage (Err stop) none is same
 }
 IsReplied-none words source same_source word_stops.NoMemory (Ok reply) none is same = absurd is
 IsReplied-none words source same_source word_stops.NoMemory (Err stop) none is same = record {
-  known = tt;
+  answered = tt;
   blind = λ _. tt;
   whole = tt;
   usage_only = tt;
@@ -170,12 +163,11 @@ headline-run words source_before source_after sink_before sink_after same_source
     bytes field code is_bytes meant text undisturbed =
     let run = is_run.one (λ fields each. alone-or-each words field fields meant each) in
     let whole = whole-undisturbed (request_of words) source_before source_after sink_before sink_after same_source same_sink status run undisturbed in
-    let Answered : Option (List ℕ) → Type 0 = λ known. IfSome known (λ all.
-    (reply : Reply) × IsScanAnswer words all reply × Gives reply status sink_before.bytes sink_after.bytes) in
-    let told = subst Answered is_bytes (run.answered whole) in
+    let told = run.answered whole in
+    let answer = AnswersSource-known (IsScanAnswer words) source_before.bytes bytes told.0 is_bytes told.1 in
     written-headline status sink_before.bytes sink_after.bytes field code told.0 (IsScanCommand-size words field meant)
     text.is_accepted (few_crossings-read bytes code text.read)
-    (IsScanAnswer-one words bytes told.0 (reply_of Done (homology_text field code)) told.1 (table-answer words bytes field code meant text)
+    (IsScanAnswer-one words bytes told.0 (reply_of Done (homology_text field code)) answer (table-answer words bytes field code meant text)
     ∙ text-headline field code)
     told.2
 

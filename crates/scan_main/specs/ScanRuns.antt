@@ -16,7 +16,7 @@ use Rattle.kh_replies.specs.declared.status.Status.{Status}
 use Rattle.kh_replies.specs.declared.status.Status.TheVariants.{Done}
 use Rattle.kh_replies.specs.Inputs.{IsDiagramText}
 use Rattle.kh_replies.specs.Replies.{Reply}
-use Rattle.kh_replies.specs.Runs.{IsKnown, IsRun, IsWritten}
+use Rattle.kh_replies.specs.Runs.{AnswersSource, IsRun, IsWritten}
 use Rattle.kh_replies.specs.Statuses.{IsReplyStatus}
 use Rattle.kh_replies.specs.declared.stop.ReplyStop.{ReplyStop}
 use Rattle.kh_replies.specs.declared.stop.ReplyStop.TheVariants as stops
@@ -74,7 +74,7 @@ IsReplyToNone word_stops.NoMemory (Err stop) = stop ≡ stops.NoMemory
 
 -- what the reading of one input over a field has come to: a reply to all bytes of the source, or a stop
 pub record IsReadOver (field : ℕ) (source_before source_after : Seen) (made : Result Reply ReplyStop) : Type 0 where
-  pub known : IfOk made (IsKnown (IsScanReply field) source_before.bytes)
+  pub answered : IfOk made (AnswersSource (IsScanReply field) source_before.bytes)
   pub status : IfOk made (λ reply. IsReplyStatus reply.status)
   pub taken : IsTaken source_before.bytes source_after.bytes
   pub read_out : OnOk made (IsReadOut INPUT_BYTES source_before.bytes source_after.bytes)

@@ -1,22 +1,29 @@
 //! Laws of the answers of scans: each is the contract of a function that does nothing.
 
-ghost use Rattle.std.specs.Prelude.{◌≡◌, ◌≤◌, ℕ, List};
+ghost use Rattle.std.specs.Prelude.{◌≡◌, ◌<◌, ◌≤◌, ℕ, List, ◌++◌, length, Err, Ok, Some};
+ghost use Rattle.kh_types.specs.Acceptance.{first_fault};
 ghost use Rattle.kh_types.specs.Code.{Code};
+ghost use Rattle.kh_types.specs.Table.{table, table_text};
+ghost use Rattle.kh_types.specs.declared.fault.CodeFault.{CodeFault};
+ghost use Rattle.kh_types.specs.declared.limits.TheConstants.{INPUT_BYTES};
 ghost use Rattle.circle_smoothing.specs.GeneratorCounts.{generator_count};
 ghost use Rattle.circle_smoothing.specs.declared.limits.TheConstants.{GENERATORS};
 ghost use Rattle.word_line.specs.declared.command.Command.{Command};
 ghost use Rattle.word_line.specs.declared.command.Task.{Task};
 ghost use Rattle.word_line.specs.declared.scan_command.ScanCommand.TheVariants.{Alone};
 ghost use Rattle.word_line.specs.Commands.{IsCommand};
-ghost use Rattle.word_line.specs.ScanCommands.{IsScanCommand};
+ghost use Rattle.word_line.specs.ScanCommands.{IsScanCommand, IsScanUsage};
 ghost use Rattle.word_line.specs.Values.{IsFieldSize};
-ghost use Rattle.kh_replies.specs.Inputs.{IsDiagramText};
-ghost use Rattle.kh_replies.specs.Replies.{Reply};
+ghost use Rattle.kh_replies.specs.declared.status.Status.{Status};
+ghost use Rattle.kh_replies.specs.Inputs.{IsCodeRead, IsDiagramText};
+ghost use Rattle.kh_replies.specs.Jones.{jones_line};
+ghost use Rattle.kh_replies.specs.Refusals.{IsFaultRefusal, too_many_bytes};
+ghost use Rattle.kh_replies.specs.Replies.{Reply, reply_of};
 ghost use Rattle.kh_work.specs.Answer.{IsAnswer};
 ghost use Rattle.line_answers.specs.Frames.{IsAnswerTo};
 ghost use Rattle.line_answers.specs.Questions.{Question};
 ghost use Rattle.scan_main.specs.ScanRuns.{IsTableTo};
-ghost use Rattle.scan_main.specs.Scans.{AskForNoList, IsScanAnswer, IsTextReply};
+ghost use Rattle.scan_main.specs.Scans.{AskForNoList, IsScanAnswer, IsTextReply, scan_usage};
 
 /// To all words that ask for no list, and all bytes, there is exactly one answer.
 pub fn one_answer()
@@ -24,6 +31,45 @@ pub fn one_answer()
         → (reply : Reply) × IsScanAnswer words bytes reply }
     ensures one { (words : List (List ℕ)) (bytes : List ℕ) (reply other : Reply)
         → IsScanAnswer words bytes reply → IsScanAnswer words bytes other → reply ≡ other }
+{}
+
+/// Words that ask for one diagram over a field, and bytes that are the text of the code of an
+/// accepted diagram, are answered by its homology table over this field, and by the Jones line of
+/// its state sum, however many generators its cube has.
+pub fn accepted_diagrams_are_answered_by_their_table()
+    ensures { (words : List (List ℕ)) (bytes : List ℕ) (field : ℕ) (code : Code)
+        → IsScanCommand words (Alone field) → IsDiagramText bytes code
+        → IsScanAnswer words bytes (reply_of Status.Done
+        (table_text (table field code) ++ jones_line code)) }
+{}
+
+/// Words that mean no command are answered by the usage line, whatever the bytes are.
+pub fn other_words_are_answered_by_the_usage_line()
+    ensures { (words : List (List ℕ)) (bytes : List ℕ) → IsScanUsage words
+        → IsScanAnswer words bytes scan_usage }
+{}
+
+/// Words that ask for one diagram, and more bytes than a code may have, are answered by that limit,
+/// whatever the bytes are.
+pub fn too_many_bytes_are_answered_by_their_limit()
+    ensures { (words : List (List ℕ)) (bytes : List ℕ) (field : ℕ)
+        → IsScanCommand words (Alone field) → INPUT_BYTES < length bytes
+        → IsScanAnswer words bytes (too_many_bytes INPUT_BYTES) }
+{}
+
+/// Words that ask for one diagram, and bytes whose text is refused, are answered by that refusal;
+/// and bytes that are the text of a code which is refused by the line of its first fault.
+pub fn refused_codes_are_answered_by_their_refusal()
+    ensures text { (words : List (List ℕ)) (bytes : List ℕ) (field : ℕ) (refusal : Reply)
+        → IsScanCommand words (Alone field)
+        → length bytes ≤ INPUT_BYTES → IsCodeRead bytes (Err refusal)
+        → IsScanAnswer words bytes refusal }
+    ensures code { (words : List (List ℕ)) (bytes : List ℕ) (field : ℕ) (code : Code)
+        (fault : CodeFault) (refusal : Reply)
+        → IsScanCommand words (Alone field)
+        → length bytes ≤ INPUT_BYTES → IsCodeRead bytes (Ok code)
+        → first_fault code ≡ Some fault → IsFaultRefusal fault refusal
+        → IsScanAnswer words bytes refusal }
 {}
 
 /// The answer to one diagram is that of `kh homology` over the same field, unless the input is the

@@ -1,6 +1,6 @@
 //! The program of scans: the homology of one diagram, or of each of a list, crossing by crossing,
-//! whatever the size of the cube. It gives the real words, input and output to its top call, and ends with the number of
-//! its status.
+//! whatever the size of the cube. It gives the real words, input and output to its top call, and
+//! ends with the number of its status.
 #![tactic(auto)]
 
 mod jones;
@@ -12,13 +12,18 @@ mod table;
 mod tests;
 mod top;
 
-ghost use Rattle.std.specs.Prelude.{◌≡◌};
+ghost use Rattle.std.specs.Prelude.{◌≡◌, IfOk};
 ghost use Rattle.std.specs.Process.{exit_status};
 ghost use Rattle.kh_replies.specs.Statuses.{status_number};
+ghost use Rattle.kh_replies.specs.Told.{seen};
+ghost use Rattle.scan_main.specs.ScanRuns.{IsScanRun, KeepsListHeadline, KeepsScanHeadline};
 
 use kh_io::{StdSink, StdSource};
 use kh_replies::{Status, words_of};
+use kh_types::Words;
+use std::alloc::Global;
 use std::io;
+use std::io::{Read, Write};
 use std::process::ExitCode;
 use std::rt::Env;
 use top::run_given;
@@ -41,8 +46,29 @@ fn exit_code(status: Status) -> ExitCode
 }
 
 fn status_of(rt: &(impl Input + Print + Env + AllocGlobal)) -> Status {
-    let given = words_of(rt);
     let mut source = StdSource::new(rt.reader());
     let mut sink = StdSink::new(io::writer(rt));
-    run_given(rt.alloc(), given, &mut source, &mut sink)
+    run_over_std(rt.alloc(), words_of(rt), &mut source, &mut sink)
+}
+
+/// Does it over a reader and a writer of std: the theorem of `run_given`, at the bytes that std
+/// tells of these. Of a system's own it tells none.
+pub fn run_over_std<R: Read + Drop, W: Write + Drop>(
+    alloc: Global,
+    given: Result<Words, Status>,
+    source: &mut StdSource<R>,
+    sink: &mut StdSink<W>,
+) -> Status
+    ensures run { IfOk given (λ words. IsScanRun words
+        (seen (R.remaining source.old.inner) source.old.faults) (seen (R.remaining source.new.inner) source.new.faults)
+        (seen (W.contents sink.old.inner) sink.old.faults) (seen (W.contents sink.new.inner) sink.new.faults)
+        (source.new ≡ source.old) (sink.new ≡ sink.old) result) }
+    ensures headline { IfOk given (λ words. KeepsScanHeadline words
+        (seen (R.remaining source.old.inner) source.old.faults) (seen (R.remaining source.new.inner) source.new.faults)
+        (seen (W.contents sink.old.inner) sink.old.faults) (seen (W.contents sink.new.inner) sink.new.faults) result) }
+    ensures lists { IfOk given (λ words. KeepsListHeadline words
+        (seen (R.remaining source.old.inner) source.old.faults) (seen (R.remaining source.new.inner) source.new.faults)
+        (seen (W.contents sink.old.inner) sink.old.faults) (seen (W.contents sink.new.inner) sink.new.faults) result) }
+{
+    run_given(alloc, given, source, sink)
 }

@@ -3,7 +3,7 @@
 ghost use Rattle.std.specs.Prelude.{◌≡◌, ◌≢◌, ◌≤◌, length, Err, IfOk, OnOk};
 ghost use Rattle.kh_io.specs.Faults.{Rose};
 ghost use Rattle.kh_types.specs.declared.limits.TheConstants.{INPUT_BYTES};
-ghost use Rattle.kh_replies.specs.Runs.{IsKnown};
+ghost use Rattle.kh_replies.specs.Runs.{AnswersSource};
 ghost use Rattle.kh_replies.specs.Statuses.{IsReplyStatus};
 ghost use Rattle.kh_replies.specs.Told.{IsReadOut, IsTaken};
 ghost use Rattle.scan_main.specs.Scans.{IsTextReply, IsScanReply, scan_usage};
@@ -31,7 +31,7 @@ pub fn reply_to_source<S: Source>(
     field: FieldSize,
     source: &mut S,
 ) -> Result<Reply, ReplyStop>
-    ensures known { IfOk result (IsKnown (IsScanReply field) (S.left source.old)) }
+    ensures answered { IfOk result (AnswersSource (IsScanReply field) (S.left source.old)) }
     ensures status { IfOk result (λ reply. IsReplyStatus reply.status) }
     ensures taken { IsTaken (S.left source.old) (S.left source.new) }
     ensures read_out { OnOk result (IsReadOut INPUT_BYTES (S.left source.old) (S.left source.new)) }

@@ -1,6 +1,6 @@
 //! Prints homology tables.
 
-ghost use Rattle.std.specs.Prelude.{◌≡◌, [], ◌++◌, string_bytes, IfOk, OnOk};
+ghost use Rattle.std.specs.Prelude.{◌≡◌, [], ◌++◌, string_bytes, IfOk, OnErr, OnOk};
 ghost use Rattle.kh_types.specs.Table.{row_text, table_text};
 
 use jones_sum::{Row, Table};
@@ -28,7 +28,7 @@ pub fn head_text(alloc: Global, field: u8) -> Result<String, NoMemory>
     Ok(format!(in alloc; "table 2\nfield {field}\n")?)
 }
 
-/// Adds the line of a row to a text.
+/// Adds the line of a row to a text, which stays as it was where memory runs out.
 pub fn push_line(
     alloc: Global,
     text: &mut String,
@@ -36,8 +36,9 @@ pub fn push_line(
     i: i16,
     dim: u128,
 ) -> Result<(), NoMemory>
-    ensures { OnOk result (string_bytes text.new
+    ensures added { OnOk result (string_bytes text.new
         ≡ string_bytes text.old ++ row_text (record { j = j; i = i; dim = dim })) }
+    ensures unchanged { OnErr result (string_bytes text.new ≡ string_bytes text.old) }
 {
     let line = line_text(alloc, j, i, dim)?;
     text.push_str(line.as_str())?;

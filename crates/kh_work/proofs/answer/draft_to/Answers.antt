@@ -1,16 +1,18 @@
 use Rattle.std.proofs.Common.{◌∙◌, ap, Err}
+use Rattle.kh_replies.proofs.SourceAnswers.{AnswersSource-blind}
+use Rattle.kh_work.specs.Answer.{IsAnswer}
 use Rattle.kh_work.specs.ByteLimits.{byte_limit}
-use Rattle.kh_work.proofs.AnswerLemmas.{IsBlindAnswer-command, IsBlindAnswer-usage, IsKnownAnswer-blind, IsKnownAnswer-command, IsReadOut-command, usage_reads_nothing}
+use Rattle.kh_work.proofs.AnswerLemmas.{IsBlindAnswer-command, IsBlindAnswer-usage, AnswersWords-command, IsReadOut-command, usage_reads_nothing}
 use Rattle.kh_work.proofs.answer.draft_to.Goals as goal
 
-pub returns-in-Ok-clause-known : goal.returns-in-Ok-clause-known
-returns-in-Ok-clause-known g c =
-    IsKnownAnswer-command c.draft_to_order.result _ c.args.words.now c.in-Ok.command c.order_of.result c.in-Ok.ensures.command
-    c.order_of.ensures.order c.draft_to_order.ensures.known
+pub returns-in-Ok-clause-answered : goal.returns-in-Ok-clause-answered
+returns-in-Ok-clause-answered g c =
+    AnswersWords-command c.draft_to_order.result _ c.args.words.now c.in-Ok.command c.order_of.result c.in-Ok.ensures.command
+    c.order_of.ensures.order c.draft_to_order.ensures.answered
 
-pub returns-in_ok-usage-in-Err-Usage-clause-known : goal.returns-in_ok-usage-in-Err-Usage-clause-known
-returns-in_ok-usage-in-Err-Usage-clause-known g c =
-    IsKnownAnswer-blind _ c.args.words.now _
+pub returns-in_ok-usage-in-Err-Usage-clause-answered : goal.returns-in_ok-usage-in-Err-Usage-clause-answered
+returns-in_ok-usage-in-Err-Usage-clause-answered g c =
+    AnswersSource-blind (IsAnswer c.args.words.now) _ _
     (IsBlindAnswer-usage c.args.words.now _ (c.in-Err-Usage.ensures.usage (ap Err c.in-Err-Usage.field-0-is)) c.in_ok-usage-in-Err-Usage.ensures)
 
 pub returns-in_ok-usage-in-Err-Usage-clause-blind : goal.returns-in_ok-usage-in-Err-Usage-clause-blind

@@ -11,7 +11,7 @@ returns g c =
     (seen (g.S.Source.left c.draft_to.new.source) (g.S.Source.faults c.draft_to.new.source))
     (c.draft_to.new.source ≡ c.args.source.now) (reply_in c.in_ok-draft.draft) c.in_ok-completed_by.field-0 c.in_ok-completed_by.ensures
     (record {
-      known = c.in_ok-draft.ensures.known;
+      answered = c.in_ok-draft.ensures.answered;
       blind = c.in_ok-draft.ensures.blind;
       whole = c.in_ok-draft.ensures.whole;
       usage_only = c.in_ok-draft.ensures.usage_only;
