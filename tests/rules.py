@@ -10,8 +10,8 @@ heading, and says in the line above what it is. Each crate has its row in docs/A
 the row names are functions of the crate; the files that its tables on changes name are there. Links of pages lead somewhere, and README.md
 quotes its sources line by line. Every name of a definition that a clause of a public function cites is in docs/DEFINITIONS.md, or else in
 docs/NAMES.md with the first sentence of the comment at its definition. `tests/believed.py` has the rules on the pages that say what one has
-to believe. The files that are trusted are as long as docs/THEOREM.md says, and
-as README.md says of all. CITATION.cff has the version of CHANGELOG.md. The old text of each planted bug of must-fail/ and more-edits/
+to believe. The functions that are trusted are as long as docs/THEOREM.md says, and as README.md says of all. CITATION.cff has the version
+of CHANGELOG.md. The old text of each planted bug of must-fail/ and more-edits/
 stands once in its file, and must-fail/ has two or three of them or none. Every script that a page names is run by a command of a page or by
 a test (`shared/named_scripts.py`, which lists those that are run by hand).
 """
@@ -34,7 +34,7 @@ CHANGES = "## To change something"
 NAMED = re.compile(r"`(\w+)`")
 NAMED_PATH = re.compile(r"`(\w+)`|`([\w./-]*[./][\w./-]*)`")
 CRATE_ROW = re.compile(r"^\| `(\w+)` \|[^|\n]*\|([^|\n]*)\|$", re.M)
-EDGE_ROW = re.compile(r"^(\|[^|\n]*\| `(crates/[^`]*)` \| )\d+ \|", re.M)
+EDGE_ROW = re.compile(r"^(\|[^|\n]*\| `(crates/[^`:]*): ([\w, ]+)` \| )\d+ \|", re.M)
 NAMES = """\
 # Names in public contracts
 
@@ -246,14 +246,21 @@ def written_names(crates):
     return "\n".join(lines)
 
 
+def length_of(path, names):
+    """How many lines these functions of a source have together, from their heads to the braces that close them."""
+    source = read(path)
+    heads = [re.search(rf"^( *)(?:pub )?fn {name}\b(?s:.*?)^\1}}$", source, re.M) for name in names.split(", ")]
+    return sum(len(head[0].splitlines()) for head in heads)
+
+
 def with_lengths(page):
-    """The page with the lengths of the files that its table names."""
-    return EDGE_ROW.sub(lambda it: f"{it.group(1)}{len(read(it.group(2)).splitlines())} |", page)
+    """The page with the lengths of the functions that its table names."""
+    return EDGE_ROW.sub(lambda it: f"{it[1]}{length_of(it[2], it[3])} |", page)
 
 
 def with_length_of_edge(page):
-    """The page with the lines of all these files together, where it links them."""
-    length = sum(len(read(path).splitlines()) for _, path in EDGE_ROW.findall(read("docs", "THEOREM.md")))
+    """The page with the lines of all these functions together, where it links them."""
+    length = sum(length_of(path, names) for _, path, names in EDGE_ROW.findall(read("docs", "THEOREM.md")))
     return re.sub(r"\[\d+ lines\]", f"[{length} lines]", page)
 
 

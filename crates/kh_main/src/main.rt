@@ -5,14 +5,19 @@
 #[cfg(test)]
 mod tests;
 
-ghost use Rattle.std.specs.Prelude.{◌≡◌};
+ghost use Rattle.std.specs.Prelude.{◌≡◌, IfOk};
 ghost use Rattle.std.specs.Process.{exit_status};
 ghost use Rattle.kh_replies.specs.Statuses.{status_number};
+ghost use Rattle.kh_replies.specs.Told.{seen};
+ghost use Rattle.kh_work.specs.Runs.{IsProgramRun, KeepsHeadline};
 
 use kh_io::{StdSink, StdSource};
 use kh_replies::words_of;
+use kh_types::Words;
 use kh_work::{Status, run_given};
+use std::alloc::Global;
 use std::io;
+use std::io::{Read, Write};
 use std::process::ExitCode;
 use std::rt::Env;
 use std::sync::Wait;
@@ -43,8 +48,27 @@ fn status_of<T: Threads + Wait + Sync>(
     threads: &T,
     rt: &(impl Input + Print + Env + AllocGlobal),
 ) -> Status {
-    let given = words_of(rt);
     let mut source = StdSource::new(rt.reader());
     let mut sink = StdSink::new(io::writer(rt));
-    run_given(threads, rt.alloc(), given, &mut source, &mut sink, &Free)
+    run_over_std(threads, rt.alloc(), words_of(rt), &mut source, &mut sink)
+}
+
+/// Does it over a reader and a writer of std: the theorem of `run_given`, at the bytes that std
+/// tells of these. Of a system's own it tells none.
+pub fn run_over_std<T: Threads + Wait + Sync, R: Read + Drop, W: Write + Drop>(
+    threads: &T,
+    alloc: Global,
+    given: Result<Words, Status>,
+    source: &mut StdSource<R>,
+    sink: &mut StdSink<W>,
+) -> Status
+    ensures run { IfOk given (λ words. IsProgramRun words
+        (seen (R.remaining source.old.inner) source.old.faults) (seen (R.remaining source.new.inner) source.new.faults)
+        (seen (W.contents sink.old.inner) sink.old.faults) (seen (W.contents sink.new.inner) sink.new.faults)
+        (source.new ≡ source.old) (sink.new ≡ sink.old) result) }
+    ensures headline { IfOk given (λ words. KeepsHeadline words
+        (seen (R.remaining source.old.inner) source.old.faults) (seen (R.remaining source.new.inner) source.new.faults)
+        (seen (W.contents sink.old.inner) sink.old.faults) (seen (W.contents sink.new.inner) sink.new.faults) result) }
+{
+    run_given(threads, alloc, given, source, sink, &Free)
 }

@@ -1,6 +1,7 @@
 //! The program over a system of the tests' own, whose words, input and output are known: what no
 //! clause says of it.
 
+mod faults;
 mod gates;
 mod system;
 

@@ -50,10 +50,10 @@ blocks_all code blocks are =
 
 -- one degree more
 pub blocks_more : (code : Code) (degrees : List ℤ) (k : ℕ) (blocks all : List BlockHistory) (held : BlockHistory) → AreBlocksAt code (take k degrees) blocks
-    → k < length degrees → origin_of held ≡ (code, get_or degrees k (pos 0)) → map origin_of all ≡ map origin_of blocks ++ origin_of held ∷ []
+    → k < length degrees → origin_of held ≡ (code, get_or degrees k (pos 0)) → all ≡ blocks ++ held ∷ []
     → AreBlocksAt code (take (k + 1) degrees) all
 blocks_more code degrees k blocks all held are below is_held are_all =
-    are_all
+    ap (λ (xs : List BlockHistory). map origin_of xs) are_all ∙ map_push origin_of blocks held
     ∙ ap₂ (λ (xs : List (Code × ℤ)) (o : Code × ℤ). xs ++ o ∷ []) are is_held
     ∙ sym (map_push (λ j. (code, j)) (take k degrees) (get_or degrees k (pos 0)))
     ∙ ap (λ (js : List ℤ). map (λ j. (code, j)) js) (sym (take_more degrees k (pos 0) below))

@@ -4,3 +4,4 @@ mod RowLemmas
 mod SlotLemmas
 mod BlockLemmas
 mod DoneLemmas
+mod KeptSlots

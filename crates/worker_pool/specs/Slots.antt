@@ -1,10 +1,11 @@
 -- Slots for the blocks of a diagram, one at each of some quantum degrees (this project's rule).
-use Rattle.std.specs.Prelude.{◌≡◌, ℕ, ℤ, List, [], length, All, Option, None, IfSome}
+use Rattle.std.specs.Prelude.{◌≡◌, ℕ, ◌<◌, ℤ, pos, List, [], length, slice_index_or, All, Option, None, IfSome}
 use Rattle.std.specs.List.{AllByRecursion, AllZip}
 use Rattle.kh_types.specs.Code.{Code}
 use Rattle.shared_block.specs.BlockHistories.{BlockHistory, block_with}
 use Rattle.worker_pool.specs.Outcomes.{IsDone, origin_of}
 use Rattle.worker_pool.specs.declared.finished.DoneBlock.{DoneBlock}
+use Rattle.worker_pool.specs.declared.finished.Finished.{Finished}
 
 -- the slot of a degree has its block, before any cancellation, or nothing yet
 abbrev pub IsSlotOf : Code → ℤ → Option BlockHistory → Type 0
@@ -35,3 +36,19 @@ IsDoneSlot p code j slot = IfSome slot (IsDoneBlock p code j)
 -- one slot for each degree, in their order
 abbrev pub AreDoneSlots : {F : Type 0} → ℕ → Code → List ℤ → List (Option (DoneBlock F)) → Type 0
 AreDoneSlots p code degrees slots = AllZip (IsDoneSlot p code) degrees slots
+
+-- a place is that of a block's degree
+pub record IsPlaceOf {F : Type 0} (degrees : List ℤ) (place : ℕ) (one : DoneBlock F) : Type 0 where
+  pub within : place < length degrees
+  pub degree : slice_index_or degrees place (pos 0) ≡ one.block.degree
+
+-- finished blocks have this one at a place, with its count of pivots by workers
+pub record HaveAt {F : Type 0} (done : Finished F) (place : ℕ) (one : DoneBlock F) : Type 0 where
+  pub within : place < length done.blocks.items
+  pub block : slice_index_or done.blocks.items place one.block ≡ one.block
+  pub counted : place < length done.committed.items
+  pub count : slice_index_or done.committed.items place one.committed ≡ one.committed
+
+-- what is in a slot stands among finished blocks at the place of the slot
+abbrev pub StandInOrder : {F : Type 0} → List (Option (DoneBlock F)) → Finished F → Type 0
+StandInOrder slots done = (place : ℕ) → IfSome (slice_index_or slots place None) (HaveAt done place)

@@ -1,6 +1,6 @@
 //! Blocks that are cancelled to zero.
 
-ghost use Rattle.std.specs.Prelude.{◌≡◌, ◌<◌, ◌∷◌, ◌++◌, [], IfOk, OnOk, length, map, pos};
+ghost use Rattle.std.specs.Prelude.{◌≡◌, ◌<◌, ◌∷◌, ◌++◌, [], IfOk, OnOk, length, pos};
 ghost use Rattle.std.specs.Prelude.{slice_index_or};
 ghost use Rattle.worker_pool.specs.Outcomes.{AreDegreesOf, AreDone, IsDone, origin_of};
 
@@ -80,8 +80,8 @@ impl<F: PrimeField> Finished<F> {
         requires done { AreDone F.P self.old }
         requires one { IsDone F.P one }
         ensures done { OnOk result (AreDone F.P self.new) }
-        ensures origins { OnOk result (map origin_of self.new.blocks.items
-            ≡ map origin_of self.old.blocks.items ++ origin_of one.block ∷ []) }
+        ensures blocks { OnOk result (self.new.blocks.items
+            ≡ self.old.blocks.items ++ one.block ∷ []) }
         ensures counts { OnOk result (self.new.committed.items
             ≡ self.old.committed.items ++ one.committed ∷ []) }
     {

@@ -30,5 +30,5 @@ places-preserved g c =
     let same = ap (λ (origin : Code × ℤ). origin.0) c.in_ok-finished_one.ensures.origin ∙ left.1 in (
       c.take_last.ensures.seated,
       left.0,
-      subst (λ code. AreDoneSlots g.F.PrimeField.P code c.args.degrees.now c.put.new.slots.items) same c.put.ensures,
+      subst (λ code. AreDoneSlots g.F.PrimeField.P code c.args.degrees.now c.put.new.slots.items) same c.put.ensures.slots,
     )
