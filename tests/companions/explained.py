@@ -39,7 +39,8 @@ def furnished(folder, program):
     copy = scripts.Copy(folder)
     tools, ignored = os.path.join(folder, "tools"), shutil.ignore_patterns("__pycache__")
     shutil.copytree(os.path.join(TOP, "tools"), tools, ignore=ignored, dirs_exist_ok=True)
-    os.symlink(os.path.join(TOP, "reference"), os.path.join(folder, "reference"))
+    for name in ("reference", "python"):
+        os.symlink(os.path.join(TOP, name), os.path.join(folder, name))
     os.makedirs(os.path.join(folder, "crates", "kh_main", "out"))
     os.symlink(os.path.abspath(program), os.path.join(folder, "crates", "kh_main", "out", "kh_main"))
     copy.write(os.path.join("crates", "scan_main", "out", "scan_main"), STAND_IN)
