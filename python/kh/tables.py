@@ -54,16 +54,16 @@ class Table(Mapping[Degrees, int]):
         return table
 
     @classmethod
-    def read(cls, text: str, *, field: int | None = None) -> Table:
+    def read(cls, text: str, *, field: int | None = None, order: str | None = None) -> Table:
         """The table of a text: as `kh` writes it, as rows, as a polynomial in q and t, as a dictionary by pairs (docs/REFERENCE.md). The
-        field is the one that the text names, else this one, else 2."""
+        field is the one that the text names, else this one, else 2. `order` is that of pairs, "ji" or "ij", where it can not be told."""
         from .reference import forms, groups, stored
 
         try:
             reading = forms.read(text)
-            is_first = forms.j_is_first(reading)
+            is_first = order == "ji" if order and reading.is_j_first is None else forms.j_is_first(reading)
             if is_first is None:
-                raise answers.Unreadable("the numbers of its pairs may be j, i or i, j")
+                raise answers.Unreadable("the numbers of its pairs may be j, i or i, j: order=\"ji\" or order=\"ij\" says it")
             size = reading.field if reading.field in FIELDS else field or 2
             found = forms.groups_of(reading, is_first)
             if groups.has_torsion(found) or reading.field not in (None, *FIELDS):

@@ -6,7 +6,6 @@ import random
 import re
 import shutil
 import subprocess
-import sys
 import tempfile
 from unittest import mock
 
@@ -14,15 +13,12 @@ import drawn.inputs
 import plain.answers
 import plain.codes
 from companions import scripts
+from kh.codes import explain, pointing, refusals
 from plain.codes import LIMIT, REFUSED
 from rows import said
 from rows.texts import CHECK, HOMOLOGY, JONES, TREFOIL, curls
 from shared.places import TOP
 from shared.running import PATIENCE
-
-sys.path.append(os.path.join(TOP, "tools"))
-import explain
-from kh.codes import pointing, refusals
 
 FILE, COLUMNS = "code", 100
 DRAWN = 300
@@ -43,7 +39,8 @@ def furnished(folder, program):
     copy = scripts.Copy(folder)
     tools, ignored = os.path.join(folder, "tools"), shutil.ignore_patterns("__pycache__")
     shutil.copytree(os.path.join(TOP, "tools"), tools, ignore=ignored, dirs_exist_ok=True)
-    os.symlink(os.path.join(TOP, "reference"), os.path.join(folder, "reference"))
+    for name in ("reference", "python"):
+        os.symlink(os.path.join(TOP, name), os.path.join(folder, name))
     os.makedirs(os.path.join(folder, "crates", "kh_main", "out"))
     os.symlink(os.path.abspath(program), os.path.join(folder, "crates", "kh_main", "out", "kh_main"))
     copy.write(os.path.join("crates", "scan_main", "out", "scan_main"), STAND_IN)
@@ -317,7 +314,7 @@ def drawn_faults():
 
 def page_faults():
     """The pages and headings are there that are named."""
-    for path in (("tools", "kh-help"), ("tools", "explain.py"), ("python", "kh", "codes", "refusals.py")):
+    for path in (("tools", "kh-help"), ("python", "kh", "codes", "explain.py"), ("python", "kh", "codes", "refusals.py")):
         with open(os.path.join(TOP, *path), encoding="utf-8") as file:
             named = set(PAGE.findall(file.read().replace('\\"', '"')))
         for page, heading in sorted(named):

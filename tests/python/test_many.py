@@ -37,6 +37,18 @@ def test_results_are_the_tables(jobs):
         assert found == {(link.code, field): link.table(field) for link in links for field in wanted}
 
 
+@pytest.mark.parametrize("ending, error", [("exit 3", kh.Missing), ("exit 5", MemoryError), ("kill -9 $$", kh.Missing)])
+def test_a_result_that_is_lost(monkeypatch, tmp_path, ending, error):
+    path = tmp_path / "scan"
+    path.write_text(f"#!/bin/sh\necho answers 1\nread _\n{ending}\n")
+    path.chmod(0o755)
+    monkeypatch.setenv("KH_SCAN_PROGRAM", str(path))
+    links = [kh.Link("3_1"), kh.Link("4_1")]
+    found = list(kh.results(links, (3, 5), jobs=2))
+    assert sorted((it.link.name, it.field) for it in found) == [("3_1", 3), ("3_1", 5), ("4_1", 3), ("4_1", 5)]
+    assert all(it.table is None and isinstance(it.fault, error) for it in found)
+
+
 @pytest.mark.parametrize("fields", ["some", 4, (2, 11), ()])
 def test_fields_that_are_none(fields):
     with pytest.raises(ValueError, match="2, 3, 5 or 7"):

@@ -109,6 +109,14 @@ def test_a_table_is_read_in_other_forms(text):
     assert Table.read(text, field=3) == OVER_3
 
 
+def test_the_order_of_pairs_is_named_where_it_can_not_be_told():
+    text = "{(0, 0): 1, (0, 2): 1, (2, 4): 1, (2, 6): 1}"
+    with pytest.raises(Refused, match="order="):
+        Table.read(text, field=3)
+    assert Table.read(text, field=3, order="ij") == {(0, 0): 1, (2, 0): 1, (4, 2): 1, (6, 2): 1}
+    assert Table.read("{(0, 1): 1, (0, 3): 1, (2, 5): 1, (3, 9): 1}", field=3) == OVER_3
+
+
 def test_a_text_that_is_no_table_is_refused():
     with pytest.raises(Refused, match="no row of a table"):
         Table.read("1 0 1 / 3 0 1")

@@ -8,7 +8,7 @@ from ..codes import statements
 from ..places import TOP
 from .results import Fault
 
-CODES = os.path.join(TOP, "tools", "kh-codes")
+CODES = [os.path.join(TOP, "tools", "kh-codes")] if TOP else [sys.executable, "-c", "from kh.codes.command import main; main()"]
 INPUT = "-"
 
 
@@ -29,7 +29,7 @@ def of_lines(lines):
 def of_table(path, is_told):
     """The name and the code of each row of a table with a heading, as `tools/kh-codes` reads it."""
     said = None if is_told else subprocess.DEVNULL
-    words = [CODES, "--names", "--keep", path]
+    words = [*CODES, "--names", "--keep", path]
     with subprocess.Popen(words, stdout=subprocess.PIPE, stderr=said, text=True, encoding="utf-8") as codes:
         try:
             yield from of_lines(codes.stdout)
