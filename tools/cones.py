@@ -9,7 +9,7 @@ USE = re.compile(r"^ *(?:ghost )?use Rattle\.(\w+)\.specs\.([\w.]+)", re.M)
 
 
 class Unknown(Exception):
-    """No definition, function or clause has this name."""
+    """No definition, function or clause has this name, or several have."""
 
 
 def roots(statement):
@@ -22,6 +22,8 @@ def roots(statement):
         found = {name for it in chosen for name in it.names}
     if not found:
         raise Unknown(f"nothing is called {statement}")
+    if function is None and len(found) > 1:
+        raise Unknown(f"{statement} is one of {', '.join(sorted(found))}")
     return found
 
 

@@ -237,10 +237,17 @@ def code_item(name):
         kept -= 1
     code, model = item_lines(text, start), re.search(MODEL.format(re.escape(word)), text, re.M)
     seen = item_lines(text, model.start()) if model else []
-    names = code_names(crate, text, "\n".join(map(without_variant, code))) | ghost_names(text, "\n".join(seen))
+    names = code_names(crate, text, "\n".join(map(without_variant, code))) | ghost_names(text, "\n".join(seen)) | promised_names(text, code)
     comment = tuple(it for it in above[kept:] if it.startswith("///"))
     whole = (*code, *([""] if seen else []), *seen)
     return Definition(crate, word, path, kept + 1, comment, whole, frozenset(names) - {name})
+
+
+def promised_names(text, code):
+    """The names of definitions in the clauses of a trait's methods."""
+    block = "\n".join(it for it in code if not it.lstrip().startswith("//"))
+    terms = [braced(block, it.end() - 1) for it in re.finditer(r"\b(?:requires|ensures)\*?(?: \w+)? \{", block)]
+    return {whole_name(it) for term in terms for it in resolved(free_words(term), imports_of(text), {})} - {None}
 
 
 def ghost_names(text, block):
@@ -284,7 +291,7 @@ class Clause:
     names: frozenset
 
 
-FUNCTION = re.compile(r"^( *)(?:pub(?:\([a-z]+\))? )?(?:const )?fn (\w+)(.*?)^\1\{", re.M | re.S)
+FUNCTION = re.compile(r"^( *)(?:pub(?:\([a-z]+\))? )?(?:const )?fn (\w+)((?:(?!^ *(?:pub(?:\([a-z]+\))? )?(?:const )?fn ).)*?)^\1\{", re.M | re.S)
 ENSURES = re.compile(r"\bensures\*?(?: (\w+))? \{")
 PARAMETER = re.compile(r"\b(?:mut )?(\w+): ((?:[^,()<>\n]|<[^<>]*(?:<[^<>]*>[^<>]*)*>)+)")
 

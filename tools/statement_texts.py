@@ -14,7 +14,7 @@ claim holds is checked by a machine; that it says what you want is for you to se
 - the words of a command line mean `homology` over the field of p elements, where p is 2, 3, 5 or 7,
 - the bytes that the source has left are known, are at most 65,536, and are the text of the code of an accepted diagram of at most 20
   crossings, 8 loops and 4,194,304 generators,
-- neither reading nor writing failed, and the run does not end for want of memory, and
+- neither reading nor writing failed (nor stands a count of faults at its last value, 2^64 - 1), the run does not end for want of memory, and
 - the call comes back,
 
 *then* it ends as done, and what the sink has gained, where its bytes are known, is the text of the homology table of the code modulo p,
@@ -87,14 +87,15 @@ these name, are in [DEFINITIONS](DEFINITIONS.md).
 
 - That the definitions are the subject's: that Bar-Natan's paper means this complex, with these signs and degrees. The *worked* values, the
   laws, and [comparisons with other programs](KNOTS.md#beside-other-programs) are there to convince you.
-- What is not printed here of the premises: the nine rules word by word, what a text spells, and what words mean.
+- What is not printed here of the premises: the nine rules word by word, what a text spells, what words mean, and what a source and a sink
+  owe (that a read or a write which fails raises the count of faults, and no other does).
 - Rattle, its checker and its compiler, the C library and the system, and a few functions between them and `run`
   ([which](THEOREM.md#what-it-does-not-say)).
 
 ## What is not here
 
-The law by which every scan counts this table, `scans_count_dimensions`, needs {more} definitions more, of surfaces and of scans, which no
-contract of a program cites: [DEFINITIONS](DEFINITIONS.md#surfaces) has them, from "Surfaces" on.
+The law by which every scan counts this table, `scans_count_dimensions`, needs {more} definitions more, most of them of surfaces and of
+scans. The contract of `kh-scan` rests on none of these: [DEFINITIONS](DEFINITIONS.md#surfaces) has them, from "Surfaces" on.
 """
 
 # definitions that say what the premises are

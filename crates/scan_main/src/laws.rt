@@ -57,8 +57,9 @@ pub fn too_many_bytes_are_answered_by_their_limit()
         → IsScanAnswer words bytes (too_many_bytes INPUT_BYTES) }
 {}
 
-/// Words that ask for one diagram, and bytes whose text is refused, are answered by that refusal;
-/// and bytes that are the text of a code which is refused by the line of its first fault.
+/// Words that ask for one diagram, and no more bytes than a code may have, whose text is refused,
+/// are answered by that refusal; and bytes that are the text of a code which is refused by the line
+/// of its first fault.
 pub fn refused_codes_are_answered_by_their_refusal()
     ensures text { (words : List (List ℕ)) (bytes : List ℕ) (field : ℕ) (refusal : Reply)
         → IsScanCommand words (Alone field)

@@ -12,7 +12,7 @@ mod table;
 mod tests;
 mod top;
 
-ghost use Rattle.std.specs.Prelude.{◌≡◌, IfOk};
+ghost use Rattle.std.specs.Prelude.{◌≡◌, IfErr, IfOk, IsErr};
 ghost use Rattle.std.specs.Process.{exit_status};
 ghost use Rattle.kh_replies.specs.Statuses.{status_number};
 ghost use Rattle.kh_replies.specs.Told.{seen};
@@ -69,6 +69,9 @@ pub fn run_over_std<R: Read + Drop, W: Write + Drop>(
     ensures lists { IfOk given (λ words. KeepsListHeadline words
         (seen (R.remaining source.old.inner) source.old.faults) (seen (R.remaining source.new.inner) source.new.faults)
         (seen (W.contents sink.old.inner) sink.old.faults) (seen (W.contents sink.new.inner) sink.new.faults) result) }
+    ensures ended { IfErr given (λ status. result ≡ status) }
+    ensures unread { IsErr given → source.new ≡ source.old }
+    ensures unwritten { IsErr given → sink.new ≡ sink.old }
 {
     run_given(alloc, given, source, sink)
 }
