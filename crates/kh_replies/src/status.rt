@@ -13,11 +13,11 @@ pub enum Status {
     CodeRefused,
     /// 2: the words give no command.
     Usage,
-    /// 3: the input could not be read. Nothing was written.
+    /// 3: the input could not be read. Nothing was written, or of a list what came before.
     ReadFault,
-    /// 4: the answer could not be written whole.
+    /// 4: the answer could not be written whole, or its end not flushed.
     WriteFault,
-    /// 5: the run was out of memory. Nothing was written.
+    /// 5: the run was out of memory. Nothing was written, or of a list whole frames.
     NoMemory,
     /// 6: the input is larger than the program takes.
     Limit,
