@@ -85,7 +85,7 @@ these name, are in [DEFINITIONS](DEFINITIONS.md).
 
 ## What is still trusted
 
-- That the definitions are the subject's: that Bar-Natan's paper means this complex, with these signs and degrees. The *worked* values, the
+- That the definitions are the subject's: that Bar-Natan (2002) means this complex, with these signs and degrees. The *worked* values, the
   laws, and [comparisons with other programs](KNOTS.md#beside-other-programs) are there to convince you.
 - What is not printed here of the premises: the nine rules word by word, what a text spells, what words mean, and what a source and a sink
   owe (that a read or a write which fails raises the count of faults, and no other does).
