@@ -9,6 +9,8 @@ TOP = os.path.dirname(os.path.abspath(__file__))
 # (beside the sources there is a script `build`, so what setuptools writes goes to a folder that git does not look at)
 WRITTEN = os.path.join("out", "python")
 REFERENCE = ("braids.txt", "prime.txt", "checked.jsonl", "vectors.jsonl", "prime.jsonl", "large.jsonl")
+# What `kh-page` shows of the theorem: a page, and its pictures.
+THEOREM = ("INVARIANCE.md", *(os.path.join("pictures", f"{it}-states.svg") for it in ("kink", "bigon", "slide")))
 PROGRAMS = ("kh_main", "scan_main")
 
 
@@ -27,11 +29,13 @@ class WithData(build_py):
         super().run()
         if getattr(self, "editable_mode", False):
             return
-        for folder, paths in (("data", [os.path.join(TOP, "reference", it) for it in REFERENCE]), ("bin", built())):
-            there = os.path.join(self.build_lib, "kh", folder)
-            os.makedirs(there)
-            for path in paths:
-                shutil.copy2(path, there)
+        files = [(os.path.join(TOP, "reference", it), os.path.join("data", it)) for it in REFERENCE]
+        files += [(it, os.path.join("bin", os.path.basename(it))) for it in built()]
+        files += [(os.path.join(TOP, "docs", it), os.path.join("docs", it)) for it in THEOREM]
+        for path, name in files:
+            there = os.path.join(self.build_lib, "kh", name)
+            os.makedirs(os.path.dirname(there), exist_ok=True)
+            shutil.copy2(path, there)
 
 
 class Packed(Distribution):

@@ -27,12 +27,11 @@ import statistics
 import subprocess
 import sys
 
+import kh
 from braids import braids, planar_diagram
 from homology import PROGRAM, run
 
 TOP = os.path.dirname(os.path.dirname(os.path.abspath(__file__)))
-sys.path.append(os.path.join(TOP, "tools"))
-from version import version
 
 RESULTS = os.path.join(TOP, "bench", "RESULTS.md")
 OTHERS = "## By other scripts"
@@ -189,7 +188,7 @@ def results(bench, began):
     lines = [
         "# Results",
         "",
-        f"`bench/all.py {bench.runs}` of version {version()}, {datetime.date.today()}; {os.cpu_count()} processors, load {began} before",
+        f"`bench/all.py {bench.runs}` of version {kh.__version__}, {datetime.date.today()}; {os.cpu_count()} processors, load {began} before",
         f"and {os.getloadavg()[0]:.1f} after. What is measured is said at the head of `bench/all.py`.",
         "",
         THE_OTHER,

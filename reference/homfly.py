@@ -4,14 +4,11 @@ Nothing is taken from `kh` or from another program. The diagram is gone along fr
 come to below first, the skein relation makes two diagrams of it, one with the crossing changed and one with it smoothed. What is left where
 no such crossing is are circles apart, and each but the first is (a - a^-1) / z.
 """
-import os
 import re
-import sys
 from collections import Counter
 from math import comb
 
-TOP = os.path.dirname(os.path.dirname(os.path.abspath(__file__)))
-sys.path.insert(0, os.path.join(TOP, "tests"))
+import beside  # noqa: F401
 import plain.diagrams
 
 TERM = re.compile(r"([+-]?\d+)\*a\^(-?\d+)\*z\^(-?\d+)")

@@ -3,13 +3,10 @@
 Nothing is taken from `kh`: the determinant and the signature come from the Goeritz matrix of a checkerboard colouring (Gordon and
 Litherland, 1978), the number of generators from a sum over the ways in which open arcs are joined.
 """
-import os
-import sys
 from collections import Counter
 from fractions import Fraction
 
-TOP = os.path.dirname(os.path.dirname(os.path.abspath(__file__)))
-sys.path.insert(0, os.path.join(TOP, "tests"))
+import beside  # noqa: F401
 import plain.diagrams
 
 

@@ -7,12 +7,11 @@ import json
 import os
 from collections import Counter
 
-
 import homfly
 import named
 from kh.reference import stored
 import tables
-from kh.reference.forms import INTEGRAL, read
+from kh.reference.table_forms import INTEGRAL, read
 
 HERE = os.path.dirname(os.path.abspath(__file__))
 PATH = os.path.join(HERE, "checked.jsonl")

@@ -1,9 +1,5 @@
 """The links of `large.jsonl`: torus links, pretzel links and closed braids whose diagrams have 14 to 20 crossings."""
-import os
-import sys
-
-TOP = os.path.dirname(os.path.dirname(os.path.abspath(__file__)))
-sys.path[:0] = [os.path.join(TOP, it) for it in ("tests", "bench")]
+import beside  # noqa: F401
 from kh.codes import braid_words, codes
 import plain.diagrams
 import scan_links

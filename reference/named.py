@@ -1,10 +1,5 @@
 """The codes of the links that the reference has names for, from braid words and DT codes."""
-import os
-import sys
-
-TOP = os.path.dirname(os.path.dirname(os.path.abspath(__file__)))
-# (behind the modules of the reference, some of which have names of those of tests/)
-sys.path.append(os.path.join(TOP, "tests"))
+import beside  # noqa: F401
 from kh.codes import codes, link_names
 import plain.diagrams
 

@@ -11,7 +11,6 @@ changed; or a line of `rows/edit_by_hand.py`. With a word only the cases whose n
 import functools
 import os
 import random
-import subprocess
 import sys
 from typing import NamedTuple
 
@@ -21,7 +20,7 @@ import plain.moves as moves
 import rows.edit_by_hand as hand
 from shared import known_diagrams
 from shared.pool import tell_parts
-from shared.running import PATIENCE
+from shared.running import Child
 
 NAME = "edit, "
 STEPS = 200
@@ -51,13 +50,16 @@ class Case(NamedTuple):
         return f"{line!r} with {status} and not {wanted_line!r} with {wanted}: {' '.join(self.words)} on {self.given!r}"
 
 
+@functools.lru_cache(maxsize=None)
+def child_of(program, process):
+    """What runs the program in this process."""
+    return Child(program)
+
+
 def ask(program, words, given):
     """The status of the program and what it writes."""
-    try:
-        done = subprocess.run([program, *words], input=given.encode(), stdout=subprocess.PIPE, timeout=PATIENCE)
-    except subprocess.TimeoutExpired:
-        return None, f"no answer in {PATIENCE} seconds"
-    return done.returncode, done.stdout.decode(errors="replace")
+    came = child_of(program, os.getpid()).run(words, given.encode())
+    return came.status, came.wrote.decode(errors="replace")
 
 
 def asked(program, words, given, wanted):

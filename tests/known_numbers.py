@@ -3,13 +3,11 @@
 `tests/program` runs these behind its rows, in a few shares.
 """
 import os
-import subprocess
 
 from shared.places import DATA
-from shared.running import PATIENCE
+from shared.running import Child, fault_of
 
 SHARES = 8
-
 
 
 def stored():
@@ -22,20 +20,11 @@ def stored():
                 yield ["bench", "--number", number, "--field", field], counts + "jones " + " ".join(polynomial) + "\n"
 
 
-def fault_of(program, words, wanted):
-    """What is wrong with a run, if anything is."""
-    try:
-        came = subprocess.run([program, *words], stdin=subprocess.DEVNULL, capture_output=True, timeout=PATIENCE)
-    except subprocess.TimeoutExpired:
-        return f"no end after {PATIENCE} seconds"
-    seen, right = (came.returncode, came.stdout, came.stderr), (0, wanted.encode(), b"")
-    return None if seen == right else f"{seen} and not {right}"
-
-
 def faults(program, runs):
     """The words of each of these runs, and what is wrong with it, if anything is."""
+    child = Child(program)
     for words, wanted in runs:
-        yield " ".join(words), fault_of(program, words, wanted)
+        yield " ".join(words), fault_of(child, words, "", 0, wanted)
 
 
 def parts(program, word=""):

@@ -2,12 +2,12 @@
 """Rules on the list of crates and on the pages, which `tests/program` tries behind its rows.
 
     tests/rules.py           prints what breaks a rule
-    tests/rules.py --write   writes anew what follows from the sources: docs/NAMES.md, docs/STATEMENT.md, and the sizes in docs/THEOREM.md
-                             and README.md
+    tests/rules.py --write   writes anew what follows from the sources: docs/NAMES.md, docs/STATEMENT.md, the sizes in docs/THEOREM.md and
+                             README.md, and in docs/ARCHITECTURE.md what each crate is
 
 No chain of crates that stand on one another is longer than seven. crates.txt has each crate behind those that it stands on, under a
-heading, and says in the line above what it is. Each crate has its row in docs/ARCHITECTURE.md, under the same heading, and the calls that
-the row names are functions of the crate; the files that its tables on changes name are there. Links of pages lead somewhere, and README.md
+heading. Each crate has its row in docs/ARCHITECTURE.md, under the same heading, which says what the head of its root file says, and the
+calls that the row names are functions of the crate; the files that its tables on changes name are there. Links of pages lead somewhere, and README.md
 quotes its sources line by line. Every name of a definition that a clause of a public function cites is in docs/DEFINITIONS.md, or else in
 docs/NAMES.md with the first sentence of the comment at its definition. `tests/believed.py` has the rules on the pages that say what one has
 to believe. The functions that are trusted are as long as docs/THEOREM.md says, and as README.md says of all. CITATION.cff has the version
@@ -16,6 +16,7 @@ stands once in its file, and must-fail/ has two or three of them or none. Every 
 a test (`shared/named_scripts.py`, which lists those that are run by hand).
 """
 import argparse
+import itertools
 import os
 import re
 import sys
@@ -25,7 +26,6 @@ import believed
 from companions.pages import pages
 from shared import named_scripts
 from shared.places import TOP
-from tools.version import version
 
 LONGEST = 7
 HEADINGS = "foundations diagrams cube moves texts cancellation invariance links scan threads program tests".split()
@@ -81,9 +81,16 @@ def out_of_order(below):
             yield f"{name} stands above {', '.join(above)}"
 
 
-def without_a_word(text, crates):
-    """The crates of crates.txt with no line above that says what they are."""
-    return set(crates) - set(re.findall(r"^# \S.*\n(\w+)[ :]", text, re.M))
+def head_of(crate):
+    """What a crate is, as the first paragraph of its root file says."""
+    name = next(it for it in ("lib.rt", "main.rt") if os.path.isfile(os.path.join(TOP, "crates", crate, "src", it)))
+    lines = itertools.takewhile(lambda line: line.startswith("//! "), read("crates", crate, "src", name).splitlines())
+    return " ".join(line.removeprefix("//! ") for line in lines)
+
+
+def with_heads(page, crates):
+    """The page with what each crate is in its row."""
+    return CRATE_ROW.sub(lambda it: f"| `{it[1]}` | {head_of(it[1])} |{it[2]}|" if it[1] in crates else it[0], page)
 
 
 def under_headings(text, heading, crate):
@@ -274,7 +281,7 @@ def crate_faults(crates):
     chain = longest_chain(crates)
     yield "no long chain of crates", f"{len(chain)} crates: {', '.join(chain)}" if len(chain) > LONGEST else None
     yield "crates.txt has each crate behind those that it stands on", "; ".join(out_of_order(crates)) or None
-    yield "crates.txt says what each crate is", ", ".join(sorted(without_a_word(read("crates.txt"), crates))) or None
+    yield "each crate's root file says what it is", ", ".join(it for it in crates if not head_of(it)) or None
     folders = sorted(os.listdir(os.path.join(TOP, "crates")))
     there = {it for it in folders if os.path.isdir(os.path.join(TOP, "crates", it, "src"))}
     yield "crates.txt has the crates", ", ".join(sorted(there ^ set(crates))) or None
@@ -289,6 +296,7 @@ def page_faults(crates):
     lines = under_headings(read("crates.txt"), r"^## (\w+): .*$", r"^(\w+)[ :]")
     other = {heading for one, two in ((rows, lines), (lines, rows)) for heading, names in one if (heading, names) not in two}
     yield "ARCHITECTURE.md has the crates under the headings of crates.txt", ", ".join(sorted(other)) or None
+    yield "ARCHITECTURE.md says what each crate is", "`tests/rules.py --write` mends it" if page != with_heads(page, crates) else None
     yield "ARCHITECTURE.md names calls of the crates", ", ".join(unknown_calls(page, crates)) or None
     yield "ARCHITECTURE.md opens files that are there", ", ".join(absent_paths(page, crates)) or None
     yield "links of pages lead somewhere", ", ".join(broken_links()) or None
@@ -298,7 +306,8 @@ def page_faults(crates):
     page = read("docs", "THEOREM.md")
     yield "THEOREM.md has the lengths of the edge", "`tests/rules.py --write` mends it" if page != with_lengths(page) else None
     given = re.search(r"^version: (.*)$", read("CITATION.cff"), re.M)[1]
-    yield "CITATION.cff has the version", f"{given} and not {version()}" if given != version() else None
+    newest = re.search(r"^## (\d+\.\d+\.\d+)\b", read("CHANGELOG.md"), re.M)[1]
+    yield "CITATION.cff has the version", f"{given} and not {newest}" if given != newest else None
     yield "each script that a page names is run by a test", ", ".join(named_scripts.untested()) or None
     yield from believed.faults(read)
     page = read("docs", "DEFINITIONS.md") + read("docs", "NAMES.md")
@@ -318,6 +327,7 @@ def main():
     reader.add_argument("--write", action="store_true", help="write anew what follows from the sources")
     if reader.parse_args().write:
         write(written_names(stands_on()), "docs", "NAMES.md")
+        write(with_heads(read("docs", "ARCHITECTURE.md"), stands_on()), "docs", "ARCHITECTURE.md")
         write(believed.with_sizes(with_lengths(read("docs", "THEOREM.md"))), "docs", "THEOREM.md")
         write(believed.with_sizes(with_length_of_edge(read("README.md"))), "README.md")
         write(believed.statement_page(), "docs", "STATEMENT.md")

@@ -24,10 +24,9 @@ from plain import frames
 from rows.runs import answers
 from rows.scan import EACH, LISTS, NOT_MEANT, WORDS
 from rows.texts import EMPTY_TABLE, TREFOIL, TREFOIL_OVER_THREE, TREFOIL_TABLE
-from shared.places import TOP
 from shared.pool import tell_parts
 from shared.running import PATIENCE, SLACK, Child, fault_of
-from shared.scanning import has_row_of_scan, is_there, scan_of, words_behind
+from shared.scanning import has_row_of_scan, is_there, parts_of, scan_of, words_behind
 
 FIELDS = "2357"
 DRAWN, SHARE = int(os.environ.get("KH_LISTS", "120")), 30
@@ -181,11 +180,6 @@ def memory(scan):
 GROUPS = (words, unread, lists, of_homology, turns, memory)
 
 
-def named(scan, cases):
-    """These cases, with the program before the name of each."""
-    return ((f"{os.path.relpath(scan, TOP)}: {name}", fault) for name, fault in cases())
-
-
 def parts(program, word=""):
     """The parts of these tests: a name, and what gives the name of each case and what is wrong with it, if anything is."""
     scan = scan_of(program)
@@ -194,8 +188,7 @@ def parts(program, word=""):
     found = {group.__name__: functools.partial(group, scan) for group in GROUPS}
     for at in range(0, DRAWN, SHARE):
         found[f"drawn lists {at}"] = functools.partial(compared, scan, at, min(SHARE, DRAWN - at))
-    for name, cases in found.items():
-        yield f"kh-scan, {name}", functools.partial(named, scan, cases)
+    yield from parts_of(scan, found)
 
 
 if __name__ == "__main__":

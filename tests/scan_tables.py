@@ -23,10 +23,9 @@ import plain.diagrams as codes
 from plain import frames
 from rows.runs import answers
 from shared import known_diagrams, stored_links
-from shared.places import TOP
 from shared.pool import tell_parts
 from shared.running import Child, fault_of
-from shared.scanning import LIMIT_OF_CUBES, is_there, scan_of, words_behind
+from shared.scanning import LIMIT_OF_CUBES, is_there, parts_of, scan_of, words_behind
 from shared.tables import dimensions, jones_of, table_of, written, wrong
 
 FIELDS = "2357"
@@ -154,11 +153,6 @@ def moved(scan, program, seed, count):
 GROUPS = (rows, stored, euler_characteristics, mirrors, loops, curls_apart)
 
 
-def named(scan, cases):
-    """These cases, with the program before the name of each."""
-    return ((f"{os.path.relpath(scan, TOP)}: {name}", fault) for name, fault in cases())
-
-
 def parts(program, word=""):
     """The parts of these tests: a name, and what gives the name of each case and what is wrong with it, if anything is."""
     scan = scan_of(program)
@@ -169,8 +163,7 @@ def parts(program, word=""):
         for at in range(0, count, share):
             name = f"{group.__name__} {at}"
             found[name] = functools.partial(group, scan, program, name, min(share, count - at))
-    for name, cases in found.items():
-        yield f"kh-scan, {name}", functools.partial(named, scan, cases)
+    yield from parts_of(scan, found)
 
 
 if __name__ == "__main__":

@@ -38,7 +38,7 @@ is_being_built() {
 if is_being_built; then
     echo "$name: $top/build is at work; until it has ended an unproved answer takes about a minute" >&2
 else
-    echo "$name: not built, so an unproved answer follows in about a minute; $top/build proves and builds it once" >&2
+    echo "$name: not built, so an unproved answer follows in about a minute; $top/build $name proves and builds it once" >&2
 fi
 if ! command -v rt >/dev/null; then
     echo "$name: no rt, the Rattle toolchain, on the path" >&2

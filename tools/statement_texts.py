@@ -54,7 +54,7 @@ say so: no definition of a surface or of a scan is among the {scan_definitions} 
   ways, `¬ A` that A does not hold; `(x : ℕ) → B` that B holds for every x, `(x : ℕ) × B` that there is an x for which it does. `⊥` never
   holds; `IsTrue b` says that b is `true`. `{{X : Type 0}} →` is an argument that is not written.
 - A few constants and types are those of the program's code, in Rust.
-- *Worked* values are laws of the crate `worked_tables`: the checker computes them from these definitions, and they were first computed by
+- *Worked* values are laws of the crate `plain_table`: the checker computes them from these definitions, and they were first computed by
   another reading of the sentences, in another language.
 - *Shown by* names laws that are printed behind the definitions of a section: proved facts that speak of them. Of some only a part is
   printed, while the sentence above it speaks of the whole; words that are not on this page are in [DEFINITIONS](DEFINITIONS.md) or
@@ -104,7 +104,7 @@ RULE_WORDS = "arc_range arc_times interval under over two_arc checkerboard genus
 COMMAND_WORDS = ("IsCommand", "IsGiven", "NamesField", "IsFieldSize")
 # laws that show that the premises are met
 MET = (
-    "kh_replies::codes_of_texts_are_small crossings loops",
+    "kh_inputs::codes_of_texts_are_small crossings loops",
     "kh_types::limits input loops",
     "circle_smoothing::limits generators",
     "word_line::worked_commands alone joined",
@@ -130,26 +130,26 @@ TITLES = {
     "crates/kh_types/src/limits.rt": "Limits",
     "crates/kh_types/specs/Table.antt": "Homology dimensions, and the table",
     "crates/kh_types/specs/StateSum.antt": "The Jones polynomial",
-    "crates/kh_replies/src/status.rt": "How a run ends",
-    "crates/kh_work/specs/Runs.antt": "What is written",
+    "crates/kh_runs/src/status.rt": "How a run ends",
+    "crates/kh_runs/specs/Homology.antt": "What is written",
 }
 
 # CRATE::FUNCTION, and the labels of some of its clauses, or all
 LAWS = (
     "kh_types::classes_are_finest",
     "kh_types::classes_by_pairs named same",
-    "gluing::renumbering_keeps_the_sum",
+    "gluing_laws::renumbering_keeps_the_sum",
     "circle_smoothing::circle_numbers_are_places same",
     "kh_types::circles_are_bounded any",
     "orient_arcs::arcs_follow_one_another_round_components stays once round",
     "braid_maker::closures_have_the_signs_of_their_letters",
     "link_algebra::mirrors_are_accepted plus",
-    "kinks_and_fingers::kinks_keep_signs plus",
+    "kink_and_finger_laws::kinks_keep_signs plus",
     "kh_types::quantum_degrees_are_bounded outside",
     "circle_smoothing::generators_are_counted",
-    "cube_squares::signs_are_opposite",
-    "cube_squares::coefficients_lead_to_the_next_degree",
-    "cube_squares::coefficients_square_to_zero",
+    "square_laws::signs_are_opposite",
+    "square_laws::coefficients_lead_to_the_next_degree",
+    "square_laws::coefficients_square_to_zero",
     "plain_matrix::plain_rank_is_the_rank",
     "plain_matrix::rank_counts_any_pivots pivots",
     "kh_types::tables_have_all_rows",
@@ -157,7 +157,7 @@ LAWS = (
     "link_laws::moves_keep_homology",
     "jones_sum::circles_give_binomial_coefficients",
     "jones_sum::coefficients_tell_the_polynomial same_text",
-    "shared_block::euler_characteristic_is_the_state_sum coefficient",
+    "euler_laws::euler_characteristic_is_the_state_sum coefficient",
 )
 
 WORDS = (

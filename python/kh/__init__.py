@@ -13,7 +13,7 @@ from typing import TYPE_CHECKING, Any
 from .version import VERSION as __version__
 
 if TYPE_CHECKING:
-    from .comparing import Comparison, compare
+    from .comparing import Comparison, compare, names
     from .conversions import from_regina, from_sage, from_snappy
     from .drawings import Drawing
     from .laurent import Polynomial
@@ -26,8 +26,8 @@ if TYPE_CHECKING:
 
 # Where each name is defined: it is loaded once it is used, so that the scripts, which need few of them, begin quickly.
 _ROOMS = {
-    "comparing": ("Comparison", "compare"), "conversions": ("from_regina", "from_sage", "from_snappy"), "drawings": ("Drawing",),
-    "laurent": ("Polynomial",), "links": ("Link", "verify"), "many": ("Result", "frame", "read", "results"),
+    "comparing": ("Comparison", "compare", "names"), "conversions": ("from_regina", "from_sage", "from_snappy"),
+    "drawings": ("Drawing",), "laurent": ("Polynomial",), "links": ("Link", "verify"), "many": ("Result", "frame", "read", "results"),
     "programs": ("Missing", "program"), "refused": ("MoveRefused", "Refused", "TooLarge"), "tables": ("FIELDS", "Degrees", "Table"),
     "torsion": ("Torsion",),
 }
@@ -35,7 +35,8 @@ _ROOM_OF = {name: room for room, names in _ROOMS.items() for name in names}
 
 __all__ = [
     "FIELDS", "Comparison", "Degrees", "Drawing", "Link", "Missing", "MoveRefused", "Polynomial", "Refused", "Result", "Table", "TooLarge",
-    "Torsion", "compare", "frame", "from_regina", "from_sage", "from_snappy", "program", "read", "results", "verify", "__version__",
+    "Torsion", "compare", "frame", "from_regina", "from_sage", "from_snappy", "names", "program", "read", "results", "verify",
+    "__version__",
 ]
 
 

@@ -4,25 +4,29 @@ from __future__ import annotations
 import inspect
 import os
 from collections.abc import Callable, Iterable, Iterator, Mapping
-from typing import Any, Union, cast
+from typing import Any, Union
 
+from .codes import link_names
 from .links import Link
 from .places import reference_file
+from .refused import Refused
 from .tables import Degrees, Table
 
-FILES = {"reference": "vectors.jsonl", "prime": "prime.jsonl", "large": "large.jsonl"}
 Answers = Union[Callable[..., Any], Mapping[str, Any]]
 
 
 class Comparison:
-    """What came of a comparison with the reference: `agrees`, and `lines`, those that `reference/compare --all` writes: how many answers
-    agree, in which ways others are other ones, and what is missing. The tables of the reference are those that `kh` has written, so they
-    are proved; how others are told from them is not."""
+    """What came of a comparison with the reference. `agrees` says whether all answers agree. `links` has what came of each link, by its
+    name: "agrees", one way in which its table is another one, such as "mirrored" or "j shifted by 2", else "another table", "no table"
+    where the answer can not be read, or "no answer"; where that is not the same over all fields, "another table over 3". `lines` are
+    those that are printed, and that `reference/compare --all` writes.
 
-    __slots__ = ("lines", "agrees")
+    The tables of the reference are those that `kh` has written, so they are proved; how others are told from them is not."""
 
-    def __init__(self, lines: Iterable[str], agrees: bool) -> None:
-        self.lines, self.agrees = tuple(lines), agrees
+    __slots__ = ("lines", "links", "agrees")
+
+    def __init__(self, lines: Iterable[str], links: Mapping[str, str], agrees: bool) -> None:
+        self.lines, self.links, self.agrees = tuple(lines), dict(links), agrees
 
     def __bool__(self) -> bool:
         return self.agrees
@@ -47,29 +51,60 @@ def compare(
 ) -> Comparison:
     """Compares answers with the reference: `mine(link)` over one field, 2 where none is named, `mine(link, field)` over all four, or a
     mapping of names to tables. An answer is a `Table`, a mapping of (j, i) or (i, j) to dimensions, rows, or a text in any form that
-    docs/REFERENCE.md lists; `order` names the order of a pair, "ji" or "ij", where it can not be told. The reference is "reference" (168
-    links), "prime" (the prime knots of 10 and 11 crossings), "large", or the path of such a file; `names` are those of it that are asked."""
+    docs/REFERENCE.md lists; `order` names the order of a pair, "ji" or "ij", where it can not be told. `None`, or a text with nothing in
+    it, is no answer. The reference is "reference" (168 links), "prime" (the prime knots of 10 and 11 crossings), "large", or the path of
+    such a file; `names` are those of it that are asked, some of `kh.names(reference)`: any other raises `Refused`, with those that are
+    near it. So many links of a kind as `most` are printed."""
     from .reference.collection import Collection
     from .reference.stored import Reference
 
-    path = reference_file(FILES[reference]) if reference in FILES else os.fspath(reference)
-    known = Reference(path)
+    known = Reference(_path(reference))
     if names is not None:
-        known.lines = {name: known.need(name) for name in names}
+        asked = [names] if isinstance(names, str) else list(names)
+        known.lines = {name: known.lines[name] for name in _known(asked, known.lines)}
     found = Collection(list(_answers(mine, known, field)), known, _Words(field, reduced, order, most))
-    return Comparison(found.lines(), found.is_fine())
+    return Comparison(found.lines(), found.links(), found.is_fine())
+
+
+def names(reference: str = "reference") -> list[str]:
+    """The names of the links of the reference, in its order: knots such as "8_19", links of more components such as "Hopf", "Whitehead",
+    "Borromean" and "7^2_1", torus links such as "T(3,5)", and links that lie apart, such as "3_1 and two loops". `kh.compare` asks them all
+    where it is given no `names`, and `kh.Link` takes each of them. "prime" and "large" are other references, as in `kh.compare`."""
+    from .reference.stored import diagrams
+
+    return list(diagrams(_path(reference)))
+
+
+def _path(reference: str) -> str:
+    """The path of the file that is "reference", "prime" or "large", or that is named by its path."""
+    from .reference.stored import FILES
+
+    return reference_file(FILES[reference]) if reference in FILES else os.fspath(reference)
+
+
+def _known(asked: Iterable[str], known: Iterable[str]) -> Iterator[str]:
+    """These names, all of which the reference has to have."""
+    every = [*known]
+    for name in asked:
+        if name not in every:
+            meant = link_names.question(link_names.near(name, every))
+            raise Refused(" ".join(filter(None, (f"the reference has no {name};", meant, "kh.names lists all that it has"))), name)
+        yield name
 
 
 def _answers(mine: Answers, known: Any, field: int | None) -> Iterator[Any]:
     """The answers, as those of a file are read."""
-    from .answers import Unreadable
+    from .commands import Unreadable
     from .reference.collection import Answer
+    from .reference.table_forms import Empty
 
+    nothing: Any = None
     for name, size, value in _values(mine, known, field):
+        where = name if size is None else f"{name} over {size}"
         try:
-            yield Answer(name, name, _reading(value, size))
+            yield Answer(where, name, nothing if value is None else _reading(value, size), "", size, value is None)
         except Unreadable as fault:
-            yield Answer(name, name, cast(Any, None), str(fault))
+            yield Answer(where, name, nothing, str(fault), size, isinstance(fault, Empty))
 
 
 def _values(mine: Answers, known: Any, field: int | None) -> Iterator[tuple[str, int | None, Any]]:
@@ -95,7 +130,7 @@ def _takes_two(mine: Callable[..., Any]) -> bool:
 
 def _reading(value: Any, field: int | None) -> Any:
     """What is read of an answer."""
-    from .reference.forms import Reading, read, read_value
+    from .reference.table_forms import Reading, read, read_value
     from .reference.groups import group_of
 
     if isinstance(value, Table):

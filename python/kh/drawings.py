@@ -2,15 +2,17 @@
 from __future__ import annotations
 
 import os
+from typing import Any
 
 
 class Drawing:
-    """A drawing of a diagram: `svg` is the picture, without a style of its own, so that notebooks keep it, and `str` has it for a terminal."""
+    """A drawing of a diagram: `svg` is the picture, without a style of its own, so that notebooks keep it, and `str` has it for a terminal,
+    as IPython shows it there."""
 
     __slots__ = ("_slices", "_svg")
 
     def __init__(self, drawn: str, code: str, *, numbers: bool = False, mark: int | None = None, colours: bool = False) -> None:
-        from .answers import read_drawing
+        from .show.slices import read_drawing
         from .show.arcs import crossings_of
         from .show.figure import svg_of
         from .show.inlined import inlined
@@ -37,7 +39,11 @@ class Drawing:
         return f"<Drawing of {len(self._slices)} slices>"
 
     def _repr_html_(self) -> str:
+        # (Debian's nbconvert 6.5 takes the tags out of a picture that is shown as one, and leaves it where it is part of HTML)
         return self._svg
 
     def _repr_svg_(self) -> str:
         return self._svg
+
+    def _repr_pretty_(self, printer: Any, cycle: bool) -> None:
+        printer.text(str(self))

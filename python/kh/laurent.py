@@ -1,14 +1,12 @@
 """Laurent polynomials in q and t as values. Their arithmetic is plain Python, and not proved."""
 from __future__ import annotations
 
+import re
 from collections import Counter
-from collections.abc import Mapping
+from collections.abc import Iterable, Mapping
 from typing import TypeVar, Union
 
-from .answers import Unreadable
-from .polynomials import Reader, power
-from .refused import Refused
-
+_TERM = re.compile(r"(-?\d+)\*q\^(-?\d+)")
 Number = TypeVar("Number", int, float, complex)
 Like = Union["Polynomial", int]
 
@@ -25,7 +23,7 @@ class Polynomial:
     def __init__(self, terms: Mapping[tuple[int, int], int] | Mapping[int, int] | str | int = 0) -> None:
         found: dict[tuple[int, int], int] = {}
         if isinstance(terms, str):
-            found = _read(terms)
+            found = _read(terms)._terms
         elif isinstance(terms, int):
             found = {(0, 0): terms}
         else:
@@ -81,6 +79,9 @@ class Polynomial:
     def __pow__(self, exponent: int) -> Polynomial:
         if exponent < 0:
             return Polynomial(1) // self**-exponent
+        if len(self._terms) == 1:
+            ((j, i), coefficient), = self._terms.items()
+            return Polynomial({(j * exponent, i * exponent): coefficient**exponent})
         total = Polynomial(1)
         for _ in range(exponent):
             total *= self
@@ -88,19 +89,23 @@ class Polynomial:
 
     def __floordiv__(self, other: Like) -> Polynomial:
         """The quotient, where there is no rest; else ValueError."""
-        by, left, found = _of(other), self, Polynomial()
+        by, left, found = _of(other), dict(self._terms), {}
         if not by:
             raise ZeroDivisionError("a polynomial is divided by 0")
-        (low, count), high = next(iter(by._terms.items())), next(reversed(by._terms))
+        low, high = next(iter(by._terms)), next(reversed(by._terms))
         last = next(reversed(self._terms), (0, 0))
         while left:
-            (j, i), coefficient = next(iter(left._terms.items()))
-            step = j - low[0], i - low[1]
-            if coefficient % count or (step[0] + high[0], step[1] + high[1]) > last:
+            least = min(left)
+            step = least[0] - low[0], least[1] - low[1]
+            if left[least] % by._terms[low] or (step[0] + high[0], step[1] + high[1]) > last:
                 raise ValueError(f"{self} is not divisible by {by}")
-            part = Polynomial({step: coefficient // count})
-            left, found = left - part * by, found + part
-        return found
+            found[step] = left[least] // by._terms[low]
+            for (j, i), count in by._terms.items():
+                at = step[0] + j, step[1] + i
+                left[at] = left.get(at, 0) - found[step] * count
+                if not left[at]:
+                    del left[at]
+        return Polynomial(found)
 
     def __call__(self, q: Number, t: int = 1) -> Number:
         """The value at these numbers."""
@@ -141,28 +146,52 @@ def _of(value: Like) -> Polynomial:
     return value if isinstance(value, Polynomial) else Polynomial(value)
 
 
+def _read(text: str) -> Polynomial:
+    from . import commands, polynomial_texts, refused
+
+    try:
+        return polynomial_texts.read(text)
+    except commands.Unreadable as fault:
+        raise refused.Refused(str(fault), text) from None
+
+
+def power(letter: str, exponent: int) -> str:
+    """A power as it is written in a term: none for the exponent 0, the letter alone for 1."""
+    return {0: "", 1: letter}.get(exponent, f"{letter}^{exponent}")
+
+
 def _half(exponent: int) -> str:
     """A power of t with half this exponent."""
-    if exponent % 2:
-        return f"t^({exponent}/2)"
-    return str(power("t", exponent // 2))
+    return f"t^({exponent}/2)" if exponent % 2 else power("t", exponent // 2)
 
 
-def _sum(terms: object) -> str:
+def _sum(terms: Iterable[tuple[int, str]]) -> str:
     """The text of a sum of coefficients with what they stand before."""
     text = ""
-    for coefficient, rest in terms:  # type: ignore[attr-defined]
+    for coefficient, rest in terms:
         sign = ("-" if coefficient < 0 else "") if not text else " - " if coefficient < 0 else " + "
         size = "" if abs(coefficient) == 1 and rest else str(abs(coefficient))
         text += sign + " ".join(filter(None, (size, rest)))
     return text or "0"
 
 
-def _read(text: str) -> dict[tuple[int, int], int]:
+def divided(polynomial: Polynomial) -> Polynomial | None:
+    """The polynomial divided by q + q^-1, or nothing where there is a rest."""
     try:
-        terms = Reader(text).whole()
-    except Unreadable as fault:
-        raise Refused(str(fault), text) from None
-    if any(count != int(count) for count in terms.values()):
-        raise Refused("a coefficient of the polynomial is no whole number", text)
-    return {degrees: int(count) for degrees, count in terms.items()}
+        return polynomial.normalised()
+    except ValueError:
+        return None
+
+
+def jones_line(polynomial: Polynomial) -> str:
+    """A polynomial in q as the Jones line of `kh`."""
+    return " ".join(["jones", *([f"{coefficient}*q^{j}" for (j, _), coefficient in polynomial.terms.items()] or ["0"])])
+
+
+def jones_of(line: str) -> Polynomial | None:
+    """The polynomial of a Jones line, or nothing where it is none."""
+    words = line.split(" ")[1:]
+    terms = [it for it in map(_TERM.fullmatch, words) if it]
+    if words != ["0"] and (not words or len(terms) < len(words)):
+        return None
+    return Polynomial({int(it[2]): int(it[1]) for it in terms})

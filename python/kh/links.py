@@ -7,8 +7,9 @@ from html import escape
 from typing import TYPE_CHECKING, Any, Union
 
 from . import programs
-from .codes import plain_lists, turning
-from .laurent import Polynomial
+from .codes import link_names, plain_lists, turning
+from .laurent import Polynomial, jones_of
+from .places import reference_file
 from .refused import Refused, need_answer
 from .tables import FIELDS, Table
 from .torsion import Torsion
@@ -19,6 +20,8 @@ if TYPE_CHECKING:
 Code = Union[str, Sequence[Any]]
 _CROSSING = re.compile(r"X\[(\d+), (\d+), (\d+), (\d+)\]")
 _NUMBER = re.compile(r"-?\d+")
+# What may be meant as a name.
+_NAME = re.compile(r"[\w ^{},()-]*[A-Za-z_^][\w ^{},()-]*")
 
 
 class Link:
@@ -26,8 +29,10 @@ class Link:
 
     `Link("8_19")` is made of a name, a planar diagram, a signed Gauss code, a DT code, a braid word or JSON, in any of the forms that
     `tools/kh-codes --help` lists; `Link([[1, 5, 2, 4], [3, 1, 4, 6], [5, 3, 6, 2]])` of a list as other programs have it, and
-    `Link(braid=[1, 1, 1])` of the letters of a braid. With `clockwise` the lists go clockwise, as SageMath's do. What is no code, or no
-    drawing has, raises `Refused`, with the place. `said` has what was changed in reading it.
+    `Link(braid=[1, 1, 1])` of the letters of a braid. Names are those that `kh.names()` lists, such as "Hopf", those of `kh.names("prime")`
+    and `kh.names("large")`, and torus links such as "T(3,7)". With `clockwise` the lists go clockwise, as SageMath's do, from the same arc.
+    What is no code, or no drawing has, raises `Refused`, with the place; a name that is none, with names that are near it. `said` has what
+    was changed in reading it.
 
     *Proved* is what comes of the diagram `code`: `table`, `reduced`, `jones`, `signs`, `mirror`, `reverse`, `union`, `move`, `certify`, all
     of which the programs answer (docs/THEOREM.md). *Not proved* is how `code` was made of another form, what is drawn, and `torsion`."""
@@ -74,7 +79,7 @@ class Link:
 
     @property
     def pd(self) -> list[tuple[int, int, int, int]]:
-        """The arcs at each crossing, counterclockwise from the one on which the under pass comes in."""
+        """The arcs at each crossing, counterclockwise from the one on which the under pass comes in; loops are left out."""
         return [(int(i), int(j), int(k), int(l)) for i, j, k, l in _CROSSING.findall(self._code)]
 
     @property
@@ -136,7 +141,9 @@ class Link:
     def jones(self) -> Polynomial:
         """The unnormalised Jones polynomial, q + q^-1 for the unknot; `jones.normalised().in_t()` is that of most tables. Proved, but for the
         reading of its text."""
-        return _jones_of(self._kh("jones"))
+        found = jones_of(self._kh("jones").strip())
+        assert found is not None
+        return found
 
     def torsion(self) -> Torsion:
         """What the tables over the four fields tell of torsion over the integers, and what they leave open."""
@@ -258,18 +265,41 @@ def verify(log: str) -> Table:
     """The table that a log proves, whoever wrote the log. Proved: it is that of the diagram in the log. What proves nothing raises
     `Refused`."""
     wrote = need_answer(programs.run(["verify"], log), "verify", log)
-    field = re.search(r"^field (\d)$", wrote, re.M)
-    assert field
-    return Table._of_answer(wrote, int(field[1]))
-
-
-def _jones_of(line: str) -> Polynomial:
-    terms = re.findall(r"(-?\d+)\*q\^(-?\d+)", line)
-    return Polynomial({int(exponent): int(coefficient) for coefficient, exponent in terms})
+    return Table.all_of(wrote)[0]
 
 
 def _read(text: str, clockwise: bool) -> tuple[str, str, tuple[str, ...]]:
-    """The planar diagram of the one code of a text, its name, and what there is to say."""
+    """The planar diagram of the one code or name of a text, its name, and what there is to say."""
+    try:
+        return _read_code(text, clockwise)
+    except Refused as fault:
+        name = text.strip()
+        code = _stored(name) if _NAME.fullmatch(name) else ""
+        if code:
+            return code, name, ()
+        if _NAME.fullmatch(name):
+            fault.what = "; ".join(filter(None, (fault.what, _meant(name))))
+        raise
+
+
+def _stored(name: str) -> str:
+    """The planar diagram of a name that the files of tables alone have, such as `3_1 and two loops`; nothing where they have none."""
+    from .reference.stored import FILES, diagrams
+
+    known = (diagrams(reference_file(it)) for it in FILES.values())
+    return next((str(them[name]) for them in known if name in them), "")
+
+
+def _meant(name: str) -> str:
+    """Whether one of the names near this one is meant; nothing where there are none."""
+    from .reference.stored import FILES, diagrams
+
+    every = {**diagrams(reference_file(FILES["reference"])), **link_names.reference()}
+    return str(link_names.question(link_names.near(link_names.name_of(name) or name, every)))
+
+
+def _read_code(text: str, clockwise: bool) -> tuple[str, str, tuple[str, ...]]:
+    """The same of a code, or of a name that stands for one."""
     found = list(turning.all_of(text, clockwise))
     if len(found) != 1:
         raise Refused(f"there are {len(found)} codes here, and a link has one: kh.read takes many" if found else "there is no code", text)

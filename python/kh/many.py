@@ -11,7 +11,7 @@ from . import programs
 from .codes import turning
 from .links import Link, refused_by
 from .refused import Refused, need_answer
-from .tables import FIELDS, Table
+from .tables import FIELDS, Table, of_short_rows
 
 if TYPE_CHECKING:
     import pandas
@@ -66,7 +66,7 @@ def fields_of(fields: Fields) -> tuple[int, ...]:
 def results(links: Iterable[Link], fields: Fields = "all", jobs: int | None = None) -> Iterator[Result]:
     """What comes of each link over each field, as it comes, so in any order; with so many processes, or as many as there are processors.
     Tables are those of `Link.table`."""
-    from .tabulate.programs import Lost, Task
+    from .tabulate.tasks import Lost, Task
     from .tabulate.streams import Scans, in_runs
 
     chosen, left = fields_of(fields), iter(links)
@@ -83,9 +83,7 @@ def results(links: Iterable[Link], fields: Fields = "all", jobs: int | None = No
 
 def _result(it: Any) -> Result:
     if it.status == programs.ANSWERED:
-        rows = (row.split(" ") for row in it.table_rows.split("; ") if row)
-        table = Table({(int(j), int(i)): int(dimension) for j, i, dimension in rows}, field=it.field)
-        return Result(it.key, it.field, table, None)
+        return Result(it.key, it.field, Table(of_short_rows(it.table_rows), field=it.field), None)
     try:
         need_answer(programs.Answer(it.status, it.refusal), "homology", it.key.code)
     except Refused as fault:

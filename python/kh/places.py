@@ -14,8 +14,9 @@ def _checkout() -> str:
 
 
 TOP = _checkout()
-# The files of the reference: of the checkout, or as they were when the package was installed.
+# The files of the reference, and the pages: of the checkout, or as they were when the package was installed.
 REFERENCE = os.path.join(TOP, "reference") if TOP else os.path.join(HERE, "data")
+DOCS = os.path.join(TOP or HERE, "docs")
 
 
 def reference_file(name: str) -> str:

@@ -1,4 +1,5 @@
-"""Runs the programs `kh` and `kh-scan`: where they are, one run of either, and the process that answers many codes.
+"""Runs the programs `kh` and `kh-scan`: where they are, one run of either, and the process that answers many codes. All rooms of the
+package run programs by `begun` and `ran`, each in a session of its own, which ends with all that it has begun.
 
 What a run writes is proved (docs/THEOREM.md); that this module hands it on unchanged is not.
 """
@@ -9,8 +10,10 @@ import contextlib
 import os
 import re
 import shutil
+import signal
 import subprocess
-from typing import NamedTuple
+from collections.abc import Sequence
+from typing import IO, NamedTuple, Union
 
 from .places import TOP, built_file
 
@@ -30,10 +33,52 @@ class Missing(RuntimeError):
 
 
 class Answer(NamedTuple):
-    """How a run ended, and what it wrote."""
+    """How a run ended, what it wrote, and what it said on standard error, where that was asked for."""
 
     status: int
     wrote: str
+    said: str = ""
+
+
+File = Union[int, IO[bytes]]
+# The processes that run.
+RUNNING: set[subprocess.Popen[bytes]] = set()
+
+
+def begun(words: Sequence[str], given: File = subprocess.PIPE, errors: File | None = subprocess.DEVNULL) -> subprocess.Popen[bytes]:
+    """A program with its input and output, in a session of its own with what it begins."""
+    return subprocess.Popen(words, stdin=given, stdout=subprocess.PIPE, stderr=errors, start_new_session=True, bufsize=0)
+
+
+def end(process: subprocess.Popen[bytes]) -> None:
+    """Ends a program, and what it has begun."""
+    with contextlib.suppress(ProcessLookupError):
+        os.killpg(process.pid, signal.SIGKILL)
+
+
+def end_all() -> None:
+    """Ends all that still runs."""
+    for process in list(RUNNING):
+        end(process)
+
+
+def ran(words: Sequence[str], given: bytes, seconds: float | None = None, errors: File = subprocess.DEVNULL) -> tuple[int, bytes, bytes]:
+    """The status of a program that reads these bytes as a file, what it wrote, and what it said where `errors` is a pipe. One that takes
+    longer than these seconds is ended, and so is one that is stopped."""
+    with open(os.memfd_create("given"), "w+b", buffering=0) as file:
+        while given:
+            given = given[file.write(given) :]
+        file.seek(0)
+        with begun(words, file, errors) as process:
+            RUNNING.add(process)
+            try:
+                wrote, said = process.communicate(timeout=seconds)
+            except BaseException:
+                end(process)
+                raise
+            finally:
+                RUNNING.discard(process)
+    return process.returncode, wrote, said or b""
 
 
 _found: dict[tuple[str, str | None], str] = {}
@@ -73,14 +118,12 @@ def _sought(name: str, named: str | None) -> str:
 
 def run(words: list[str], given: str, name: str = KH, seconds: float | None = None) -> Answer:
     """What a program answers to words and an input."""
-    came = subprocess.run(
-        [program(name), *words], input=given.encode(errors="replace"), stdout=subprocess.PIPE, stderr=subprocess.DEVNULL, timeout=seconds
-    )
-    if came.returncode == OUT_OF_MEMORY:
+    status, wrote, _ = ran([program(name), *words], given.encode(errors="replace"), seconds)
+    if status == OUT_OF_MEMORY:
         raise MemoryError(f"{name} {' '.join(words)}: out of memory")
-    if came.returncode not in (ANSWERED, REFUSED, TOO_LARGE, MOVE_REFUSED):
-        raise Missing(f"{name} {' '.join(words)} ended with {came.returncode}")
-    return Answer(came.returncode, came.stdout.decode(errors="replace"))
+    if status not in (ANSWERED, REFUSED, TOO_LARGE, MOVE_REFUSED):
+        raise Missing(f"{name} {' '.join(words)} ended with {status}")
+    return Answer(status, wrote.decode(errors="replace"))
 
 
 class _Ended(Exception):
@@ -93,9 +136,7 @@ class Stream:
     def __init__(self, path: str, field: int) -> None:
         words = [path, "each", "--field", str(field)]
         self.path, self.asked, self.is_greeted = path, 0, False
-        self.process = subprocess.Popen(
-            words, stdin=subprocess.PIPE, stdout=subprocess.PIPE, stderr=subprocess.DEVNULL, bufsize=0, start_new_session=True
-        )
+        self.process = begun(words)
         assert self.process.stdin and self.process.stdout
         self.into, self.out = self.process.stdin.fileno(), self.process.stdout.fileno()
 

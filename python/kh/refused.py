@@ -6,8 +6,9 @@ from .programs import MOVE_REFUSED, REFUSED, TOO_LARGE, Answer
 
 
 class Refused(ValueError):
-    """A text that is refused. `what` says why in words, `line` is the line that `kh` wrote (nothing where this package refused the text
-    before), `text` the text, and `spans` the places in it: pairs of the first character and the one behind the last.
+    """A text that is refused, or a name that no link has. `what` says why in words, `line` is the line that `kh` wrote (nothing where this
+    package refused the text before), `text` the text, and `spans` the places in it: pairs of the first character and the one behind the
+    last.
 
     That `kh` refuses exactly what its rules refuse, with this line, is proved; what is said of the line is not."""
 

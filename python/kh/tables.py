@@ -4,18 +4,21 @@ from __future__ import annotations
 import re
 from collections import Counter
 from collections.abc import Iterator, Mapping
-from typing import TYPE_CHECKING, Any, NamedTuple, cast
+from typing import TYPE_CHECKING, NamedTuple, cast
 
-from . import answers
-from .laurent import Polynomial
-from .refused import Refused
+from .commands import Unreadable
+from .laurent import Polynomial, jones_line, jones_of
 
 if TYPE_CHECKING:
     import pandas
 
 FIELDS = (2, 3, 5, 7)
-_ROW = re.compile(r"^j (-?\d+) i (-?\d+) dim (\d+)$", re.M)
-_MARK = re.compile(r"mark (\d+)\n")
+# The lines of a table, and what may stand before them: the answers to the lines of a schedule, the version of the table.
+FIELD, MARK = re.compile(r"field (2|3|5|7)"), re.compile(r"mark (\d+)")
+ROW = re.compile(r"^j (-?\d+) i (-?\d+) dim ([1-9]\d*)$", re.M)
+_BEFORE = re.compile(r"\d+ (looked|zero|committed|stale|idle|forgot|noblock)\b.*|verified|table 2")
+# A table as an answer of `kh-scan` has it: its field, its rows, its Jones line.
+ANSWER = re.compile(r"table 2\nfield ([2357])\n((?:j -?\d+ i -?\d+ dim \d+\n)*)jones ([^\n]*)\n")
 # What the degrees of a reduced table lack of the Jones polynomial.
 _UNKNOT = Polynomial({-1: 1, 1: 1})
 
@@ -49,7 +52,7 @@ class Table(Mapping[Degrees, int]):
     def _of_answer(cls, text: str, field: int) -> Table:
         """The table that `kh` or `kh-scan` has written, which is read once it is looked into."""
         table = cls.__new__(cls)
-        marked = _MARK.match(text)
+        marked = MARK.match(text)
         table._field, table._mark, table._text, table._dimensions = field, int(marked[1]) if marked else None, text, None
         return table
 
@@ -57,21 +60,48 @@ class Table(Mapping[Degrees, int]):
     def read(cls, text: str, *, field: int | None = None, order: str | None = None) -> Table:
         """The table of a text: as `kh` writes it, as rows, as a polynomial in q and t, as a dictionary by pairs (docs/REFERENCE.md). The
         field is the one that the text names, else this one, else 2. `order` is that of pairs, "ji" or "ij", where it can not be told."""
-        from .reference import forms, groups, stored
+        from .reference import groups, stored, table_forms as forms
+        from .refused import Refused
 
         try:
             reading = forms.read(text)
             is_first = order == "ji" if order and reading.is_j_first is None else forms.j_is_first(reading)
             if is_first is None:
-                raise answers.Unreadable("the numbers of its pairs may be j, i or i, j: order=\"ji\" or order=\"ij\" says it")
+                raise Unreadable("the numbers of its pairs may be j, i or i, j: order=\"ji\" or order=\"ij\" says it")
             size = reading.field if reading.field in FIELDS else field or 2
             found = forms.groups_of(reading, is_first)
             if groups.has_torsion(found) or reading.field not in (None, *FIELDS):
                 found = {key[1:]: count for key, count in stored.given_tables(found, forms.INTEGRAL, (size,)).items()}
                 return cls(found, field=size)
-        except answers.Unreadable as fault:
+        except Unreadable as fault:
             raise Refused(str(fault), text) from None
         return cls({degrees: sum(group.values()) for degrees, group in found.items()}, field=size, mark=0 if reading.is_reduced else None)
+
+    @classmethod
+    def all_of(cls, text: str) -> list[Table]:
+        """All tables that stand in a text as `kh` writes them, in their order. Where one has another Jones line than its dimensions imply,
+        or a line is none of a table, the text is refused."""
+        found: list[Table] = []
+        mark, is_open = None, False
+        for number, line in enumerate(text.splitlines(), 1):
+            row, field, marked = ROW.fullmatch(line), FIELD.fullmatch(line), MARK.fullmatch(line)
+            jones = jones_of(line) if is_open and line.startswith("jones") else None
+            if marked:
+                mark = int(marked[1])
+            elif field:
+                found.append(cls({}, field=int(field[1]), mark=mark))
+                mark, is_open = None, True
+            elif row and is_open:
+                found[-1]._known[Degrees(int(row[1]), int(row[2]))] = int(row[3])
+            elif jones is not None:
+                if jones != found[-1].jones:
+                    raise Unreadable(f"the table over {found[-1].field} elements does not fit its Jones line")
+                is_open = False
+            elif not _BEFORE.fullmatch(line):
+                raise Unreadable(f"line {number} is no line of a table: {line[:80]}")
+        if not found:
+            raise Unreadable("there is no table; `kh homology` and `kh reduced` write one")
+        return [it.shift() for it in found]
 
     @property
     def field(self) -> int:
@@ -91,7 +121,7 @@ class Table(Mapping[Degrees, int]):
     @property
     def _known(self) -> dict[Degrees, int]:
         if self._dimensions is None:
-            self._dimensions = {Degrees(int(j), int(i)): int(dimension) for j, i, dimension in _ROW.findall(self._text)}
+            self._dimensions = {Degrees(int(j), int(i)): int(dimension) for j, i, dimension in ROW.findall(self._text)}
         return self._dimensions
 
     def __getitem__(self, degrees: tuple[int, int]) -> int:
@@ -173,7 +203,9 @@ class Table(Mapping[Degrees, int]):
     @property
     def text(self) -> str:
         """The text as `kh homology` or `kh reduced` writes it."""
-        return self._text or answers.table_text(self)
+        head = ["table 2", f"field {self._field}"] if self._mark is None else [f"mark {self._mark}", "table 2", f"field {self._field}"]
+        rows = (f"j {j} i {i} dim {dimension}" for j, i, dimension in self.rows)
+        return self._text or "\n".join([*head, *rows, jones_line(self.jones), ""])
 
     def to_frame(self) -> pandas.DataFrame:
         """A data frame of pandas with the columns field, j, i and dim."""
@@ -204,3 +236,14 @@ class Table(Mapping[Degrees, int]):
         lines = [" & ".join([str(j), *(str(self[j, i] or "") for i in columns)]) for j in rows]
         body = " \\\\\n".join([f"{head} \\\\ \\hline\n{lines[0] if lines else ''}", *lines[1:]])
         return f"$\\begin{{array}}{{r|{'r' * len(columns)}}}\n{body}\n\\end{{array}}$"
+
+
+def short_rows(rows: str) -> str:
+    """The rows of a table, as `kh-tabulate` keeps them: `j i dimension; ..`."""
+    return rows.replace("j ", "").replace(" i ", " ").replace(" dim ", " ").rstrip("\n").replace("\n", "; ")
+
+
+def of_short_rows(text: str) -> dict[tuple[int, int], int]:
+    """The dimensions by degrees (j, i) of rows as `kh-tabulate` keeps them."""
+    rows = [tuple(map(int, row.split())) for row in text.split(";")] if text else []
+    return {(j, i): dimension for j, i, dimension in rows}

@@ -198,6 +198,22 @@ def one_program_is_missing(kit):
     return found, [(0, [name]) for name in PROGRAMS]
 
 
+def one_program_alone(kit):
+    """With the name of a program that one is built, with what it stands on; the other then has what both stand on."""
+    first, again = kit.build("kh-scan"), kit.build("kh-scan")
+    begun = kit.begun()
+    last, both = kit.build("kh"), kit.build()
+    seen = sorted(begun), sorted(kit.begun()[len(begun) :]), first[1][-1].endswith("see ./kh-scan"), last[1][-1].endswith("see ./kh")
+    wanted = sorted({"kh_types", *BELOW["scan_main"].split(), "scan_main"})
+    return (first[0], again, last[0], both, *seen), (0, (0, []), 0, (0, []), wanted, sorted({*PROVED} - {*wanted}), True, True)
+
+
+def another_word(kit):
+    """A word that names no program is refused, and nothing is begun."""
+    status, _ = kit.build("kh-page")
+    return (status, kit.begun()), (2, [])
+
+
 def without_scans(kit):
     """Where there is no crate of a second program the first alone is built."""
     shutil.rmtree(os.path.join(kit.copy.folder, "crates", "scan_main"))
@@ -277,6 +293,8 @@ TRIED = (
     nothing_to_do,
     nothing_to_prove,
     one_program_is_missing,
+    one_program_alone,
+    another_word,
     without_scans,
     the_file_of_times,
     kh_meanwhile,

@@ -32,7 +32,7 @@ ASKED = (
     (["kh_work::run no_such_label"], "", UNKNOWN.format("kh_work::run no_such_label")),
     (["no_such_crate::run"], "", UNKNOWN.format("no_such_crate::run")),
     (["kh_main::status_of headline"], "", UNKNOWN.format("kh_main::status_of headline")),
-    (["request_of"], "", "tools/cone: request_of is one of kh_work.specs.Runs.request_of, scan_main.specs.Scans.request_of\n"),
+    (["request_of"], "", "tools/cone: request_of is one of kh_work.specs.Runs.request_of, line_answers.specs.Scans.request_of\n"),
 )
 
 

@@ -12,10 +12,8 @@ from collections import Counter
 
 import plain.cube
 import plain.diagrams
-from companions.pictures import CONTRAST, luminance, script
-
-STATES = script("move_states")
-from kh.show import scan, tangles
+from companions.pictures import CONTRAST, luminance
+from kh.show import local_states as states, scan, shape, tangles
 
 MOVES = ("kink", "bigon", "slide")
 # How near the curves of two circles of a state come at least, where the disc has the radius 1, and two ends that are one.
@@ -29,7 +27,7 @@ DIGITS = "r = [0-3]|[01]{1,3}(, v[+\u2212])?|the circle at [01]"
 
 def rows(move):
     """The rows of a picture in which something is cancelled."""
-    return [it for it in STATES.rows_of(move) if it.pairs]
+    return [it for it in states.rows_of(move) if it.pairs]
 
 
 def pairings(ends):
@@ -73,7 +71,7 @@ def curves_fault(strands):
 def near_fault(strands, bits):
     """Curves of two circles keep their distance, and all of them are in the disc."""
     curves, found = drawn_circles(strands, bits, [])
-    points = [[it for at in circle for it in STATES.sampled(curves[at], 6)] for circle in found]
+    points = [[it for at in circle for it in shape.sampled(curves[at], 6)] for circle in found]
     if any(math.hypot(*it) > 1 + SAME for here in points for it in here):
         return f"a curve leaves the disc at {bits}"
     near = any(math.dist(p, q) < APART for one, other in itertools.combinations(points, 2) for p in one for q in other)
@@ -86,7 +84,7 @@ def square_fault(local):
     for (x, y), first in local.maps.items():
         for (z, w), second in local.maps.items():
             if y == z:
-                scan.add(STATES.FIELD, sums, (x, w), scan.composed(STATES.FIELD, local, x, y, w, first, second), 1)
+                scan.add(states.FIELD, sums, (x, w), scan.composed(states.FIELD, local, x, y, w, first, second), 1)
     return f"{sums}" if sums else None
 
 
@@ -96,8 +94,8 @@ def listed(objects):
 
 def scan_fault(row):
     """A scan of the crossings leaves objects with the same pairs and degrees, whatever it eliminates first."""
-    *_, (_, _, last) = scan.steps(STATES.FIELD, tangles.code_of(row.local.strands))
-    found = STATES.left_of(row.local, row.pairs).scan
+    *_, (_, _, last) = scan.steps(states.FIELD, tangles.code_of(row.local.strands))
+    found = states.left_of(row.local, row.pairs).scan
     numbers = [ends for ends in found.maps if scan.number_at(found, *ends) is not None]
     return None if listed(found.objects.values()) == listed(last.objects.values()) and not numbers else f"{found.objects}, {numbers}"
 
@@ -113,14 +111,14 @@ def straight_fault(row):
     """What is left of a kink or a bigon is the strands with no crossing, at the degrees 0 and 0."""
     ends, (plus, minus) = tangles.ends_of(row.local.strands), signs_of(row.local.strands)
     wanted = sorted(tuple(sorted(ends.index(strand[at].place) + 1 for at in (0, -1))) for strand in row.local.strands)
-    ((_, it),) = STATES.left_of(row.local, row.pairs).scan.objects.items()
+    ((_, it),) = states.left_of(row.local, row.pairs).scan.objects.items()
     found = list(it.pairs), it.degree - minus, it.shift + it.degree + plus - 2 * minus
     return None if found == (wanted, 0, 0) else f"{found} and not {wanted}"
 
 
 def sides_fault(before, after):
     """What is left before a slide and after it is the same, with a sign for each object; and the ends are those of the same strands."""
-    one, other = (STATES.left_of(row.local, row.pairs).scan for row in (before, after))
+    one, other = (states.left_of(row.local, row.pairs).scan for row in (before, after))
     to = {a: b for a, x in one.objects.items() for b, y in other.objects.items() if x == y}
     if len(to) != 5 or len(set(to.values())) != 5 or tangles.ends_of(before.local.strands) != tangles.ends_of(after.local.strands):
         return f"{one.objects} and {other.objects}"
@@ -145,7 +143,7 @@ def boxes(root):
 
 def picture_fault(move):
     """As many discs, arrows and red arrows as there are states, maps and cancelled pairs; no text covers another one or leaves the page."""
-    wrote, every = STATES.picture_of(move), list(STATES.rows_of(move))
+    wrote, every = states.picture_of(move), list(states.rows_of(move))
     root = xml.etree.ElementTree.fromstring(wrote)
     counts = [len(re.findall(it, wrote)) for it in ('class="disc ', 'class="head ', 'class="head accent"')]
     wanted = [sum(bool(row.pairs) + len(row.local.scan.objects) for row in every), sum(len(row.local.scan.maps) for row in every)]
@@ -164,13 +162,13 @@ def picture_fault(move):
 
 def colours_fault(move):
     """Strands have one colour exactly where they join the same ends, in all rows of a picture."""
-    shown = {(it.pairs, row.colours[number]) for row in STATES.rows_of(move) for number, it in row.local.scan.objects.items()}
+    shown = {(it.pairs, row.colours[number]) for row in states.rows_of(move) for number, it in row.local.scan.objects.items()}
     return None if len({pairs for pairs, _ in shown}) == len(shown) == len({colour for _, colour in shown}) else f"{shown}"
 
 
 def texts_fault(move):
     """Digits are smoothings and numbers of ones alone, and the texts of arrows keep their distance."""
-    root = xml.etree.ElementTree.fromstring(STATES.picture_of(move))
+    root = xml.etree.ElementTree.fromstring(states.picture_of(move))
     found = [*root.iter("{http://www.w3.org/2000/svg}text")]
     digits = [it.text for it in found if re.search("[0-9]", it.text) and not re.fullmatch(DIGITS, it.text)]
     places = [(it.text, (float(it.get("x")), float(it.get("y")))) for it in found if "over" in it.get("class").split()]
@@ -192,7 +190,7 @@ def contrast_fault(wrote):
 
 def told_fault(move, words):
     """A screen reader says what is cancelled, and what is left."""
-    told = re.search(r"<desc>(.*)</desc>", STATES.picture_of(move))[1]
+    told = re.search(r"<desc>(.*)</desc>", states.picture_of(move))[1]
     missing = [it for it in words if it not in told]
     return f"{missing} in {told}" if missing else None
 
@@ -209,7 +207,7 @@ def faults():
     for move in MOVES:
         for row in rows(move):
             name = f"show/move_states {move}, {row.title}"
-            left = STATES.left_of(row.local, row.pairs).scan
+            left = states.left_of(row.local, row.pairs).scan
             yield f"{name}: curves", curves_fault(row.local.strands)
             yield f"{name}: a complex", square_fault(row.local.scan) or square_fault(left)
             yield f"{name}: as a scan leaves it", scan_fault(row)

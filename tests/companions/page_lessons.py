@@ -10,7 +10,7 @@ import tempfile
 
 import plain.cube
 import plain.diagrams
-from kh import answers
+import kh
 from rows.texts import TREFOIL
 from shared.places import TOP
 from shared.running import PATIENCE
@@ -259,7 +259,7 @@ def wide_fault(tab, program):
         for field in (2, 3, 5, 7):
             dimensions = {(2 * i + shift, i): 1941 for i in range(-10, 11) for shift in (-1, 1)}
             with open(f"{path}.{field}", "w", encoding="utf-8") as file:
-                file.write(answers.table_text(answers.Table(field, dimensions, None, None)))
+                file.write(kh.Table(dimensions, field=field).text)
         page = os.path.join(folder, "page.html")
         words = [os.path.join(TOP, "show", "page"), "--kh", program, "--scan", path, os.path.join(TOP, "examples", "braid-20.pd")]
         with open(page, "w", encoding="utf-8") as file:

@@ -9,11 +9,11 @@ import plain.diagrams
 import plain.drawing
 import plain.moves
 from companions import pictures
-from kh.answers import read_drawing
 from kh.show.figure import MARGIN, RULES
 from kh.show.page import picture
 from kh.show.page_figure import Change, Figure
 from kh.show.passage import passage_of
+from kh.show.slices import read_drawing
 from shared import known_diagrams
 
 TREFOIL = "PD[X[1,4,2,5], X[3,6,4,1], X[5,2,6,3]]"

@@ -8,13 +8,13 @@ import os
 import random
 import re
 import sys
-from importlib.machinery import SourceFileLoader
-from importlib.util import module_from_spec, spec_from_loader
 
 import plain.cube
 import plain.diagrams
 import plain.drawing
 import plain.moves
+from kh.show import cubes, figure
+from kh.show.slices import read_drawing
 from shared import known_diagrams
 from shared.pictures import Reading, nearest, read_picture
 from shared.places import TOP
@@ -27,17 +27,6 @@ HALF = 2.5
 EXAMPLES = ("trefoil", "trefoil-right-handed", "figure-eight", "hopf", "whitehead", "8_19", "curl", "braid-20")
 TORUS = ((2, 3), (2, 4), (2, 9), (3, 4), (3, 5), (4, 5), (5, 4), (3, 7))
 BRAIDS = 8
-
-
-def script(name):
-    """A script of `show/` as a module."""
-    loader = SourceFileLoader(f"show_{name}", os.path.join(TOP, "show", name))
-    module = module_from_spec(spec_from_loader(loader.name, loader))
-    loader.exec_module(module)
-    return module
-
-
-DRAWING, STATES = script("drawing"), script("states")
 
 
 def nested(count):
@@ -68,8 +57,8 @@ def codes():
 
 def drawn(code, **words):
     """The picture of a code with its numbers."""
-    slices = DRAWING.read_drawing(plain.drawing.drawing(code))
-    return DRAWING.svg_of(slices, list(code.crossings), **words)
+    slices = read_drawing(plain.drawing.drawing(code))
+    return figure.svg_of(slices, list(code.crossings), **words)
 
 
 def passes_of(code):
@@ -244,13 +233,13 @@ def faults_of(name, code):
 
 def without_code_fault(name, text, arrows):
     """Without its code a picture has arrows on the components that pass under first: so many; and loops have one."""
-    picture = read_picture(DRAWING.svg_of(DRAWING.read_drawing(text)))
+    picture = read_picture(figure.svg_of(read_drawing(text)))
     return None if len(picture.arrows) == arrows else f"{len(picture.arrows)} arrows"
 
 
 def edges_fault(code):
     """The cube has its edges, each change of one 0 to 1, merges and splits as the plain reading has them, and says how many there are."""
-    wrote = STATES.cube_of(STATES.read_drawing(plain.drawing.drawing(code)), list(code.crossings))
+    wrote = cubes.cube_of(read_drawing(plain.drawing.drawing(code)), list(code.crossings))
     found = re.findall(r'class="edge (merge|split) \w+"[^>]*><title>([01]*)\*([01]*): (merge|split)<', wrote)
     wanted, count = {}, len(code.crossings)
     for tail, at in itertools.product(itertools.product("01", repeat=count), range(count)):
@@ -268,7 +257,7 @@ def edges_fault(code):
 
 def no_edges_fault(code):
     """A cube of more crossings has all its states, and no edges and no legend."""
-    wrote = STATES.cube_of(STATES.read_drawing(plain.drawing.drawing(code)))
+    wrote = cubes.cube_of(read_drawing(plain.drawing.drawing(code)))
     found = (wrote.count('class="bits"'), wrote.count("edge "), wrote.count("merge"))
     return None if found == (2 ** len(code.crossings), 0, 0) else f"{found}"
 

@@ -41,6 +41,7 @@ HOPF = '{"name": "Hopf", "field": 3, "rows": [[0, 0, 1], [2, 0, 1], [4, 2, 1], [
 FINE = [TREFOIL, EIGHT, LARGE, HOPF]
 SHIFTED = '{"name": "3_1", "field": 3, "table": "q^3 + q^5 + q^7 t^2 + q^11 t^3"}'
 WRONG = ["4_1 over 3: j -5 i -2: 2, and 1 in the reference", "8_19 over 3: j 15 i 5: 0, and 1 in the reference; and 1 row more"]
+NEAREST = "nearest is the mirror image, with i and j negated:"
 MIRRORED = [
     '{"name": "3_1", "field": 3, "table": {"0": {"-1": 1, "-3": 1}, "-2": {"-5": 1}, "-3": {"-9": 1}}}',
     '{"name": "4_1", "field": 3, "table": {"2": {"5": 1}, "1": {"1": 1}, "0": {"1": 1, "-1": 1}, "-1": {"-1": 1}, "-2": {"-5": 1}}}',
@@ -69,9 +70,23 @@ COLLECTIONS = [
         [
             "1 of 3 answers agree",
             "3 of 3 are exact in one way: it is the table of the mirror image: i and j are negated",
+            "agree: 4_1",
+            "mirrored: 3_1, Hopf",
             "1 link has no answer over 3: 8_19",
             "compare: pairs are read as i, j, as all tell in which it can be told",
         ],
+    ),
+    (
+        "nearest in one way",
+        [TREFOIL, EIGHT, LARGE, '{"name": "Hopf", "field": 3, "rows": [[0, 0, 1], [-2, 0, 1], [-4, -2, 1], [-6, -2, 2]]}'],
+        1,
+        ["3 of 4 answers agree", "1 answer is another table:", f"  Hopf over 3: {NEAREST} j -6 i -2: yours 2, the mirrored reference 1"],
+    ),
+    (
+        "a program that wrote nothing",
+        ['{"name": "3_1", "field": 3, "table": " "}', *FINE[1:]],
+        1,
+        ["3 of 3 answers agree", "1 link has no answer, since the program wrote nothing: 3_1"],
     ),
     (
         "another name",

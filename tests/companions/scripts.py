@@ -134,6 +134,13 @@ def once_it_is_built(copy):
     return came, ((0, "built kh_main check a b\n", False), (0, "built scan_main a b\n", False), (0, "", False))
 
 
+def where_one_is_asked_for(copy):
+    """The other is not built."""
+    status = copy.run("build", "kh-scan")[0]
+    calls = copy.calls()
+    return (status, calls, copy.run("kh-scan", "a b"), copy.run("kh", "check")[0]), (0, ["all", "run"], (0, "built scan_main a b\n", False), 6)
+
+
 def where_a_source_is_newer(copy):
     copy.run("build")
     source = os.path.join("crates", "kh_types", "src", "lib.rt")
@@ -153,6 +160,7 @@ TRIED = (
     where_a_crate_is_refused,
     two_builds_at_once,
     once_it_is_built,
+    where_one_is_asked_for,
     where_a_source_is_newer,
 )
 

@@ -13,6 +13,8 @@ import xml.etree.ElementTree
 import plain.diagrams
 import plain.drawing
 from companions import move_states, pictures
+from kh.show.layout import lines_of
+from kh.show.slices import read_drawing
 from rows.link import REDUCED_TREFOIL
 from rows.texts import TREFOIL, TREFOIL_OVER_THREE, TREFOIL_TABLE
 from shared.places import DATA, TOP
@@ -193,7 +195,7 @@ def drawn_passes(text):
 
 def drawn_fault(code):
     """The drawing in the terminal has the passes of the code, component by component, as long as each component is taken alone."""
-    wrote = "\n".join(pictures.DRAWING.lines_of(pictures.DRAWING.read_drawing(plain.drawing.drawing(code))))
+    wrote = "\n".join(lines_of(read_drawing(plain.drawing.drawing(code))))
     found = sorted(map(least_turn, drawn_passes(wrote)))
     wanted = sorted([*map(least_turn, passes_of(code)), *[[]] * code.loops])
     return None if found == wanted else f"{plain.diagrams.printed(code)}: {found} and not {wanted}"

@@ -10,7 +10,7 @@ import tempfile
 
 from companions import tabulated_links, tabulated_parts
 from shared.scanning import is_there, scan_of
-from shared.tabulating import COUNT, HEAD, Folder, kept_fault, result_fault
+from shared.tabulating import COUNT, HEAD, Folder, result_fault
 
 
 def killed_run(folder):

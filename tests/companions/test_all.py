@@ -1,21 +1,28 @@
-"""The rows of `tests/rows` and the companions under pytest: `python3 -m pytest tests/companions` runs them, and `-k WORD` some of them.
+"""The tests of `tests/program` under pytest: `python3 -m pytest tests/companions` runs them, and `-k WORD` some of them.
 
-With pytest-xdist `-n auto` runs them side by side. They are those of `tests/program`, which also runs what measures time, alone, and the
-hostile use; the program is the one that KH_PROGRAM names, or the one that is built. A failing row is told with its words, its input, what
-was wanted and what came.
+With pytest-xdist `-n auto` runs them side by side. What measures time is left to `tests/program`, which runs it alone. The program is the
+one that KH_PROGRAM names, or the one that is built. A failing row is told with its words, its input, what was wanted and what came.
 """
-import importlib
 import os
 
+import edit_scripts
+import hostile
+import known_numbers
+import parts
 import pytest
+import rules
+import scan_hostile
+import scan_lists
+import scan_tables
+from companions import scripts
 from rows.runs import all_rows, fault_of, scan_rows
 from shared import surroundings
 from shared.places import TOP
 from shared.scanning import scan_of
 
-COMPANIONS = (
-    "tabulation show page page_server page_browser scan pages reference checked code_forms spoken shortening cones scripts".split()
-)
+# (the tests of the package are run by pytest by themselves)
+COMPANIONS = [it for it in parts.COMPANIONS if it is not parts.package]
+OF_PROGRAM, OF_SCAN = (known_numbers, edit_scripts, hostile), (scan_tables, scan_lists, scan_hostile)
 BUILT = os.path.join(TOP, "crates", "kh_main", "out", "kh_main")
 PROGRAM = os.path.abspath(os.environ.get("KH_PROGRAM", BUILT))
 needs_program = pytest.mark.skipif(not os.access(PROGRAM, os.X_OK), reason="the program is not built: ./build, or KH_PROGRAM")
@@ -56,10 +63,27 @@ def test_row_of_the_scan(row):
     check(scan, row)
 
 
-@needs_program
-@pytest.mark.parametrize("name", COMPANIONS)
-def test_companion(name):
-    module = importlib.import_module(f"companions.{name}")
-    found = list(module.faults() if name == "scripts" else module.faults(PROGRAM))
+def check_all(found):
+    """Fails where a case does, and says what is wrong with each that does; what a machine lacks is left out, and told."""
+    found = list(found)
+    if not found:
+        pytest.skip("nothing was tried, since something is not there: -rP shows what is told")
     wrong = [f"{what}: {fault}" for what, fault in found if fault]
     assert not wrong, f"{len(wrong)} of {len(found)} failed\n" + "\n".join(wrong)
+
+
+@needs_program
+@pytest.mark.parametrize("module", COMPANIONS, ids=parts.name_of)
+def test_companion(module):
+    check_all(module.faults(PROGRAM))
+
+
+@needs_program
+@pytest.mark.parametrize("module", OF_PROGRAM + OF_SCAN, ids=parts.name_of)
+def test_part(module):
+    check_all(case for _, cases in module.parts(PROGRAM, "") for case in cases())
+
+
+@pytest.mark.parametrize("module", (rules, scripts), ids=parts.name_of)
+def test_of_the_repository(module):
+    check_all(module.faults())

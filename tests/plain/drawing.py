@@ -167,13 +167,6 @@ def difference(text, code):
     return None if not left else f"crossings {left} are not drawn"
 
 
-def slot_at(stands_for, corner):
-    """The dart that a corner of a known crossing stands for."""
-    number, turn = corner
-    crossing, slot = stands_for[number]
-    return crossing, (slot + turn) % 4
-
-
 def spread(seen, partner, stands_for, left, number):
     """Follows the strands from a crossing of the page that is known, and compares all that can be reached."""
     waiting = [number]

@@ -37,11 +37,6 @@ def questions(given, fields):
     return [Question(number, field, line) for number, line in lines(given) for field in fields]
 
 
-def ended_lines(given):
-    """The part of a list up to its last line feed."""
-    return given[: given.rfind(b"\n") + 1]
-
-
 def read(wrote):
     """The frames of what was written, and what stands behind the last whole one; None where the first line is not that of frames."""
     if not wrote.startswith(FIRST):

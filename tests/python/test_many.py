@@ -1,4 +1,4 @@
-"""Lists that are read, tables of many links, and comparisons with the reference."""
+"""Lists that are read, and tables of many links."""
 import kh
 import pytest
 
@@ -72,28 +72,3 @@ def test_a_frame_without_some(tmp_path):
     with pytest.warns(UserWarning, match="1 table is missing"):
         frame = kh.frame([kh.Link("3_1"), kh.Link(braid=[1] * 21, name="long")], fields=3)
     assert len(frame) == 4 and frame.attrs["without"][0][:3] == (1, "long", 3) and "limit crossings" in frame.attrs["without"][0][3]
-
-
-NAMES = ["3_1", "4_1", "5_2", "7^2_1"]
-
-
-@pytest.mark.program
-def test_a_comparison():
-    found = kh.compare(lambda link, field: link.table(field), names=NAMES)
-    assert found and str(found) == "16 of 16 answers agree" and found.agrees
-    turned = kh.compare(lambda link: link.mirror().table(3), field=3, names=NAMES[:3])
-    assert not turned and turned.lines[1] == "3 of 3 are exact in one way: it is the table of the mirror image: i and j are negated"
-
-
-def test_comparisons_of_other_values():
-    trefoil = {(1, 0): 1, (3, 0): 1, (5, 2): 1, (9, 3): 1}
-    for value in (trefoil, {(i, j): dim for (j, i), dim in trefoil.items()}, "q + q^3 + q^5 t^2 + q^9 t^3", kh.Table(trefoil, field=3)):
-        assert kh.compare({"3_1": value}, field=3, names=["3_1"])
-    other = kh.compare({"3_1": {**trefoil, (9, 3): 2}, "none": {}}, field=3, names=["3_1", "4_1"])
-    assert not other and other.lines[0] == "0 of 1 answer agrees" and any("no answer" in it for it in other.lines)
-    assert kh.compare({"3_1": {**trefoil, (9, 3): 0}}, field=3, names=["3_1"]).lines[2].endswith("j 9 i 3: 0, and 1 in the reference")
-
-
-@pytest.mark.program
-def test_all_links_of_the_reference():
-    assert kh.compare(lambda link, field: link.table(field), "reference").lines[0] == "672 of 672 answers agree"

@@ -14,6 +14,15 @@ NOTEBOOK = os.path.join(TOP, "docs", "notebook", "tour.ipynb")
 SURROUNDINGS = {**os.environ, "PYTHONPATH": os.path.dirname(os.path.dirname(os.path.abspath(kh.__file__)))}
 
 
+# What stands for a reader's own program: it reads the list of a planar diagram, and writes lines.
+PROGRAM = f"""#!{sys.executable}
+import json
+import kh
+for j, i, dimension in kh.Link(json.loads(input())).table(2).rows:
+    print(j, i, dimension)
+"""
+
+
 def test_the_page_is_what_the_docstrings_say():
     words = [sys.executable, os.path.join(TOP, "tools", "python-page"), "--test"]
     came = subprocess.run(words, capture_output=True, text=True, timeout=120, env=SURROUNDINGS)
@@ -30,13 +39,27 @@ def test_the_lines_of_the_page(monkeypatch, tmp_path, capsys):
     """All that needs no SageMath; the loop over its knots is run by `test_conversions.py`."""
     monkeypatch.chdir(tmp_path)
     (tmp_path / "knotinfo.csv").write_text('name,braid_notation\n8_19,"{1,1,1,2,1,1,1,2}"\n')
-    first, own, with_sage, frames = blocks()
+    first, beside, turned, moved, own, alone, with_sage, frames = blocks()
+    (tmp_path / "my-program").write_text(PROGRAM)
+    (tmp_path / "my-program").chmod(0o755)
+    monkeypatch.setenv("PYTHONPATH", SURROUNDINGS["PYTHONPATH"])
+    monkeypatch.setenv("HOME", str(tmp_path))
     known = {}
     exec(first, known)
     assert known["T"][13, 4] == 1 and known["T"] == known["L"].mirror().table(3).mirror()
+    exec(beside, known)
+    assert capsys.readouterr().out == "4 of 4 answers agree\n"
+    exec(moved, known)
+    assert len(known["link"].moves()[::7]) > 3 and len(known["other"].pd) > 6
+    with open(os.path.join(TOP, "docs", "PYTHON.md"), encoding="utf-8") as file:
+        in_one_way, in_rows = re.findall(r"^```text\n(.*?)^```$", file.read(), re.M | re.S)
+    exec(turned, known)
+    assert capsys.readouterr().out == in_one_way
+    exec(alone, known)
+    assert capsys.readouterr().out.startswith("{Degrees(j=11, i=4): (1, 0), ")
     exec(own, known)
-    told = capsys.readouterr().out.splitlines()
-    assert told[0] == "504 of 671 answers agree" and "Knots().from_table" in with_sage
+    told, lines = capsys.readouterr().out.splitlines(), in_rows.splitlines()
+    assert [it for it in told if it in lines] == lines and "Knots().from_table" in with_sage
     pytest.importorskip("pandas")
     exec(frames, known)
     assert len(known["df"]) > 20
@@ -54,6 +77,15 @@ def test_the_notebook(tmp_path):
     page = (tmp_path / "tour.html").read_text(encoding="utf-8")
     assert page.count("<svg xmlns") >= 2 and page.count('stroke-width="5"') > 10 and "<caption>over 3 elements</caption>" in page
     assert "672 are exact in one way: it is the table of the mirror image" in page.replace("&#39;", "'") and "image/png" in page
+
+
+@pytest.mark.program
+def test_what_is_shown_of_a_drawing():
+    """The picture in a notebook, and its text in a terminal."""
+    formatters = pytest.importorskip("IPython.core.formatters")
+    drawing = kh.Link("3_1").drawing()
+    data, _ = formatters.DisplayFormatter().format(drawing, include={"image/svg+xml", "text/html", "text/plain"})
+    assert data == {"image/svg+xml": drawing.svg, "text/html": drawing.svg, "text/plain": str(drawing)}
 
 
 def test_the_notebook_is_kept_without_what_it_wrote():

@@ -6,7 +6,7 @@ import random
 import pytest
 from kh import Degrees, Polynomial, Refused, Table, Torsion
 from kh.places import reference_file
-from kh.reference.forms import read
+from kh.reference.table_forms import read
 
 TREFOIL = Polynomial("q + q^3 + q^5 - q^9")
 OVER_3 = Table({(1, 0): 1, (3, 0): 1, (5, 2): 1, (9, 3): 1}, field=3)

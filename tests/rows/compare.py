@@ -5,8 +5,8 @@ The dimensions of 3_1, 8_19, 4^2_1 and T(3,5) are those of the reference.
 AGREE = "the tables agree\n"
 OTHER_HAND = "(the reference's 3_1 is the mirror image of the Knot Atlas's)\n"
 
-MIRRORED = "nearest is the mirror image, with i and j negated; there:\n"
-EXCHANGED = "nearest is the reference with i before j; there:\n"
+MIRRORED = "nearest is the mirror image, with i and j negated:\n"
+EXCHANGED = "nearest is the reference with i before j:\n"
 NONE = ((-1, 0), (1, 0), (3, 0), (5, 2), (7, 0), (9, 3))
 OTHERS = "".join(f"j {j} i {i}: {j in (-1, 7):d}, and {j not in (-1, 7):d} in the reference\n" for j, i in NONE)
 
@@ -21,15 +21,16 @@ TREFOIL = [
     ("q turned", "1/q + 1/q^3 + t^2/q^5 + t^3/q^9", 1, "j is negated: q stands for the inverse of the reference's\n"),
     ("t turned", "q + q^3 + q^5/t^2 + q^9/t^3", 1, "i is negated: t stands for the inverse of the reference's\n"),
     ("i before j", "0 1 1\n0 3 1\n2 5 1\n3 9 1\n", 1, "the columns are exchanged: i stands before j\n"),
-    ("mirrored, and a term more", "1/q + 1/q^3 + 1/(q^5 t^2) + 1/(q^9 t^3) + 1/(q^7 t^2)", 1, MIRRORED + "j -7 i -2: 1, and 0 there\n"),
-    ("i before j, and another number", "0 1 1\n0 3 1\n2 5 1\n3 9 2\n", 1, EXCHANGED + "j 9 i 3: 2, and 1 there\n"),
+    ("mirrored, and a term more", "1/q + 1/q^3 + 1/(q^5 t^2) + 1/(q^9 t^3) + 1/(q^7 t^2)", 1, MIRRORED + "j -7 i -2: yours 1, the mirrored reference 0\n"),
+    ("i before j, and another number", "0 1 1\n0 3 1\n2 5 1\n3 9 2\n", 1, EXCHANGED + "j 9 i 3: yours 2, the turned reference 1\n"),
     ("the table of no link", "1/q + q^7", 1, OTHERS),
     ("rows in one line", "1 0 1; 3 0 1; 5 2 1; 9 3 1", 0, AGREE),
     ("no table", "1 0 1\nnone\n", 1, "compare: line 2 is no row of a table, and the text no polynomial in q and t: none\n"),
     ("strokes", "1 0 1 / 3 0 1\n", 1, "compare: line 1 is no row of a table, and the text no polynomial in q and t: 1 0 1 / 3 0 1\n"),
     ("a row twice", "1 0 1\n3 0 1\n1 0 1\n", 1, "compare: line 3 gives j 1 i 0 a second time\n"),
     ("another field", "field 5\n1 0 1\n", 1, "compare: the table is over 5 elements, and --field names 3\n"),
-    ("nothing", "\n", 1, "compare: the text has no dimension above 0\n"),
+    ("nothing", "\n", 1, "compare: the program wrote nothing\n"),
+    ("no dimension", "1 0 0\n", 1, "compare: no dimension is above 0\n"),
     ("by nothing", "q/0\n", 1, "compare: the polynomial divides by 0\n"),
 ]
 
@@ -72,7 +73,7 @@ TORUS = "q^7 + q^9 + q^11 t^2 + q^13 t^4 + q^15 t^3 + q^15 t^4 + q^17 t^5 + q^17
 HALF = "q^2 + q^6 t^2 + q^8 t^3"
 LESS = "".join(f"j 13 i {i}: 0, and 1 in the reference\n" for i in (3, 4)) + ONLY_TORSION
 SPACE = "Vector space of dimension 1 over Rational Field"
-NEAREST = "nearest is the reference, and j shifted by 2; there:\nj 11 i 3: 2, and 1 there\n"
+NEAREST = "nearest is the reference, and j shifted by 2:\nj 11 i 3: yours 2, the shifted reference 1\n"
 FINE = "jones 1*q^1 1*q^3 1*q^5 -1*q^9\nnothing speaks against this table\n"
 FOR_T = "compare: T^2 is read as torsion, Z[2], and the text has no t: write t where T stands for it\n"
 TOO_DEEP = "compare: no dictionary and no list goes on so: " + "{" * 80 + "\n"

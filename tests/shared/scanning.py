@@ -36,6 +36,17 @@ def is_there(scan):
     return False
 
 
+def named(scan, cases):
+    """These cases, with the program before the name of each."""
+    return ((f"{os.path.relpath(scan, TOP)}: {name}", fault) for name, fault in cases())
+
+
+def parts_of(scan, found):
+    """The parts of tests of a program of scans, by their names."""
+    for name, cases in found.items():
+        yield f"kh-scan, {name}", functools.partial(named, scan, cases)
+
+
 def words_behind(words):
     """The words for `kh-scan` that ask for what these ask of `kh`; None where it is no homology, or they have an option that it lacks."""
     if any(isinstance(it, bytes) for it in words):

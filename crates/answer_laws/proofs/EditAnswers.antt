@@ -11,9 +11,9 @@ use Rattle.undo_stack.specs.declared.edit_line.EditLine.{EditLine}
 use Rattle.word_line.specs.declared.command.Command.{Command}
 use Rattle.word_line.specs.declared.command.Task.TheVariants.{Edit}
 use Rattle.word_line.specs.Commands.{IsCommand}
-use Rattle.kh_replies.specs.Inputs.{IsDiagramText}
-use Rattle.kh_replies.specs.Parts.{code_part, part_behind}
-use Rattle.kh_replies.specs.Replies.{Reply}
+use Rattle.kh_inputs.specs.Inputs.{IsDiagramText}
+use Rattle.kh_inputs.specs.Parts.{code_part, part_behind}
+use Rattle.kh_runs.specs.Replies.{Reply}
 use Rattle.kh_work.specs.Answer.{IsAnswer}
 use Rattle.kh_work.specs.Edit.{edits_in, outcome_reply}
 use Rattle.kh_work.proofs.AnswerLemmas.{IsAnswer-edit}

@@ -7,3 +7,4 @@ mod EditedCodes
 mod TurnedAnswers
 mod AlikeAnswers
 mod EditAnswers
+mod ScanAnswers

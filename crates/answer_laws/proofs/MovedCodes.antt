@@ -10,10 +10,10 @@ use Rattle.kh_types.specs.Code.{Code, place_of}
 use Rattle.kh_types.specs.Directions.{positive_at}
 use Rattle.kh_types.specs.declared.limits.TheConstants.{CROSSINGS}
 use Rattle.code_passes.specs.Parts.{slots_in}
-use Rattle.kinks_and_fingers.specs.Drops.{dropped, is_of_two, kept_places, renamed_slots, straight_names}
-use Rattle.kinks_and_fingers.specs.FingerAdd.{crossing_with, differ, fingered, first_crossing, moved_crossings, moved_slots, opened, second_crossing, with_finger}
-use Rattle.kinks_and_fingers.specs.KinkAdds.{kink_crossing, kinked_slots, raised_crossings, with_kink}
-use Rattle.slides.specs.Triangles.{slide_slot}
+use Rattle.kink_and_finger_laws.specs.Drops.{dropped, is_of_two, kept_places, renamed_slots, straight_names}
+use Rattle.kink_and_finger_laws.specs.FingerAdd.{crossing_with, differ, fingered, first_crossing, moved_crossings, moved_slots, opened, second_crossing, with_finger}
+use Rattle.kink_and_finger_laws.specs.KinkAdds.{kink_crossing, kinked_slots, raised_crossings, with_kink}
+use Rattle.slide_laws.specs.Triangles.{slide_slot}
 use Rattle.orient_arcs.specs.Renumbered.{renumber}
 use Rattle.diagram_moves.specs.Moved.{is_left, moved, slid_at}
 use Rattle.diagram_moves.specs.MoveFaults.{crossing_limit_fault, finger_add_fault, finger_drop_fault, finger_place_fault, kink_add_fault, kink_drop_fault, no_arc, on_loop, slide_fault, wrong_genus}

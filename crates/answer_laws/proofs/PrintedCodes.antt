@@ -13,10 +13,11 @@ use Rattle.cancel_log.proofs.PrintedDiagrams.{short-text}
 use Rattle.word_line.specs.declared.command.Form.{Form}
 use Rattle.word_line.specs.declared.command.Form.TheVariants.{Gauss, Pd}
 use Rattle.kh_replies.specs.Convert.{convert_reply, text_in}
-use Rattle.kh_replies.specs.Inputs.{IsDiagramText}
-use Rattle.kh_replies.specs.Replies.{Reply}
-use Rattle.kh_replies.proofs.ReadCodes.{IsCodeRead-printed, four_slots-read}
-use Rattle.kh_replies.proofs.TextFaults.{few_crossings-read}
+use Rattle.kh_inputs.specs.Inputs.{IsDiagramText}
+use Rattle.kh_runs.specs.Replies.{Reply}
+use Rattle.kh_work.proofs.PrintedReadings.{IsCodeRead-printed}
+use Rattle.kh_inputs.proofs.ReadCodes.{four_slots-read}
+use Rattle.kh_inputs.proofs.TextFaults.{few_crossings-read}
 use Rattle.answer_laws.specs.Shown.{ShowsDiagram}
 use Rattle.answer_laws.proofs.GaussTexts.{gauss_text-le}
 use Rattle.answer_laws.proofs.SmallCodes.{IsSmall}

@@ -14,10 +14,10 @@ use Rattle.word_line.specs.declared.command.Form.TheVariants.{Gauss, Pd}
 use Rattle.word_line.specs.declared.command.Task.TheVariants.{Convert, Mirror, Reverse, Union}
 use Rattle.word_line.specs.Commands.{IsCommand}
 use Rattle.kh_replies.specs.Convert.{convert_reply}
-use Rattle.kh_replies.specs.Inputs.{IsDiagramText}
-use Rattle.kh_replies.specs.Parts.{code_part, part_behind}
-use Rattle.kh_replies.specs.Replies.{Reply}
-use Rattle.kh_replies.proofs.TextFaults.{few_crossings-read, few_loops-read}
+use Rattle.kh_inputs.specs.Inputs.{IsDiagramText}
+use Rattle.kh_inputs.specs.Parts.{code_part, part_behind}
+use Rattle.kh_runs.specs.Replies.{Reply}
+use Rattle.kh_inputs.proofs.TextFaults.{few_crossings-read, few_loops-read}
 use Rattle.kh_work.specs.Answer.{IsAnswer}
 use Rattle.kh_work.proofs.OneAnswer.{HaveOneReply-task, IsAnswer-one}
 use Rattle.kh_work.proofs.TextAnswers.{IsAnswer-gauss, IsAnswer-planar}

@@ -7,9 +7,9 @@ use Rattle.kh_types.specs.declared.limits.TheConstants.{EXPONENT}
 use Rattle.link_algebra.specs.Unions.{product_coefficient}
 use Rattle.union_laws.specs.UnitedRows.{rows_product}
 use Rattle.word_line.specs.Values.{IsFieldSize}
-use Rattle.kh_replies.specs.Inputs.{IsDiagramText}
-use Rattle.kh_replies.specs.Replies.{Reply}
-use Rattle.kh_replies.specs.declared.status.Status.TheVariants.{Done}
+use Rattle.kh_inputs.specs.Inputs.{IsDiagramText}
+use Rattle.kh_runs.specs.Replies.{Reply}
+use Rattle.kh_runs.specs.declared.status.Status.TheVariants.{Done}
 
 -- a reply is done, and its text is that of an accepted diagram of which something holds: so a next command reads it
 pub record ShowsDiagram (Holds : Code → Type 0) (reply : Reply) : Type 0 where

@@ -8,7 +8,7 @@ ghost use Rattle.diagram_moves.specs.declared.change.Move.TheVariants.{KinkDrop}
 ghost use Rattle.undo_stack.specs.EditRuns.{diagram_after};
 ghost use Rattle.undo_stack.specs.declared.edit_line.EditLine.TheVariants.{Change};
 ghost use Rattle.link_algebra.specs.Mirrors.{mirror_of};
-ghost use Rattle.kh_replies.specs.Inputs.{IsDiagramText};
+ghost use Rattle.kh_inputs.specs.Inputs.{IsDiagramText};
 ghost use Rattle.answer_laws.specs.Shown.{dual_table};
 
 /// The table of the Hopf link goes from -6 to 0, and turned round from 0 to 6; so does that of its

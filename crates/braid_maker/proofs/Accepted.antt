@@ -12,7 +12,7 @@ use Rattle.braid_maker.specs.Braids.{lower_left_is_over, left_of}
 use Rattle.braid_maker.specs.Closures.{AreLetters, closure, closure_parts, code_of_number, letters_of, straight_count}
 use Rattle.code_passes.specs.Parts.{ArePaired, Parts}
 use Rattle.orient_arcs.specs.Renumbered.{renumber}
-use Rattle.gluing.specs.Alike.{AreAlike}
+use Rattle.gluing_laws.specs.Alike.{AreAlike}
 use Rattle.kh_types.specs.Accepted.{IsDirected}
 use Rattle.braid_maker.proofs.AlikeCodes.{IsCheckerboard-alike_braid, face_count-alike_braid}
 use Rattle.braid_maker.proofs.CircleJoins.{IsBraidCode, generator_count-braid}

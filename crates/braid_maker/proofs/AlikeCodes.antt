@@ -6,7 +6,7 @@ use Rattle.kh_types.specs.Darts.{HasArcsTwice, partner_at, turned}
 use Rattle.kh_types.specs.Faces.{face_count, face_pair, piece_pair, planar_face_count, open_faces, open_pieces, faces_of, pieces_of}
 use Rattle.kh_types.proofs.DartPairs.{IsOtherPlace-partner_at, partner_at-only}
 use Rattle.kh_types.proofs.RangeImages.{map_range-agree}
-use Rattle.gluing.specs.Alike.{AreAlike}
+use Rattle.gluing_laws.specs.Alike.{AreAlike}
 use Rattle.braid_maker.specs.Words.{closed_crossings}
 use Rattle.braid_maker.proofs.ChoiceBits.{choice_of}
 use Rattle.braid_maker.proofs.Choices.{IsCheckerboard-parity, choice-below, parity_at, parity-partner}

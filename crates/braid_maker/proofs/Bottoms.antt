@@ -13,6 +13,8 @@ use Rattle.std.proofs.lemmas.List.{get_or-map, length-map}
 use Rattle.std.proofs.lemmas.List.FromFn.{get_or-map-range_with_len, length-map-range_with_len}
 use Rattle.kh_types.proofs.RangeCounts.{list_any-at}
 use Rattle.kh_types.proofs.Ranges.{list_any-below_none}
+use Rattle.kh_types.proofs.Searches.{Search-is}
+use Rattle.kh_types.proofs.Searches.Search.{missing, some}
 use Rattle.code_passes.proofs.LabelCounts.{find-none_at}
 use Rattle.code_passes.specs.Passes.{Pass}
 use Rattle.code_passes.specs.Parts.{Parts, is_positive_at, over_pass, passes_at, passes_through, slots_in, under_pass}
@@ -26,7 +28,7 @@ use Rattle.braid_maker.specs.Braids.{left_of, lower_left_is_over}
 use Rattle.braid_maker.specs.Closures.{AreLetters, arc_name, bottom_arc, closure_parts, is_bottom}
 use Rattle.braid_maker.specs.Bottoms.{HasBottom, IsLeastBottom, bottom_name}
 use Rattle.braid_maker.proofs.Accepted.{ArePaired-closure}
-use Rattle.braid_maker.proofs.Names.{Named-is, Search-is, position, greater, some, missing}
+use Rattle.braid_maker.proofs.Names.{Named-is, position, greater}
 use Rattle.braid_maker.proofs.Nearest.{Last-is, found, none}
 
 -- the arc above a crossing that is passed at a position tells the position
@@ -87,10 +89,9 @@ bottom-named n left strands q positive within passed = elim (Search-is (is_botto
       let both = and_parts (list_any (touches left p) (range_with_len 0 n)) (nat_eq (bottom_arc n left p) (bottom_arc n left q)) passes in
       ap (λ o. unwrap_or o (strands + bottom_arc n left q)) is
       ∙ bottoms-apart n left p q both.0 passed (eqb-true (bottom_arc n left p) (bottom_arc n left q) both.1)
-  | missing is ↦
+  | missing fails is ↦
       absurd
-      (both_ways (is_bottom n left (bottom_arc n left q) q)
-      (find-none_at (is_bottom n left (bottom_arc n left q)) 1 strands q is positive (omega (arith, within))) (is-bottom n left q passed))
+      (both_ways (is_bottom n left (bottom_arc n left q) q) (fails q positive (omega (arith, within))) (is-bottom n left q passed))
 ]
 
 -- a name is low where it is that of an arc through a bottom
@@ -110,7 +111,7 @@ low-named n left strands arc positive low = elim (Search-is (is_bottom n left ar
         within = low;
         passed = ap (λ p. list_any (touches left p) (range_with_len 0 n)) named ∙ both.0;
       }
-  | missing is ↦
+  | missing fails is ↦
       let named : arc_name n left strands arc ≡ strands + arc = ap (λ o. unwrap_or o (strands + arc)) is in
       absurd (omega (arith, named, positive, low))
 ]

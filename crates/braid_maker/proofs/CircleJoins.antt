@@ -26,7 +26,7 @@ use Rattle.kh_types.proofs.Ranges.{list_any-below}
 use Rattle.kh_types.proofs.JoinedClasses.{IsNamed-classes_of}
 use Rattle.kh_types.proofs.Lists.{AllByRecursion-append, AllByRecursion-first, AllByRecursion-second}
 use Rattle.circle_smoothing.specs.GeneratorCounts.{generator_count}
-use Rattle.gluing.specs.Alike.{AreAlike}
+use Rattle.gluing_laws.specs.Alike.{AreAlike}
 use Rattle.braid_maker.specs.Words.{closed_crossings, touches}
 use Rattle.braid_maker.proofs.Corners.{corner_place, length-crossings}
 use Rattle.braid_maker.proofs.FewClasses.{arc-dart, chain, ends-alike, few-classes, is_touched, last_at}

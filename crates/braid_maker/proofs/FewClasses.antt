@@ -9,7 +9,7 @@ use Rattle.kh_types.specs.Code.{IsArc}
 use Rattle.kh_types.specs.Classes.{class_count, is_least, IsNamed}
 use Rattle.kh_types.specs.Darts.{arc_of, dart_at, dart_place, first_dart, HasArcsTwice}
 use Rattle.kh_types.proofs.DartPairs.{dart_at-place, dart_place-below, IsDartOf-first_dart}
-use Rattle.gluing.specs.Alike.{AreAlike}
+use Rattle.gluing_laws.specs.Alike.{AreAlike}
 use Rattle.braid_maker.specs.Words.{touches, last_below, previous, closed_crossings}
 use Rattle.braid_maker.proofs.Counts.{count-images}
 use Rattle.braid_maker.proofs.Nearest.{found, none, Last-is, IsNearest-previous, nearest-only}

@@ -7,31 +7,14 @@ use Rattle.std.proofs.lemmas.List.{get_or-map, length-map}
 use Rattle.kh_types.specs.Code.{arc_in}
 use Rattle.kh_types.specs.Darts.{arc_of, dart_at}
 use Rattle.kh_types.proofs.DartPairs.{IsDart-at}
-use Rattle.gluing.specs.Alike.{AreAlike}
+use Rattle.kh_types.proofs.Searches.{Search-is}
+use Rattle.kh_types.proofs.Searches.Search.{missing, some}
+use Rattle.gluing_laws.specs.Alike.{AreAlike}
 use Rattle.braid_maker.specs.Words.{closed_crossings, touches}
 use Rattle.orient_arcs.specs.Renumbered.{renamed_crossing}
 use Rattle.orient_arcs.proofs.Bridge.{renamed-slot}
 use Rattle.braid_maker.specs.Closures.{bottom_arc, is_bottom, arc_name, named_parts}
 use Rattle.braid_maker.proofs.Partners.{HasArcsTwice-braid}
-
--- what a search in a range says
-pub data Search (test : ℕ → Bool) (a n : ℕ) : Type 0 where
-  some : (x : ℕ) → a ≤ x → x < a + n → test x ≡ true → find test (range_with_len a n) ≡ Some x → Search test a n
-  missing : find test (range_with_len a n) ≡ None → Search test a n
-
-pub Search-is : (test : ℕ → Bool) (a n : ℕ) → Search test a n
-Search-is test a zero = missing refl
-Search-is test a (suc n) = elim (cases_Bool (test a)) [
-  | inl passes ↦
-      some a (omega arith) (omega arith) passes (ap (λ b. cond b (Some a) (find test (range_with_len (a + 1) n))) passes)
-  | inr fails ↦
-      let step : find test (range_with_len a (suc n)) ≡ find test (range_with_len (a + 1) n) =
-      ap (λ b. cond b (Some a) (find test (range_with_len (a + 1) n))) fails in
-      elim (Search-is test (a + 1) n) [
-        | some x from below passes is ↦ some x (omega (arith, from)) (omega (arith, below)) passes (step ∙ is)
-        | missing is ↦ missing (step ∙ is)
-      ]
-]
 
 -- an arc's name is a position, through whose bottom the arc goes, or greater than all positions
 pub data Named (n : ℕ) (left : ℕ → ℕ) (strands arc : ℕ) : Type 0 where
@@ -43,7 +26,7 @@ Named-is n left strands arc = elim (Search-is (is_bottom n left arc) 1 strands) 
   | some q from below passes is ↦
       let parts = and_parts (list_any (touches left q) (range_with_len 0 n)) (nat_eq (bottom_arc n left q) arc) passes in
       position q (omega (arith, below)) (eqb-true (bottom_arc n left q) arc parts.1) (ap (λ o. unwrap_or o (strands + arc)) is)
-  | missing is ↦ greater (ap (λ o. unwrap_or o (strands + arc)) is)
+  | missing fails is ↦ greater (ap (λ o. unwrap_or o (strands + arc)) is)
 ]
 
 name-apart : (n : ℕ) (left : ℕ → ℕ) (strands arc other : ℕ) → 1 ≤ arc → 1 ≤ other

@@ -1,4 +1,4 @@
--- The bottoms of a closed braid, and the components that pass through them (this project's rule).
+-- The bottoms of a closed braid, and the components that pass through them.
 use Rattle.std.specs.Prelude.{◌≡◌, ◌≤◌, ℕ, ℤ, List, length, false, IsTrue}
 use Rattle.orient_arcs.specs.Renumbered.{is_in}
 use Rattle.braid_maker.specs.Braids.{is_straight, left_of}

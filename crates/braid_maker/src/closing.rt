@@ -15,8 +15,7 @@ use orient_arcs::{Parts, renumber};
 
 /// The code of the closed braid of some letters on some strands, at most `LETTERS` and `STRANDS`;
 /// its crossings stand in the order of the letters. The letter m lets the strand at the position m
-/// pass over to m + 1, and -m lets it pass under. A strand without a crossing is a loop. Source:
-/// this project's rule.
+/// pass over to m + 1, and -m lets it pass under. A strand without a crossing is a loop.
 pub fn closure(strands: u8, letters: &[i8]) -> RawCode
     requires strands { strands ≤ STRANDS }
     requires few { length letters.now ≤ LETTERS }

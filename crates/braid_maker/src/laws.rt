@@ -6,7 +6,7 @@ ghost use Rattle.kh_types.specs.Checkerboard.{IsCheckerboard};
 ghost use Rattle.kh_types.specs.Code.{IsCrossing};
 ghost use Rattle.kh_types.specs.Darts.{HasArcsTwice};
 ghost use Rattle.kh_types.specs.Directions.{is_positive};
-ghost use Rattle.gluing.specs.Alike.{AreAlike};
+ghost use Rattle.gluing_laws.specs.Alike.{AreAlike};
 ghost use Rattle.kh_types.specs.Acceptance.{accepted, first_fault, checkerboard_fault, genus_fault, arc_times_fault};
 ghost use Rattle.kh_types.specs.Faces.{face_count, piece_count, planar_face_count};
 ghost use Rattle.kh_types.specs.Components.{component_count};

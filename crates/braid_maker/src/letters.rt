@@ -6,7 +6,7 @@ ghost use Rattle.braid_maker.specs.Closures.{AreLetters, are_letters, is_letter}
 use crate::rising::left_of;
 
 /// Whether a braid on some strands has these letters: of each, the position that is its size and
-/// the next are among them. Source: this project's rule.
+/// the next are among them.
 pub fn are_letters(strands: u8, letters: &[i8]) -> bool
     ensures { IsTrue result ↔ AreLetters strands letters.now }
 {

@@ -1,4 +1,5 @@
-//! Closed braids as codes: each is accepted, and those of numbers have few generators.
+//! Closed braids as codes, each of which is accepted, and the diagrams of numbers, which have few
+//! generators.
 #![tactic(auto)]
 
 mod closing;

@@ -1,4 +1,4 @@
-//! The sizes of braids. All of them are this project's rule.
+//! The sizes of braids.
 
 /// The most strands of a braid.
 pub const STRANDS: u8 = 8;

@@ -20,7 +20,7 @@ pub struct NumberLimit {
 }
 
 /// The diagram of a number: its ten digits in base 4, least first, are the letters 1, -1, 2 and -2
-/// of a braid on three strands, whose closure it is. Source: this project's rule.
+/// of a braid on three strands, whose closure it is.
 pub fn from_number(number: u32) -> Result<Diagram, NumberLimit>
     ensures within { IsOk result ↔ (number < NUMBERS) }
     ensures diagram { IfOk result (λ diagram. diagram ≡ code_of_number number) }

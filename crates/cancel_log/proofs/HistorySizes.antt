@@ -23,10 +23,10 @@ use Rattle.kh_types.proofs.ListSums.{sum_by-alike, sum_by-filter, sum_by-map, su
 use Rattle.prime_field.specs.Residues.{IsField}
 use Rattle.circle_smoothing.specs.GeneratorCounts.{generator_count}
 use Rattle.circle_smoothing.proofs.GeneratorLemmas.{length-generators}
-use Rattle.cube_squares.proofs.BlockComplexes.{IsComplex-block}
+use Rattle.square_laws.proofs.BlockComplexes.{IsComplex-block}
 use Rattle.cube_signs.specs.Blocks.{block_degrees, has_block}
-use Rattle.cancel_step.specs.RankSums.{live_places}
-use Rattle.cancel_step.proofs.HistoryEnds.{length-half}
+use Rattle.history_laws.specs.RankSums.{live_places}
+use Rattle.history_laws.proofs.HistoryEnds.{length-half}
 use Rattle.shared_block.specs.AllBlocks.{AreBlocksOf, degrees_of_blocks}
 use Rattle.shared_block.specs.BlockHistories.{BlockHistory, HasLegalHistory}
 use Rattle.kh_types.proofs.MappedLists.{count-all}

@@ -15,9 +15,9 @@ use Rattle.prime_field.specs.Residues.{IsField, IsSmallPrime}
 use Rattle.prime_field.specs.SmallFields.{field-small_prime}
 use Rattle.circle_smoothing.specs.GeneratorCounts.{generator_count}
 use Rattle.circle_smoothing.specs.declared.limits.TheConstants.{GENERATORS}
-use Rattle.cube_squares.proofs.BlockComplexes.{IsComplex-block}
+use Rattle.square_laws.proofs.BlockComplexes.{IsComplex-block}
 use Rattle.cube_signs.specs.Blocks.{block_degrees}
-use Rattle.cancel_step.proofs.HistoryEnds.{ending}
+use Rattle.history_laws.proofs.HistoryEnds.{ending}
 use Rattle.shared_block.specs.AllBlocks.{AreBlocksOf, IsFinished, degrees_of_blocks}
 use Rattle.shared_block.specs.BlockHistories.{BlockHistory, HasLegalHistory, block_with}
 use Rattle.cancel_log.specs.LogTexts.{log_text}

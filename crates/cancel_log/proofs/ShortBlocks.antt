@@ -20,8 +20,8 @@ use Rattle.circle_smoothing.specs.GeneratorCounts.{generator_count}
 use Rattle.circle_smoothing.specs.declared.limits.TheConstants.{GENERATORS}
 use Rattle.circle_smoothing.proofs.GeneratorLemmas.{length-generators}
 use Rattle.sparse_block.proofs.ComplexMatrices.{entry-stands}
-use Rattle.cancel_step.proofs.HistoryLemmas.{complex-replay, places-replay}
-use Rattle.cube_squares.proofs.BlockComplexes.{IsComplex-block, places-block}
+use Rattle.sparse_block.proofs.HistoryLemmas.{complex-replay, places-replay}
+use Rattle.square_laws.proofs.BlockComplexes.{IsComplex-block, places-block}
 use Rattle.cube_signs.specs.Blocks.{block_degrees, has_block}
 use Rattle.shared_block.specs.BlockHistories.{BlockHistory, HasLegalHistory}
 use Rattle.table_text.proofs.LineTexts.{IsWithin-bounds}

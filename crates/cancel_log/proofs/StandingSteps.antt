@@ -20,7 +20,7 @@ use Rattle.kh_types.specs.History.{block}
 use Rattle.kh_types.specs.Table.{Row, rows_at}
 use Rattle.kh_types.proofs.Prefixes.{prefix_whole}
 use Rattle.cube_signs.specs.Blocks.{block_degrees}
-use Rattle.cancel_step.proofs.HistoryLemmas.{legal-push}
+use Rattle.sparse_block.proofs.HistoryLemmas.{legal-push}
 use Rattle.shared_block.specs.AllBlocks.{IsFinished, degrees_of_blocks}
 use Rattle.shared_block.specs.BlockHistories.{BlockHistory, HasLegalHistory, block_with, complex_of}
 use Rattle.shared_block.specs.Commits.{is_pivot, with_pivot}

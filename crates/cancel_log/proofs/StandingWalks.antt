@@ -13,7 +13,7 @@ use Rattle.kh_types.specs.Complex.{Complex, Pivot}
 use Rattle.kh_types.specs.History.{IsLegal, block, replay}
 use Rattle.kh_types.specs.Table.{Row}
 use Rattle.cube_signs.specs.Blocks.{block_degrees}
-use Rattle.cancel_step.proofs.HistoryLemmas.{replay-push}
+use Rattle.sparse_block.proofs.HistoryLemmas.{replay-push}
 use Rattle.shared_block.specs.AllBlocks.{IsFinished, degrees_of_blocks}
 use Rattle.shared_block.specs.BlockHistories.{BlockHistory, block_with}
 use Rattle.shared_block.proofs.PivotTests.{passes-IsPivot}

@@ -1,4 +1,4 @@
--- The lines of a text that are left to read, as the way of the code (this project's rule).
+-- The lines of a text that are left to read, as the way of the code.
 use Rattle.std.specs.Prelude.{◌≡◌, ℕ, ◌+◌, ◌≤◌, List, ◌∷◌, length, drop}
 use Rattle.kh_lex.specs.Lines.{lines_of}
 use Rattle.cancel_log.specs.Verdicts.{DifferFirst}

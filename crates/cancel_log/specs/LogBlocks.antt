@@ -1,4 +1,4 @@
--- The blocks of a log: what its lines tell of them, and which line can not follow (this project's rule).
+-- The blocks of a log: what its lines tell of them, and which line can not follow.
 use Rattle.std.specs.Prelude.{◌≡◌, ◌≢◌, ℕ, ◌-◌, ℤ, List, [], ◌∷◌, ◌++◌, length, map, take, All}
 use Rattle.std.specs.List.{flat_map}
 use mathlib.Core.List.{IsPrefix}

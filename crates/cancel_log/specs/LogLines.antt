@@ -1,4 +1,4 @@
--- The lines of a log of cancellations: what each can say, and its text (this project's rule).
+-- The lines of a log of cancellations: what each can say, and its text.
 use Rattle.std.specs.Prelude.{◌≡◌, ◌≢◌, ◌<◌, ◌^◌, ℕ, ℤ, List, ◌++◌, codes, unsigned_abs}
 use Rattle.std.specs.Fmt.{decimal, signed_decimal}
 use Rattle.kh_types.specs.Complex.{Pivot}

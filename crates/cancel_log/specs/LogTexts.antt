@@ -1,4 +1,4 @@
--- The text of a log that is written (this project's rule).
+-- The text of a log that is written.
 use Rattle.std.specs.Prelude.{ℕ, List, [], ◌∷◌, ◌++◌}
 use Rattle.std.specs.List.{flat_map}
 use Rattle.kh_types.specs.Code.{Code}

@@ -1,4 +1,4 @@
--- The numbers in lines, exactly as they are printed, as the way of the code (this project's rule).
+-- The numbers in lines, exactly as they are printed, as the way of the code.
 use Rattle.std.specs.Prelude.{◌≡◌, ◌≢◌, ◌<◌, ◌^◌, ◌==◌, ◌||◌, ℕ, ℤ, List, ◌∷◌, ◌++◌, length, codes, slice_index, Bool, false, not, if◌then◌else◌, Option, None, Some}
 use Rattle.std.specs.List.{AllByRecursion}
 use Rattle.std.specs.Fmt.{decimal, signed_decimal}

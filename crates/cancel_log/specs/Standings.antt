@@ -1,4 +1,4 @@
--- Where the reading of a log's blocks stands, and what a line does there, as the way of the code (this project's rule).
+-- Where the reading of a log's blocks stands, and what a line does there, as the way of the code.
 use Rattle.std.specs.Prelude.{◌≡◌, ℕ, ◌+◌, ℤ, pos, List, [], ◌∷◌, ◌++◌, length, nat_eq, nat_lt, Bool, true, false, ◌&&◌, if◌then◌else◌, slice_index_or, Option, None, Some, Result, Ok, Err}
 use Rattle.std.specs.Ordering.{int_eq}
 use Rattle.kh_types.specs.Code.{Code}

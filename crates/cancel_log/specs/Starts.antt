@@ -1,4 +1,4 @@
--- What the first lines of a log can lack, as the way of the code (this project's rule).
+-- What the first lines of a log can lack, as the way of the code.
 use Rattle.std.specs.Prelude.{◌≡◌, ◌≢◌, ◌<◌, ◌≤◌, ℕ, List, ◌∷◌, length, Option, None, Some}
 use Rattle.kh_types.specs.Code.{Code}
 use Rattle.kh_types.specs.declared.limits.TheConstants.{INPUT_BYTES}

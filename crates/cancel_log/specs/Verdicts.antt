@@ -1,4 +1,4 @@
--- What a log of cancellations comes to: the table that it proves, or the first line that fails, and why (this project's rule).
+-- What a log of cancellations comes to: the table that it proves, or the first line that fails, and why.
 use Rattle.std.specs.Prelude.{◌≡◌, ◌≢◌, ◌<◌, ◌≤◌, ◌⊎◌, ℕ, ◌+◌, List, [], ◌∷◌, ◌++◌, length, take, slice_get, All, IsTrue, Result, Ok, Err}
 use Rattle.kh_types.specs.Acceptance.{accepted}
 use Rattle.kh_types.specs.Code.{Code}

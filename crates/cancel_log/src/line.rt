@@ -1,6 +1,6 @@
 //! What a line of the blocks of a log says.
 
-use cancel_step::Pivot;
+use sparse_block::Pivot;
 
 /// What a line behind the third says. This project's rule.
 #[derive(Clone, Copy, Debug, PartialEq, Eq)]

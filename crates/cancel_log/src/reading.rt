@@ -13,7 +13,7 @@ use crate::replay::replayed_rows;
 use crate::start::take_start;
 use crate::{LogCause, LogStop};
 use cube_signs::check_size;
-use jones_sum::Table;
+use homology_tables::Table;
 use kh_types::Diagram;
 use prime_field::{FieldSize, PrimeField, over_field};
 use shared_block::whole_table;

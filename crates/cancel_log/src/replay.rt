@@ -15,7 +15,7 @@ use crate::saying::said_by;
 use crate::walk::{Walk, take_line};
 use crate::{LogCause, LogLine, LogStop};
 use cube_signs::Cube;
-use jones_sum::Row;
+use homology_tables::Row;
 use kh_types::Diagram;
 use prime_field::PrimeField;
 use std::alloc::Global;

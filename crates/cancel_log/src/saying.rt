@@ -7,7 +7,7 @@ ghost use Rattle.cancel_log.specs.NumberWords.{HasNoSpace, IsCutAtSpace, IsPivot
 
 use crate::LogLine;
 use crate::numbers::{degree_in, place_in};
-use cancel_step::Pivot;
+use sparse_block::Pivot;
 
 /// What a line behind the third says.
 #[tactic(auto, using(crate::proofs::LineTexts::said))]

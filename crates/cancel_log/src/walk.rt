@@ -9,13 +9,12 @@ ghost use Rattle.shared_block.specs.BlockHistories.{block_with};
 ghost use Rattle.cancel_log.specs.Standings.{Does, begin_in, cancel_in, close_in, is_closed, rows_and, standing_first, step};
 
 use crate::{LogCause, LogLine};
-use cancel_step::Pivot;
 use cube_signs::Cube;
-use jones_sum::Row;
+use homology_tables::Row;
 use kh_types::NoMemory;
 use prime_field::PrimeField;
 use shared_block::{SharedBlock, push_rows};
-use sparse_block::Entry;
+use sparse_block::{Entry, Pivot};
 use std::alloc::Global;
 use std::marker::Model;
 

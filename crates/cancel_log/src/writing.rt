@@ -18,9 +18,8 @@ ghost use Rattle.cancel_log.specs.Standings.{IsFinishedBlock};
 ghost use Rattle.cancel_log.specs.Verdicts.{IsLog};
 ghost use Rattle.cancel_log.specs.declared.limits.TheConstants.{LOG_BYTES};
 
-use cancel_step::Pivot;
 use cube_signs::Cube;
-use jones_sum::Table;
+use homology_tables::Table;
 use kh_types::laws::diagrams::diagram_laws;
 use kh_types::{Diagram, NoMemory};
 use pd_code::print_pd;
@@ -28,6 +27,7 @@ use prime_field::PrimeField;
 use prime_field::laws::element_laws;
 use shared_block::laws::block_laws;
 use shared_block::{SharedBlock, push_rows, whole_table};
+use sparse_block::Pivot;
 use std::alloc::Global;
 use table_text::print_table;
 

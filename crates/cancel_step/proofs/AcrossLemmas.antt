@@ -1,5 +1,5 @@
 -- One line more of those that the code makes.
-use Rattle.std.proofs.Common.{◌≡◌, ℕ, ◌+◌, ◌<◌, ◌∙◌, inl, inr, List, [], ◌∷◌, ◌++◌, length, map, take, get_or, ap, ap₂, sym, subst, arith, Bool}
+use Rattle.std.proofs.Common.{◌≡◌, ℕ, ◌+◌, ◌<◌, ◌∙◌, inl, inr, List, [], ◌∷◌, ◌++◌, length, map, take, get_or, ap, ap₂, sym, subst, Bool}
 use Rattle.std.specs.Prelude.{nat_eq, slice_index, Some, cond}
 use Rattle.std.specs.List.{find}
 use Rattle.std.specs.Option.{option_map_or}
@@ -10,13 +10,13 @@ use Rattle.kh_types.specs.Complex.{Complex, IsComplex, IsPivot, Pivot, cancel, e
 use Rattle.prime_field.specs.Residues.{IsField, inverse_mod, product_mod}
 use Rattle.sparse_block.specs.Entries.{Entry, AreEntries, entries_of, value_at}
 use Rattle.sparse_block.specs.Changes.{PlacedLine}
-use Rattle.sparse_block.proofs.AscendingLemmas.{entries-ascend, entries-from_ascend}
-use Rattle.sparse_block.proofs.EntryLemmas.{value_at-below}
+use Rattle.sparse_block.proofs.AscendingLemmas.{entries-from_ascend}
 use Rattle.cancel_step.specs.Copies.{line_across}
-use Rattle.cancel_step.specs.Lines.{AreLines, entries_with, line_cleared, line_less}
+use Rattle.cancel_step.specs.Lines.{AreLines, entries_with, line_cleared}
+use Rattle.sparse_block.specs.LinePairs.{line_less}
 use Rattle.cancel_step.specs.Sides.{line_on, other_side, place_on}
 use Rattle.cancel_step.specs.declared.side.Side.{Side}
-use Rattle.cancel_step.proofs.EntryValues.{entry-of_line}
+use Rattle.sparse_block.proofs.EntryValues.{entry-of_line}
 use Rattle.cancel_step.proofs.SideLemmas.{entries-on, entry-across, entry_on, line-less, number-on, pivot-on, size_on}
 
 -- a list with one element more, each made by the same function
@@ -24,12 +24,6 @@ one_more : {X Y : Type 0} (f : X → Y) (xs : List X) (k : ℕ) (d : X) (made ma
     → made ≡ map f (take k xs) → y ≡ f (get_or xs k d) → made_more ≡ made ++ y ∷ [] → made_more ≡ map f (take (k + 1) xs)
 one_more {X} {Y} f xs k d made made_more y within so_far is_next is_more =
     is_more ∙ ap₂ (λ (ys : List Y) (y : Y). ys ++ y ∷ []) so_far is_next ∙ sym (map_more f xs k d within)
-
--- numbers of entries are below p
-
-pub value-below : (p size place : ℕ) (es : List Entry) → IsField p → AreEntries p size es → value_at es place < p
-value-below p size place es field are =
-    value_at-below p 0 size place es (omega (arith, field.above_one)) (entries-ascend p size es are)
 
 -- an entry of a line by its index
 entry-value : (p size k : ℕ) (es : List Entry) (line : List ℕ) (d : Entry) → es ≡ entries_of line

@@ -1,24 +1,22 @@
 -- The lines across a pivot are those that its cancellation changes.
-use Rattle.std.proofs.lemmas.Bool.Decides.{nat_tests}
-use Rattle.std.proofs.Common.{◌≡◌, ℕ, suc, ◌*◌, ◌<◌, ◌∙◌, ◌⊎◌, inl, inr, List, [], ◌∷◌, length, map, get_or, ap, ap₂, sym, subst, refl, arith}
+use Rattle.std.proofs.lemmas.Bool.Decides.{nat_tests, eqb_tells}
+use Rattle.std.proofs.Common.{◌≡◌, ℕ, suc, ◌<◌, ◌∙◌, inl, inr, List, [], ◌∷◌, length, map, get_or, ap, ap₂, sym, subst, refl, arith}
 use Rattle.std.specs.Prelude.{slice_index}
 use Rattle.std.proofs.Math.ListN as plain
-use Rattle.std.proofs.lemmas.Bool.Decides.{eqb_tells}
 use Rattle.std.specs.List.{Contains}
 use Rattle.std.proofs.lemmas.Simd.{map-map}
 use Rattle.std.proofs.lemmas.List.{get_or-map, length-map}
-use Rattle.kh_types.specs.Complex.{Complex, IsComplex, IsPivot, Pivot, cancel, degree_of, entry_of}
-use Rattle.kh_types.specs.Rank.{minus_mod}
+use Rattle.kh_types.specs.Complex.{Complex, IsComplex, IsPivot, Pivot, cancel, degree_of}
 use Rattle.kh_types.proofs.CancelLemmas.{sizes-cancel}
-use Rattle.prime_field.specs.Residues.{IsField, inverse_mod, product_mod}
+use Rattle.prime_field.specs.Residues.{IsField}
 use Rattle.sparse_block.specs.Entries.{Entry, AreEntries, entries_of}
 use Rattle.sparse_block.specs.Changes.{AreChanged, PlacedLine, places_of}
 use Rattle.sparse_block.specs.Complexes.{column_of, row_of}
 use Rattle.cancel_step.specs.Copies.{line_across}
 use Rattle.cancel_step.specs.Sides.{line_on, lines_across, other_side, place_on}
 use Rattle.cancel_step.specs.declared.side.Side.{Side}
-use Rattle.cancel_step.proofs.EntryValues.{HasEntry, entry-at_number}
-use Rattle.cancel_step.proofs.UpdateLemmas.{entry-along_column, entry-cancel}
+use Rattle.sparse_block.proofs.CancelledNumbers.{entry-stays}
+use Rattle.sparse_block.proofs.EntryValues.{HasEntry, entry-at_number}
 use Rattle.cancel_step.proofs.SideLemmas.{entries-on, entry_on, number-on, size_on}
 use Rattle.cancel_step.proofs.CopiedLemmas.{blank, line-across_at}
 
@@ -62,29 +60,8 @@ module _ (p size : ℕ) (before after : ℕ → List ℕ) (across : List ℕ) (e
             ];
       }
 
--- without a way back through the pivot an entry stays
-
-no_way : (p x inverse y : ℕ) → (x ≡ 0) ⊎ (y ≡ 0) → product_mod p x inverse * y ≡ 0
-no_way p x inverse y has4 = grind (arith, nat_tests)
-
-minus_mod-nothing_less : (p x y : ℕ) → x < p → y ≡ 0 → minus_mod p x y ≡ x
-minus_mod-nothing_less p x y below none = grind (arith, nat_tests)
-
 module _ (p : ℕ) (complex : Complex) (pivot : Pivot) (field : IsField p) (is : IsComplex p complex) (is_pivot : IsPivot complex pivot)
   where
-    pub entry-stays : (row column : ℕ)
-        → (entry_of complex pivot.degree pivot.row column ≡ 0) ⊎ (entry_of complex pivot.degree row pivot.column ≡ 0)
-        → entry_of complex pivot.degree row column ≡ entry_of (cancel p complex pivot) pivot.degree row column
-    entry-stays row column way =
-        let i = pivot.degree in
-        let M : ℕ → ℕ → ℕ = entry_of complex i in
-        let inverse = inverse_mod p (M pivot.row pivot.column) in
-        let number = product_mod p (M pivot.row column) inverse * M row pivot.column in
-        let nothing : number ≡ 0 = no_way p (M pivot.row column) inverse (M row pivot.column) way in
-        sym (minus_mod-nothing_less p (M row column) number (is.below i row column) nothing)
-        ∙ entry-along_column p pivot.row pivot.column M field (is.below i) is_pivot row column
-        ∙ sym (entry-cancel p complex pivot row column is is_pivot)
-
     column-size : (place : ℕ)
         → length (column_of complex pivot.degree place) ≡ length (column_of (cancel p complex pivot) pivot.degree place)
     column-size place = grind (arith, nat_tests, length-map, sizes-cancel)

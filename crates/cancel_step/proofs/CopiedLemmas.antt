@@ -4,13 +4,11 @@
 -- it. Each line less the multiple of the pivot's line that clears the place of the pivot is that line after the cancellation. So
 -- the cleared copies are the lines across as the cancelled complex has them. The last part says this of parts that are known to
 -- be copied from some complex.
-use Rattle.std.proofs.lemmas.Bool.Decides.{nat_tests}
+use Rattle.std.proofs.lemmas.Bool.Decides.{nat_tests, eqb_tells}
 use Rattle.std.proofs.Common.{◌≡◌, ◌≢◌, ℕ, suc, ◌<◌, ◌∙◌, inl, inr, List, [], ◌∷◌, length, map, get_or, ap, ap₂, sym, subst, refl, arith, Bool}
-use Rattle.std.specs.Prelude.{nat_eq}
+use Rattle.std.specs.Prelude.{nat_eq, Option, Some, cond}
 use Rattle.std.specs.List.{find}
 use Rattle.std.specs.Option.{option_map_or}
-use Rattle.std.specs.Prelude.{Option, Some, cond}
-use Rattle.std.proofs.lemmas.Bool.Decides.{eqb_tells}
 use Rattle.std.proofs.lemmas.Simd.{map-map}
 use Rattle.std.proofs.lemmas.List.{get_or-map, length-map}
 use Rattle.kh_types.specs.Complex.{Complex, IsComplex, IsPivot, Pivot, cancel}
@@ -18,10 +16,11 @@ use Rattle.prime_field.specs.Residues.{IsField, inverse_mod, product_mod}
 use Rattle.sparse_block.specs.Entries.{Entry, AreEntries, entries_of, value_at}
 use Rattle.sparse_block.specs.Changes.{PlacedLine}
 use Rattle.cancel_step.specs.Copies.{Copied, WasCopied, line_across}
-use Rattle.cancel_step.specs.Lines.{AreLines, entries_with, factor_at, line_cleared}
+use Rattle.cancel_step.specs.Lines.{AreLines, entries_with, line_cleared}
+use Rattle.sparse_block.specs.LinePairs.{factor_at}
 use Rattle.cancel_step.specs.Sides.{line_on, lines_across, other_side, place_on}
 use Rattle.cancel_step.specs.declared.side.Side.{Side}
-use Rattle.cancel_step.proofs.EntryValues.{HasEntry, entry-at_number}
+use Rattle.sparse_block.proofs.EntryValues.{HasEntry, entry-at_number}
 use Rattle.cancel_step.proofs.SideLemmas.{entries-on, entry-across, entry-pivot, line-less, number-on, pivot-on, size_on, value-on}
 
 pub blank : Entry

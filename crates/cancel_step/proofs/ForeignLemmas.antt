@@ -4,14 +4,13 @@
 -- first lines and that of one line more give that of all these lines, which is the step of a loop. A copied row with the entries
 -- of the complex's row shows no difference, and any copied row shows it where the values of both lists differ. Columns and rows
 -- together give the least column that shows a difference.
-use Rattle.std.proofs.lemmas.Bool.Decides.{nat_tests}
+use Rattle.std.proofs.lemmas.Bool.Decides.{nat_tests, eqb_tells, leb_tells, not_from_Decides}
 use Rattle.std.proofs.Common.{◌≡◌, ◌≢◌, ℕ, ◌+◌, ◌<◌, ◌∙◌, ◌⊎◌, inl, inr, List, [], ◌∷◌, ◌++◌, length, get_or, take, ap, sym, subst, refl, arith, None, Option}
 use Rattle.std.specs.Prelude.{ℤ}
 use Rattle.std.specs.Bool.{Decides}
 use Rattle.std.specs.Cmp.Lexicographic.{pointwise}
 use Rattle.std.specs.List.{Any}
 use Rattle.std.proofs.lemmas.Bool.{cases_Bool}
-use Rattle.std.proofs.lemmas.Bool.Decides.{eqb_tells, leb_tells, not_from_Decides}
 use Rattle.std.proofs.lemmas.List.{get_or_append_left, get_or-append_right, get_or_default, length-append, take_more}
 use Rattle.std.proofs.lemmas.List.Quantifiers.{Any-push}
 use Rattle.std.proofs.lemmas.Slice.Eq.{slice_eq-Decides}
@@ -20,7 +19,8 @@ use Rattle.sparse_block.specs.Changes.{PlacedLine}
 use Rattle.sparse_block.specs.Complexes.{row_of}
 use Rattle.sparse_block.specs.Entries.{Entry, are_alike, entries_of, value_at}
 use Rattle.sparse_block.proofs.EntryLemmas.{value_at-entries_of}
-use Rattle.cancel_step.specs.Foreign.{FindsLeast, IsOtherColumn, IsOtherRowAt, ShowsBetween, ShowsIn, lesser_of}
+use Rattle.sparse_block.specs.Least.{FindsLeast}
+use Rattle.cancel_step.specs.Foreign.{IsOtherColumn, IsOtherRowAt, ShowsBetween, ShowsIn, lesser_of}
 
 -- entries are compared by both parts, and lists of them one by one
 

@@ -1,15 +1,14 @@
 -- The last entry of a column, and complexes whose columns are empty.
-use Rattle.std.proofs.lemmas.Bool.Decides.{nat_tests}
+use Rattle.std.proofs.lemmas.Bool.Decides.{nat_tests, leb_tells}
 use Rattle.std.proofs.Common.{◌≡◌, ◌≢◌, ℕ, ◌<◌, ◌∙◌, inl, inr, [], ℤ, pos, ◌+ℤ◌, ◌-ℤ◌, ◌≤ℤ◌, length, get_or, ap, sym, arith, true}
-use Rattle.std.proofs.lemmas.Bool.Decides.{leb_tells}
 use Rattle.std.proofs.lemmas.Int.{ints}
 use Rattle.kh_types.specs.Complex.{Complex, IsComplex, entry_of, is_zero}
 use Rattle.sparse_block.specs.Complexes.{column_of, high_of, place_count}
 use Rattle.sparse_block.specs.Entries.{Entry, entries_of}
 use Rattle.sparse_block.proofs.ReadingLemmas.{column-entries, number-column_of}
 use Rattle.sparse_block.proofs.PastLemmas.{column-past, degree-from_place}
-use Rattle.cancel_step.proofs.EntryValues.{entry-of_line, number-none}
-use Rattle.cancel_step.proofs.ZeroLemmas.{find_pivot}
+use Rattle.sparse_block.proofs.EntryValues.{entry-of_line}
+use Rattle.sparse_block.proofs.FindPivot.{zero-from_columns}
 
 -- the last entry of a column is one of the complex
 pub last-entry : (p : ℕ) (complex : Complex) (i : ℤ) (column k : ℕ) (d : Entry) → IsComplex p complex
@@ -21,20 +20,6 @@ last-entry p complex i column k d is within none =
     let at = entry-of_line p size k line d (column-entries p complex i column is) within in
     let row = (get_or (entries_of line) k d).place in
     at.other (sym at.value ∙ number-column_of complex i row column ∙ none)
-
--- a complex is zero where all its columns are empty
-pub zero-from_columns : (complex : Complex) → ((i : ℤ) (column : ℕ) → entries_of (column_of complex i column) ≡ [])
-    → is_zero complex ≡ true
-zero-from_columns complex empty =
-    elim (find_pivot complex) [
-      | inl zeros ↦ zeros
-      | inr found ↦
-          let pivot = found.0 in
-          absurd
-          (found.1
-          (sym (number-column_of complex pivot.degree pivot.row pivot.column)
-          ∙ number-none (column_of complex pivot.degree pivot.column) pivot.row (empty pivot.degree pivot.column)))
-    ]
 
 -- and where those of its degrees are, counted from the greatest down
 

@@ -16,7 +16,7 @@ use Rattle.cancel_step.specs.Foreign.{IsForeign, IsOtherColumn, IsOtherRowAt, Sh
 use Rattle.cancel_step.specs.Sides.{line_on, lines_across, other_side, place_on}
 use Rattle.cancel_step.specs.declared.patched.Update.{Update}
 use Rattle.cancel_step.specs.declared.side.Side.{Side}
-use Rattle.cancel_step.proofs.EntryValues.{entries-agree, numbers-agree}
+use Rattle.sparse_block.proofs.EntryValues.{entries-agree, numbers-agree}
 use Rattle.cancel_step.proofs.ForeignLemmas.{none-shows, number-unless_other, same-unless_other}
 use Rattle.cancel_step.proofs.CopiedLemmas.{across-cleared, across-lines, blank, entries_across, in-across, line-across_at, map-alike, parts-copied, parts_on}
 use Rattle.cancel_step.proofs.SideLemmas.{size_on}

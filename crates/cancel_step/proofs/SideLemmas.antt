@@ -1,7 +1,6 @@
 -- A column and a row are one thing seen from two sides: what is said here of a line of a side holds of both.
 use Rattle.std.proofs.lemmas.Bool.Decides.{nat_tests}
-use Rattle.std.proofs.Common.{arith}
-use Rattle.std.proofs.Common.{◌≡◌, ℕ, ◌*◌, ◌∙◌, List, ℤ, pos, ◌+ℤ◌, ap, sym}
+use Rattle.std.proofs.Common.{arith, ◌≡◌, ℕ, ◌*◌, ◌∙◌, List, ℤ, pos, ◌+ℤ◌, ap, sym}
 use Rattle.std.specs.Prelude.{slice_index}
 use Rattle.kh_types.specs.Complex.{Complex, IsComplex, IsPivot, Pivot, cancel, entry_of}
 use Rattle.kh_types.specs.Rank.{minus_mod}
@@ -10,11 +9,12 @@ use Rattle.sparse_block.specs.Complexes.{place_count}
 use Rattle.sparse_block.specs.Entries.{Entry, AreEntries, entries_of, value_at}
 use Rattle.sparse_block.proofs.EntryLemmas.{value_at-entries_of}
 use Rattle.sparse_block.proofs.ReadingLemmas.{column-entries, number-column_of, row-entries}
-use Rattle.cancel_step.specs.Lines.{line_less}
+use Rattle.sparse_block.specs.LinePairs.{line_less}
 use Rattle.cancel_step.specs.Sides.{line_on, other_side, place_on}
 use Rattle.cancel_step.specs.declared.side.Side.{Side}
-use Rattle.cancel_step.proofs.EntryValues.{entries-agree}
-use Rattle.cancel_step.proofs.UpdateLemmas.{entry-along_column, entry-along_row, entry-cancel, number-line_less}
+use Rattle.sparse_block.proofs.EntryValues.{entries-agree}
+use Rattle.sparse_block.proofs.CancelledNumbers.{entry-along_column, entry-along_row, entry-cancel}
+use Rattle.sparse_block.proofs.PairLemmas.{number-line_less}
 
 -- how many places a line of a side has
 abbrev pub size_on : Side → Complex → ℤ → ℕ

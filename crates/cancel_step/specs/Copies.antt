@@ -1,4 +1,4 @@
--- The columns and rows that a cancellation changes, as they are copied out of a complex (this project's rule).
+-- The columns and rows that a cancellation changes, as they are copied out of a complex.
 use Rattle.std.specs.Prelude.{◌≡◌, ℕ, List, drop, map, take}
 use Rattle.kh_types.specs.Complex.{Complex, IsComplex, IsPivot, Pivot, cancel}
 use Rattle.sparse_block.specs.Changes.{PlacedLine}

@@ -1,5 +1,5 @@
--- Copied parts that a complex does not have, and the least column where this shows (this project's rule).
-use Rattle.std.specs.Prelude.{◌≡◌, ◌≢◌, ℕ, ◌≤◌, ◌⊎◌, ℤ, List, slice_index, min, Option, Some, None, MatchOption}
+-- Copied parts that a complex does not have, and the least column where this shows.
+use Rattle.std.specs.Prelude.{◌≡◌, ◌≢◌, ℕ, ◌⊎◌, ℤ, List, slice_index, min, Option, Some, None}
 use Rattle.std.specs.List.{Any}
 use Rattle.kh_types.specs.Complex.{Complex}
 use Rattle.sparse_block.specs.Changes.{PlacedLine}
@@ -32,15 +32,6 @@ ShowsAt parts complex column = ShowsBetween complex parts.pivot.degree parts.col
 -- a difference shows at some column
 abbrev pub IsForeign : Copied → Complex → Type 0
 IsForeign parts complex = (column : ℕ) × ShowsAt parts complex column
-
--- the least number of which this holds
-pub record IsLeast (P : ℕ → Type 0) (least : ℕ) : Type 0 where
-  pub holds : P least
-  pub first : (n : ℕ) → P n → least ≤ n
-
--- a number is found where there is one of which this holds, and it is the least
-abbrev pub FindsLeast : (ℕ → Type 0) → Option ℕ → Type 0
-FindsLeast P found = MatchOption found ((n : ℕ) → ¬ P n) (IsLeast P)
 
 -- the lesser of two numbers that were found, or the only one
 abbrev pub lesser_of : Option ℕ → Option ℕ → Option ℕ

@@ -1,13 +1,6 @@
-pub mod RankSums
-pub mod OverFour
 pub mod Copies
 pub mod Sides
 pub mod Foreign
-pub mod Histories
 pub mod Lines
-pub mod LinePairs
 pub mod Spans
 pub mod Updates
-pub mod Reductions
-pub mod StoredColumns
-pub mod WorkedColumns

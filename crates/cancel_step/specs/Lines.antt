@@ -1,21 +1,10 @@
--- Lines of numbers less multiples of others.
-use Rattle.std.specs.Prelude.{ℕ, ◌*◌, List, [], map, nat_eq, All}
-use Rattle.std.specs.List.{find, range_with_len}
+-- Lines by their places, less multiples of a pivot's line.
+use Rattle.std.specs.Prelude.{ℕ, List, [], nat_eq, All}
+use Rattle.std.specs.List.{find}
 use Rattle.std.specs.Option.{option_map_or}
-use Rattle.kh_types.specs.Rank.{minus_mod}
-use Rattle.prime_field.specs.Residues.{inverse_mod, product_mod}
 use Rattle.sparse_block.specs.Changes.{PlacedLine}
-use Rattle.sparse_block.specs.Entries.{Entry, AreEntries, entries_of, value_at}
-
--- the line of this size that some entries denote, less a multiple of that which others denote, modulo p
-abbrev pub line_less : ℕ → ℕ → List Entry → ℕ → List Entry → List ℕ
-line_less p size entries factor others =
-    map (λ place. minus_mod p (value_at entries place) (factor * value_at others place)) (range_with_len 0 size)
-
--- the number at a place, divided by the pivot, which the pivot's line has there
-abbrev pub factor_at : ℕ → List Entry → List Entry → ℕ → ℕ
-factor_at p pivot_line entries across =
-    product_mod p (value_at entries across) (inverse_mod p (value_at pivot_line across))
+use Rattle.sparse_block.specs.Entries.{Entry, AreEntries, entries_of}
+use Rattle.sparse_block.specs.LinePairs.{factor_at, line_less}
 
 -- a line less the multiple of the pivot's line that clears the place where the pivot is
 abbrev pub line_cleared : ℕ → ℕ → List Entry → ℕ → PlacedLine → PlacedLine

@@ -1,4 +1,4 @@
--- Lines whose entries stand in one list (this project's rule).
+-- Lines whose entries stand in one list.
 use Rattle.std.specs.Prelude.{◌≤◌, List, length, map, slice_range, All}
 use Rattle.sparse_block.specs.Entries.{Entry}
 use Rattle.sparse_block.specs.Changes.{PlacedLine, placed}

@@ -1,4 +1,4 @@
--- What a patch holds beside the look (this project's rule).
+-- What a patch holds beside the look.
 use Rattle.std.specs.Prelude.{◌≡◌, ℕ, ◌⊎◌, length, IfNone, IfSome, Option}
 use Rattle.cancel_step.specs.Copies.{Copied, WasPatched}
 use Rattle.cancel_step.specs.declared.patched.Update.{Update}

@@ -5,20 +5,22 @@ ghost use Rattle.kh_types.specs.Complex.{IsPivot, cancel};
 ghost use Rattle.sparse_block.specs.Complexes.{column_of, row_of};
 ghost use Rattle.sparse_block.specs.Entries.{entries_of};
 ghost use Rattle.cancel_step.specs.Copies.{columns_across, rows_across};
-ghost use Rattle.cancel_step.specs.Foreign.{IsForeign, IsLeast, ShowsAt};
+ghost use Rattle.cancel_step.specs.Foreign.{IsForeign, ShowsAt};
+ghost use Rattle.sparse_block.specs.Least.{IsLeast};
 ghost use Rattle.cancel_step.specs.Sides.{lines_across};
 
 use crate::comparing::foreign_column;
-use crate::line_pairs::subtract_into;
 use crate::patched::Update;
 use crate::reading::{entries_beside, own_entries};
 use crate::side::{Side, other_side, place_on};
-use crate::{Foreign, Patch, Pivot};
+use crate::{Foreign, Patch};
 use kh_types::NoMemory;
 use prime_field::laws::element_laws;
 use prime_field::{PrimeField, quotient};
 use smallvec::SmallVec;
-use sparse_block::{Change, Complex, Entry, Line, column_at, complex_laws, row_at, value_at};
+use sparse_block::{
+    Change, Complex, Entry, Line, Pivot, column_at, complex_laws, row_at, subtract_into, value_at,
+};
 use std::alloc::Global;
 
 /// Cancels the pivot of a patch. Foreign where a copied column or row is not that of the complex,

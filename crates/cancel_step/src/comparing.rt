@@ -3,17 +3,17 @@
 ghost use Rattle.std.specs.Prelude.{◌≡◌, ◌↔◌, ℕ, true};
 ghost use Rattle.sparse_block.specs.Changes.{placed};
 ghost use Rattle.sparse_block.specs.Entries.{AreEntries};
-ghost use Rattle.cancel_step.specs.Foreign.{FindsLeast, IsOtherColumn, IsOtherRowAt, ShowsAt};
+ghost use Rattle.sparse_block.specs.Least.{FindsLeast};
+ghost use Rattle.cancel_step.specs.Foreign.{IsOtherColumn, IsOtherRowAt, ShowsAt};
 ghost use Rattle.cancel_step.specs.Foreign.{ShowsBetween, ShowsIn, lesser_of};
 ghost use Rattle.cancel_step.specs.Lines.{AreLines};
 ghost use Rattle.cancel_step.specs.Sides.{IsOtherOn};
 
 use crate::Look;
 use crate::copied_lines::SomeLines;
-use crate::line_pairs::first_difference;
 use crate::side::Side;
 use prime_field::PrimeField;
-use sparse_block::{Complex, Entry, column_at, complex_laws, row_at};
+use sparse_block::{Complex, Entry, column_at, complex_laws, first_difference, row_at};
 
 /// The least column at which a difference between a look and a complex shows.
 pub(crate) fn foreign_column<F: PrimeField>(complex: &Complex<F>, look: &Look<F>) -> Option<u32>

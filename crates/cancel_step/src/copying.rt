@@ -5,13 +5,12 @@ ghost use Rattle.kh_types.specs.Complex.{IsPivot};
 ghost use Rattle.cancel_step.specs.Copies.{copied, line_across};
 ghost use Rattle.cancel_step.specs.Sides.{line_on};
 
-use crate::Pivot;
 use crate::copied_lines::{CopiedLines, SomeLines};
 use crate::reading::{entries_beside, own_entries};
 use crate::side::Side;
 use kh_types::NoMemory;
 use prime_field::PrimeField;
-use sparse_block::{Complex, Entry, complex_laws};
+use sparse_block::{Complex, Entry, Pivot, complex_laws};
 use std::alloc::Global;
 use std::marker::{Model, PhantomData};
 

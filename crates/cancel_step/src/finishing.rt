@@ -5,16 +5,15 @@ ghost use Rattle.std.specs.Prelude.{◌≡◌, ℕ, ◌<◌, [], true, OnOk};
 ghost use Rattle.kh_types.specs.Complex.{is_zero};
 ghost use Rattle.sparse_block.specs.Complexes.{column_of};
 ghost use Rattle.sparse_block.specs.Entries.{entries_of};
-ghost use Rattle.cancel_step.specs.Histories.{ComesByCancelling};
+ghost use Rattle.sparse_block.specs.Histories.{ComesByCancelling};
 
-use crate::Pivot;
 use crate::applying::cancel_with;
 use crate::passing::{degree_count, degree_down};
 use crate::reading::last_row;
 use kh_types::NoMemory;
 use prime_field::PrimeField;
 use prime_field::laws::element_laws;
-use sparse_block::{Complex, Entry, complex_laws};
+use sparse_block::{Complex, Entry, Pivot, complex_laws};
 use std::alloc::Global;
 
 /// Cancels until no entry is left: degrees from the greatest down, the columns of each in order,

@@ -2,9 +2,9 @@
 
 ghost use Rattle.std.specs.Prelude.{◌≡◌};
 
-use crate::{Look, Pivot};
+use crate::Look;
 use prime_field::PrimeField;
-use sparse_block::Line;
+use sparse_block::{Line, Pivot};
 use std::marker::Model;
 
 /// The columns and rows that were copied, as they are after the cancellation.

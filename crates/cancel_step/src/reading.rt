@@ -7,10 +7,9 @@ ghost use Rattle.sparse_block.specs.Complexes.{column_of};
 ghost use Rattle.sparse_block.specs.Entries.{entries_of};
 ghost use Rattle.cancel_step.specs.Sides.{line_on, place_on};
 
-use crate::Pivot;
 use crate::side::{Side, place_on};
 use prime_field::PrimeField;
-use sparse_block::{Complex, Entry, column_at, complex_laws, row_at};
+use sparse_block::{Complex, Entry, Pivot, column_at, complex_laws, row_at};
 
 /// The entries of the line of a side in which a pivot stands.
 pub(crate) fn own_entries<F: PrimeField>(complex: &Complex<F>, side: Side, pivot: Pivot) -> &[Entry]

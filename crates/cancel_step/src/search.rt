@@ -8,11 +8,10 @@ ghost use Rattle.kh_types.specs.Complex.{IsPivot, is_zero};
 ghost use Rattle.sparse_block.specs.Complexes.{column_of, high_of, place_count};
 ghost use Rattle.sparse_block.specs.Entries.{entries_of};
 
-use crate::Pivot;
 use crate::passing::{degree_count, degree_down};
 use crate::reading::last_row;
 use prime_field::PrimeField;
-use sparse_block::{Complex, complex_laws};
+use sparse_block::{Complex, Pivot, complex_laws};
 
 /// A pivot, and where the search met it.
 #[derive(Clone, Copy, Debug, PartialEq, Eq)]

@@ -3,7 +3,7 @@
 ghost use Rattle.std.specs.Prelude.{◌≡◌};
 ghost use Rattle.cancel_step.specs.Sides.{other_side, place_on};
 
-use crate::Pivot;
+use sparse_block::Pivot;
 
 /// A side of a differential.
 #[derive(Clone, Copy)]

@@ -7,14 +7,13 @@ ghost use Rattle.cancel_step.specs.Lines.{AreLines, entries_with, line_cleared};
 ghost use Rattle.cancel_step.specs.Updates.{IsAlone};
 
 use crate::copied_lines::SomeLines;
-use crate::line_pairs::subtract_into;
 use crate::patched::Update;
 use crate::{Look, Patch};
 use kh_types::NoMemory;
 use prime_field::laws::element_laws;
 use prime_field::{PrimeField, quotient};
 use smallvec::SmallVec;
-use sparse_block::{Entry, Line, value_at};
+use sparse_block::{Entry, Line, subtract_into, value_at};
 use std::alloc::Global;
 
 /// For how many entries of a line there is room from the first. Few lines have more.

@@ -110,7 +110,7 @@ number-kept code before after crossing is is_crossing join =
 renumbered-gone : (a b n : ℕ) → n ≡ b → renumbered a b n ≡ a
 renumbered-gone a b n same = grind (arith, nat_tests)
 
-renumbered-low : (a b n : ℕ) → n < b → renumbered a b n ≡ n
+pub renumbered-low : (a b n : ℕ) → n < b → renumbered a b n ≡ n
 renumbered-low a b n below = grind (arith, nat_tests)
 
 renumbered-high : (a b n m : ℕ) → b < n → n ≡ m + 1 → renumbered a b n ≡ m

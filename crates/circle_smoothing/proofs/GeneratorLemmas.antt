@@ -23,6 +23,7 @@ use Rattle.kh_types.specs.declared.limits.TheConstants.{CIRCLES, CROSSINGS}
 use Rattle.kh_types.proofs.CircleBound.{circle_count-within}
 use Rattle.kh_types.proofs.QuantumDegrees.{one_count-le}
 use Rattle.kh_types.proofs.Ranges.{sum_by-range_more}
+use Rattle.kh_types.proofs.ListSums.{sum_by-zeros, sum_by-plus}
 use Rattle.circle_smoothing.specs.GeneratorCounts.{generator_count, kind_generators, label_count}
 use Rattle.circle_smoothing.specs.Kinds.{kind_circles, state_kind}
 use Rattle.circle_smoothing.specs.declared.kinds.TheConstants.{KINDS}
@@ -39,15 +40,6 @@ length-generators code =
     ∙ ap (λ (f : ℕ → ℕ). sum_by f (states code)) (fun_ext (length-generators_of code))
 
 -- a sum over numbers by their kinds
-
-sum_by-none : (f : ℕ → ℕ) (xs : List ℕ) → ((x : ℕ) → f x ≡ 0) → sum_by f xs ≡ 0
-sum_by-none f [] none = refl
-sum_by-none f (x ∷ xs) none = sum_by-cons f x xs ∙ ap₂ (λ a b. a + b) (none x) (sum_by-none f xs none)
-
-sum_by-both : (f g : ℕ → ℕ) (xs : List ℕ) → sum_by (λ x. f x + g x) xs ≡ sum_by f xs + sum_by g xs
-sum_by-both f g [] = refl
-sum_by-both f g (x ∷ xs) =
-    omega (arith, sum_by-cons (λ x. f x + g x) x xs, sum_by-cons f x xs, sum_by-cons g x xs, sum_by-both f g xs)
 
 one_if : Bool → ℕ
 one_if holds = cond holds 1 0
@@ -113,10 +105,10 @@ one_more kind_of_number value x xs kind =
 pub sum_by-kinds : (kind_of_number value : ℕ → ℕ) (xs : List ℕ) (kinds : ℕ) → ((x : ℕ) → kind_of_number x < kinds)
     → sum_by (λ kind. counted kind_of_number xs kind * value kind) (range_with_len 0 kinds)
     ≡ sum_by (λ x. value (kind_of_number x)) xs
-sum_by-kinds kind_of_number value [] kinds below = grind (arith, nat_tests, sum_by-none)
+sum_by-kinds kind_of_number value [] kinds below = grind (arith, nat_tests, sum_by-zeros)
 sum_by-kinds kind_of_number value (x ∷ xs) kinds below =
     ap (λ (f : ℕ → ℕ). sum_by f (range_with_len 0 kinds)) (fun_ext (one_more kind_of_number value x xs))
-    ∙ sum_by-both (only_when value (kind_of_number x)) (λ kind. counted kind_of_number xs kind * value kind) (range_with_len 0 kinds)
+    ∙ sum_by-plus (only_when value (kind_of_number x)) (λ kind. counted kind_of_number xs kind * value kind) (range_with_len 0 kinds)
     ∙ ap₂ (λ a b. a + b) (only_one value (kind_of_number x) 0 kinds (omega arith) (omega (arith, below x)))
     (sum_by-kinds kind_of_number value xs kinds below)
     ∙ sym (sum_by-cons (λ y. value (kind_of_number y)) x xs)

@@ -1,4 +1,4 @@
-//! The circles of a state, the edges and the generators of a diagram.
+//! The circles of a state, what an edge of the cube does, and how many generators there are.
 
 ghost use Rattle.std.specs.Prelude.{◌≡◌, ◌+◌, ◌^◌, ◌<◌, ◌≤◌, length};
 ghost use Rattle.kh_types.specs.Bits.{bit};

@@ -1,5 +1,5 @@
-//! The circles of the states of a diagram, what an edge of the cube does to them, and how many
-//! states and generators there are of each kind.
+//! The circles of the states of a diagram, what an edge of the cube does to them, how many states
+//! and generators there are of each kind, and the limit on generators.
 #![tactic(auto)]
 
 mod branches;

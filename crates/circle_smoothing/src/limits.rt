@@ -1,4 +1,4 @@
 //! The size within which homology is computed.
 
-/// The most generators of a diagram whose homology is computed. Source: this project's rule.
+/// The most generators of a diagram whose homology is computed.
 pub const GENERATORS: u64 = 4_194_304;

@@ -1,4 +1,4 @@
--- What a search finds where one element passes.
+-- A search by a test (`find`), where one element meets it or some do; for CrossingPasses.
 use Rattle.std.proofs.lemmas.Bool.Decides.{nat_tests}
 use Rattle.std.proofs.Common.{◌≡◌, ℕ, zero, suc, inl, inr, ◌+◌, ◌<◌, ◌∙◌, List, [], ◌∷◌, length, get_or, refl, sym, subst, ap, arith, Bool, true, false, cond, unwrap_or}
 use Rattle.std.specs.Prelude.{Some}
@@ -24,7 +24,7 @@ module _ {X : Type 0} (p : X → Bool) (default : X) where
   later-counted : (x : X) (xs : List X) → p x ≡ false → count_by p (x ∷ xs) ≡ count_by p xs
   later-counted x xs fails = grind (arith, nat_tests)
 
-  -- it passes, and has what all have
+  -- what is found meets the test, and has any property that all have
   pub found-passes : (xs : List X) → 0 < count_by p xs → p (found p xs default) ≡ true
   found-passes [] some = absurd (omega (arith, some))
   found-passes (x ∷ xs) some = elim (cases_Bool (p x)) [

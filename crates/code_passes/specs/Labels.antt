@@ -1,4 +1,4 @@
--- Which labels and signs are good. All of it is this project's rule.
+-- Which labels and signs are good.
 use Rattle.std.specs.Prelude.{ℕ, ◌/◌, ◌||◌, Bool, not, List, length, take, nat_abs, nat_eq, nat_lt, ℤ, pos, neg_ℤ, slice_index_or, Option}
 use Rattle.std.specs.List.{find, list_any, range_with_len}
 use Rattle.std.specs.Ordering.{int_eq}

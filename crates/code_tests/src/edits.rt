@@ -5,8 +5,8 @@ use diagram_moves::{Move, MoveFault, Side};
 use known_links::{CURL, TREFOIL, diagram_of};
 use std::test::Fail;
 use undo_stack::{
-    EditFault, EditLine, EditStop, Editor, NothingToRedo, NothingToUndo, SCRIPT_LINES, ScriptStop,
-    read_edit, run_lines,
+    EditFault, EditLine, Editor, NothingToRedo, NothingToUndo, SCRIPT_LINES, ScriptStop, carry_out,
+    read_edit,
 };
 
 /// A curl with a kink on its first arc.
@@ -71,24 +71,23 @@ fn a_change_after_an_undo_empties_the_future(rt: HostRuntime) -> Result<(), Fail
     Ok(())
 }
 
-/// The text of an edit of a curl, read and carried out; the first line that is refused ends it.
+/// The text of an edit of a curl, read and carried out; a line that is refused changes nothing.
 #[test]
-fn an_edit_ends_at_the_first_refused_line(rt: HostRuntime) -> Result<(), Fail> {
+fn a_refused_line_of_an_edit_changes_nothing(rt: HostRuntime) -> Result<(), Fail> {
     let script = read_edit(rt.alloc(), b"r1 drop 1\n\nundo\nundo\nredo\n".as_slice())?;
-    let mut lines = Vec::new(rt.alloc());
-    for line in script.lines.iter() {
-        lines.push(line.1)?;
+    let mut editor = Editor::new(rt.alloc(), diagram_of(CURL, 0)?)?;
+    let (curl, circle) = (diagram_of(CURL, 0)?, diagram_of(&[], 1)?);
+    let rows = [
+        (Ok(()), circle),
+        (Ok(()), curl),
+        (Err(EditFault::NothingToUndo), curl),
+        (Ok(()), circle),
+    ];
+    assert!(rt; script.lines.len() == rows.len());
+    for (line, row) in script.lines.iter().zip(rows.iter()) {
+        assert!(rt; carry_out(&mut editor, line.1) == row.0);
+        assert!(rt; *editor.diagram() == row.1);
     }
-    let curl = diagram_of(CURL, 0)?;
-    let mut editor = Editor::new(rt.alloc(), curl)?;
-    let stop = EditStop {
-        line: 2,
-        fault: EditFault::NothingToUndo,
-    };
-    assert!(rt; run_lines(&mut editor, &lines) == Err(stop));
-    assert!(rt; *editor.diagram() == curl);
-    assert!(rt; editor.redo() == Ok(()));
-    assert!(rt; *editor.diagram() == diagram_of(&[], 1)?);
     Ok(())
 }
 

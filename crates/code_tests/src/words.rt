@@ -1,4 +1,4 @@
-//! Lines of words, and what each comes to. The rows are this project's.
+//! Lines of words, and what each comes to.
 
 use kh_types::Words;
 use prime_field::FieldSize;

@@ -10,7 +10,7 @@ use Rattle.std.specs.Option.{option_map}
 use Rattle.std.specs.Ordering.{int_eq}
 use Rattle.std.proofs.Math.ListN.{get_or-map}
 use Rattle.std.proofs.lemmas.List.{map-set}
-use Rattle.cancel_step.specs.RankSums.{rank_sum}
+use Rattle.history_laws.specs.RankSums.{rank_sum}
 use Rattle.kh_types.specs.Code.{Code}
 use Rattle.kh_types.specs.Complex.{Pivot}
 use Rattle.kh_types.specs.History.{block as cube_block}

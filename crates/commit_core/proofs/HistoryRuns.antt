@@ -16,11 +16,11 @@ use Rattle.kh_types.specs.Complex.{Complex, IsPivot, Pivot}
 use Rattle.kh_types.specs.History.{IsLegal, block, replay}
 use Rattle.prime_field.specs.Residues.{IsField}
 use Rattle.cancel_step.specs.Copies.{copied}
-use Rattle.cancel_step.specs.RankSums.{rank_sum}
-use Rattle.cancel_step.proofs.HistoryEnds.{length-longest}
-use Rattle.cancel_step.proofs.HistoryLemmas.{legal-push, replay-push}
+use Rattle.history_laws.specs.RankSums.{rank_sum}
+use Rattle.history_laws.proofs.HistoryEnds.{length-longest}
+use Rattle.sparse_block.proofs.HistoryLemmas.{legal-push, replay-push}
 use Rattle.cube_signs.specs.Blocks.{block_degrees}
-use Rattle.cube_squares.proofs.BlockComplexes.{IsComplex-block}
+use Rattle.square_laws.proofs.BlockComplexes.{IsComplex-block}
 use Rattle.shared_block.specs.BlockHistories.{BlockCopy, BlockHistory, block_with, copy_with}
 use Rattle.commit_core.specs.Alone.{blocks_with, looks_and_commits, state_with}
 use Rattle.commit_core.specs.States.{Holding, CoreState, block_at, holding_of, opening_state, state_of, with_held}

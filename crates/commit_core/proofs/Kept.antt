@@ -7,9 +7,9 @@ use Rattle.kh_types.specs.Complex.{Pivot, dimension_of, is_zero}
 use Rattle.kh_types.specs.History.{IsLegal, block, replay}
 use Rattle.kh_types.specs.Table.{dimension}
 use Rattle.prime_field.specs.Residues.{IsField}
-use Rattle.cancel_step.proofs.HistoryEnds.{length-zero, zero-length}
-use Rattle.cancel_step.proofs.HistoryLemmas.{dimension_of-replay}
-use Rattle.cube_squares.proofs.BlockComplexes.{IsComplex-block}
+use Rattle.history_laws.proofs.HistoryEnds.{length-zero, zero-length}
+use Rattle.history_laws.proofs.HistoryRanks.{dimension_of-replay}
+use Rattle.square_laws.proofs.BlockComplexes.{IsComplex-block}
 use Rattle.shared_block.specs.BlockHistories.{BlockHistory, HasLegalHistory, complex_of}
 use Rattle.shared_block.proofs.BlockDimensions.{dimension_of-block}
 use Rattle.commit_core.specs.Answering.{turns}

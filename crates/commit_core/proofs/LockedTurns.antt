@@ -3,8 +3,8 @@ use Rattle.std.proofs.Common.{◌≡◌, ◌≢◌, ℕ, ◌+◌, ℤ, length, r
 use Rattle.kh_types.specs.Acceptance.{accepted}
 use Rattle.kh_types.specs.Complex.{is_zero}
 use Rattle.prime_field.specs.Residues.{IsField}
-use Rattle.cancel_step.proofs.HistoryEnds.{length-zero}
-use Rattle.cube_squares.proofs.BlockComplexes.{IsComplex-block}
+use Rattle.history_laws.proofs.HistoryEnds.{length-zero}
+use Rattle.square_laws.proofs.BlockComplexes.{IsComplex-block}
 use Rattle.shared_block.specs.BlockHistories.{BlockCopy, BlockHistory, Fits, HasLegalHistory, complex_of, opening_of}
 use Rattle.commit_core.specs.Rows.{ComesTo}
 use Rattle.commit_core.specs.States.{CoreState, block_at, held_by, holding_of, with_commit, with_held}

@@ -6,10 +6,10 @@ use Rattle.kh_types.specs.Code.{Code}
 use Rattle.kh_types.specs.Complex.{IsPivot, Pivot}
 use Rattle.prime_field.specs.Residues.{IsField}
 use Rattle.cancel_step.specs.Copies.{copied}
-use Rattle.cancel_step.proofs.HistoryEnds.{length-longest, length-zero}
-use Rattle.cancel_step.proofs.HistoryLemmas.{legal-push}
-use Rattle.cancel_step.proofs.ZeroLemmas.{find_pivot}
-use Rattle.cube_squares.proofs.BlockComplexes.{IsComplex-block}
+use Rattle.history_laws.proofs.HistoryEnds.{length-longest, length-zero}
+use Rattle.sparse_block.proofs.HistoryLemmas.{legal-push}
+use Rattle.sparse_block.proofs.FindPivot.{find_pivot}
+use Rattle.square_laws.proofs.BlockComplexes.{IsComplex-block}
 use Rattle.shared_block.specs.BlockHistories.{BlockCopy, BlockHistory, HasLegalHistory, complex_of, copy_with, opening_of}
 use Rattle.commit_core.specs.States.{Holding, CoreState, block_at, held_by, holding_of, opening_state, with_commit, with_held}
 use Rattle.commit_core.specs.Rows.{Commits, Forgets, ComesTo, IsCoreRun, LooksAt, turns_of}

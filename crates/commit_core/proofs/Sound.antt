@@ -15,7 +15,7 @@ use Rattle.std.proofs.lemmas.List.Elements.{All-map, All-replicate, All-set, All
 use Rattle.kh_types.specs.Code.{Code}
 use Rattle.kh_types.specs.Complex.{IsPivot, Pivot}
 use Rattle.kh_types.specs.History.{block as cube_block}
-use Rattle.cancel_step.proofs.HistoryLemmas.{legal-push}
+use Rattle.sparse_block.proofs.HistoryLemmas.{legal-push}
 use Rattle.cube_signs.specs.Blocks.{block_degrees}
 use Rattle.shared_block.specs.BlockHistories.{BlockCopy, BlockHistory, HasLegalHistory, IsCopyOf, block_with, complex_of}
 use Rattle.shared_block.specs.Commits.{with_pivot}

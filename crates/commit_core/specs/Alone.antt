@@ -1,4 +1,4 @@
--- One worker alone at one block (this project's rule).
+-- One worker alone at one block.
 use Rattle.std.specs.Prelude.{ℕ, zero, suc, ℤ, List, [], ◌∷◌, map, replicate, if◌then◌else◌, None}
 use Rattle.std.specs.Ordering.{int_eq}
 use Rattle.kh_types.specs.Code.{Code}

@@ -1,11 +1,11 @@
 -- The answers to events as a function of them: of a block only the length of its history counts, and of what a worker holds only
--- the block and the version (this project's rule).
+-- the block and the version.
 use Rattle.std.specs.Prelude.{ℕ, ◌+◌, ◌-◌, ℤ, List, [], ◌∷◌, map, replicate, if◌then◌else◌, nat_eq, slice_index_or, slice_set, Option, None, Some}
 use Rattle.std.specs.List.{find}
 use Rattle.std.specs.Ordering.{int_eq}
 use Rattle.kh_types.specs.Code.{Code}
 use Rattle.kh_types.specs.History.{block}
-use Rattle.cancel_step.specs.RankSums.{rank_sum}
+use Rattle.history_laws.specs.RankSums.{rank_sum}
 use Rattle.cube_signs.specs.Blocks.{block_degrees}
 use Rattle.commit_core.specs.declared.event.Event.{Event}
 use Rattle.commit_core.specs.declared.event.Event.TheVariants.{Look, Commit, Forget}

@@ -1,4 +1,4 @@
--- The parts of an event: what is seen at a quantum degree, and what a commit to it leaves (this project's rule).
+-- The parts of an event: what is seen at a quantum degree, and what a commit to it leaves.
 use Rattle.std.specs.Prelude.{◌≡◌, ◌≢◌, ℕ, ◌+◌, ◌<◌, ℤ, length, slice_index_or, Option, None, Some}
 use Rattle.shared_block.specs.BlockHistories.{BlockCopy, BlockHistory, IsCopyOf}
 use Rattle.shared_block.specs.declared.commit_answer.CommitAnswer.{CommitAnswer}

@@ -1,7 +1,7 @@
--- The rows of the core's table: what each event comes to, and the state behind it (this project's rule).
+-- The rows of the core's table: what each event comes to, and the state behind it.
 use Rattle.std.specs.Prelude.{◌≡◌, ◌≢◌, ℕ, ◌+◌, ℤ, List, [], ◌∷◌, length, None, Some}
 use Rattle.shared_block.specs.BlockHistories.{BlockHistory, IsCopyOf, opening_of}
-use Rattle.cancel_step.specs.RankSums.{rank_sum}
+use Rattle.history_laws.specs.RankSums.{rank_sum}
 use Rattle.commit_core.specs.States.{Holding, CoreState, block_at, held_by, holding_of, with_commit, with_held}
 use Rattle.commit_core.specs.declared.event.Event.{Event}
 use Rattle.commit_core.specs.declared.event.Event.TheVariants.{Look, Commit, Forget}

@@ -1,4 +1,4 @@
--- The states of the core: a history for each block, and what each worker holds (this project's rule).
+-- The states of the core: a history for each block, and what each worker holds.
 use Rattle.std.specs.Prelude.{◌≡◌, ℕ, ◌-◌, ◌≤◌, ℤ, List, length, map, take, replicate, if◌then◌else◌, slice_index_or, slice_set, Option, None, Some, IfSome, All}
 use Rattle.std.specs.List.{find}
 use Rattle.std.specs.Ordering.{int_eq}

@@ -1,4 +1,5 @@
-//! The core: workers that look at the blocks of a cube and commit to them, as one list of events.
+//! Workers that look at the blocks of a cube and commit to them, as one list of events with one
+//! list of answers.
 #![tactic(auto)]
 
 mod answer;

@@ -10,7 +10,7 @@ ghost use Rattle.commit_core.specs.Rows.{IsCoreRun};
 ghost use Rattle.commit_core.specs.States.{event_worker};
 
 use crate::{Answer, Core, Event};
-use jones_sum::Table;
+use homology_tables::Table;
 use kh_types::{Diagram, NoMemory};
 use prime_field::PrimeField;
 use shared_block::table_laws::blocks_stay_those_of_their_diagram;

@@ -6,10 +6,10 @@ use Rattle.kh_types.specs.Code.{Code}
 use Rattle.kh_types.specs.Residues.{Same}
 use Rattle.kh_types.proofs.Lists.{AllByRecursion-append}
 use Rattle.kh_types.proofs.ListSums.{sum_by-alike, sum_by-flat_map}
-use Rattle.dotted_surfaces.specs.Surfaces.{value}
+use Rattle.surface_laws.specs.Surfaces.{value}
 use Rattle.dotted_maps.specs.declared.term.Term.{Term}
 use Rattle.dotted_maps.specs.Maps.{coefficient_in, scaled}
-use Rattle.added_crossings.specs.Entries.{added_surface, saddle_surface}
+use Rattle.added_crossing_laws.specs.Entries.{added_surface, saddle_surface}
 use Rattle.tangle_maps.specs.Sums.{HaveDotsBelow, IsSum}
 use Rattle.tangle_maps.proofs.SumLemmas.{coefficient-scaled, scaled-below}
 use Rattle.crossing_maps.specs.NewTerms.{AreAddedTerms, AreSaddleTerms, all_terms, new_map, saddle_map, sets_behind}

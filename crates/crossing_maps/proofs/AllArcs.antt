@@ -5,13 +5,13 @@ use Rattle.std.specs.List.{filter, flat_map, AllByRecursion, Contains}
 use Rattle.kh_types.specs.Circles.{smoothing_of}
 use Rattle.kh_types.specs.Classes.{classes_of, is_least}
 use Rattle.kh_types.specs.Code.{Code, arc_count}
-use Rattle.dotted_surfaces.proofs.Components.{list_any-on}
-use Rattle.dotted_surfaces.specs.Points.{AreAmong}
-use Rattle.added_crossings.specs.Pairings.{IsPairingOf}
-use Rattle.added_crossings.specs.Steps.{is_mate, is_none_in, near, pair_with, pairs_among, pairs_at}
-use Rattle.added_crossings.specs.Codes.{closed_at, pairing_behind, points_at, smoothing_at, step_at}
-use Rattle.added_crossings.proofs.Members.{All-contained}
-use Rattle.added_crossings.proofs.Pairs.{IsPairingOf-behind}
+use Rattle.surface_laws.proofs.Components.{list_any-on}
+use Rattle.surface_laws.specs.Points.{AreAmong}
+use Rattle.added_crossing_laws.specs.Pairings.{IsPairingOf}
+use Rattle.added_crossing_laws.specs.Steps.{is_mate, is_none_in, near, pair_with, pairs_among, pairs_at}
+use Rattle.added_crossing_laws.specs.Codes.{closed_at, pairing_behind, points_at, smoothing_at, step_at}
+use Rattle.added_crossing_laws.proofs.Members.{All-contained}
+use Rattle.added_crossing_laws.proofs.Pairs.{IsPairingOf-behind}
 use Rattle.tangle_maps.specs.declared.pairing.TheConstants.{POINTS}
 use Rattle.tangle_maps.proofs.SizeLemmas.{class-sizes, least_points-sizes}
 use Rattle.crossing_maps.specs.Sites.{IsPlace, IsSite, closed_in}

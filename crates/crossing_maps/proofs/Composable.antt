@@ -6,8 +6,8 @@ use Rattle.std.proofs.lemmas.List.{length-append, length-map}
 use Rattle.kh_types.specs.Circles.{smoothing_of}
 use Rattle.kh_types.specs.Classes.{classes_of, is_least}
 use Rattle.kh_types.specs.Code.{arc_in}
-use Rattle.dotted_surfaces.specs.Points.{AreAmong}
-use Rattle.dotted_surfaces.proofs.Components.{AllByRecursion-at, AllByRecursion-weaker}
+use Rattle.surface_laws.specs.Points.{AreAmong}
+use Rattle.surface_laws.proofs.Components.{AllByRecursion-at, AllByRecursion-weaker}
 use Rattle.dotted_maps.proofs.LeastPoints.{AllByRecursion-filter, AreAmong-append, AreAmong-wider, AreJoins}
 use Rattle.tangle_maps.specs.declared.pairing.TheConstants.{POINTS}
 use Rattle.tangle_maps.specs.Pairings.{IsOpened}

@@ -6,8 +6,8 @@ use Rattle.std.proofs.lemmas.List.Sums.{sum_by-append, sum_by-cons}
 use Rattle.kh_types.specs.Bits.{bit}
 use Rattle.kh_types.specs.Classes.{classes_of}
 use Rattle.kh_types.proofs.Lists.{count_by-map}
-use Rattle.dotted_surfaces.specs.Surfaces.{genus_on, marks_on}
-use Rattle.dotted_surfaces.specs.Sheets.{marked, marked_else}
+use Rattle.surface_laws.specs.Surfaces.{genus_on, marks_on}
+use Rattle.surface_laws.specs.Sheets.{marked, marked_else}
 use Rattle.crossing_maps.specs.Counts.{among, genus_among, marks_by, surface_of}
 
 abbrev one_if : Bool → ℕ

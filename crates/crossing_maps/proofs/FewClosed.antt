@@ -10,15 +10,15 @@ use Rattle.std.proofs.lemmas.List.Sums.{sum_by-cons}
 use Rattle.kh_types.specs.Classes.{Respects, classes_of, is_least}
 use Rattle.kh_types.specs.Code.{Code, arc_count, arc_in}
 use Rattle.kh_types.proofs.ClassLemmas.{classes-together}
-use Rattle.dotted_surfaces.specs.Points.{AreAmong}
-use Rattle.dotted_surfaces.proofs.Components.{list_any-contained}
+use Rattle.surface_laws.specs.Points.{AreAmong}
+use Rattle.surface_laws.proofs.Components.{list_any-contained}
 use Rattle.dotted_maps.proofs.ComponentParts.{AreDistinct, distinct-filter, one_at}
-use Rattle.added_crossings.specs.Codes.{closed_at, ends_at, ends_before, is_open, points_at, smoothing_at, step_at}
-use Rattle.added_crossings.specs.Steps.{is_near, is_none_in, near}
-use Rattle.added_crossings.proofs.Classes.{AreAmong-below, Respects-second}
-use Rattle.added_crossings.proofs.CodeSteps.{ends_before-more}
-use Rattle.added_crossings.proofs.CodeSums.{joins-near}
-use Rattle.added_crossings.proofs.Members.{All-contained, are-those, filter-kept, those-are}
+use Rattle.added_crossing_laws.specs.Codes.{closed_at, ends_at, ends_before, is_open, points_at, smoothing_at, step_at}
+use Rattle.added_crossing_laws.specs.Steps.{is_near, is_none_in, near}
+use Rattle.added_crossing_laws.proofs.Classes.{AreAmong-below, Respects-second}
+use Rattle.added_crossing_laws.proofs.CodeSteps.{ends_before-more}
+use Rattle.added_crossing_laws.proofs.CodeSums.{joins-near}
+use Rattle.added_crossing_laws.proofs.Members.{All-contained, are-those, filter-kept, those-are}
 use Rattle.crossing_maps.specs.Sites.{IsPlace}
 use Rattle.crossing_maps.proofs.Placed.{near-distinct}
 use Rattle.crossing_maps.proofs.SiteArcs.{ends-same}

@@ -4,7 +4,7 @@ use Rattle.std.specs.Prelude.{slice_index}
 use Rattle.std.proofs.lemmas.List.{length-append, length-map}
 use Rattle.kh_types.specs.Classes.{classes_of}
 use Rattle.kh_types.specs.Code.{Code}
-use Rattle.added_crossings.specs.Codes.{closed_at}
+use Rattle.added_crossing_laws.specs.Codes.{closed_at}
 use Rattle.tangle_maps.specs.declared.pairing.TheConstants.{POINTS}
 use Rattle.crossing_maps.specs.declared.bridges.Bridge.{Bridge}
 use Rattle.crossing_maps.specs.AddedSeams.{AreMarks, IsSeamAt, joins_there}

@@ -13,12 +13,12 @@ use Rattle.kh_types.specs.Classes.{AreBelow}
 use Rattle.kh_types.specs.Darts.{HasArcsTwice, dart_at}
 use Rattle.kh_types.proofs.DartPairs.{IsDart-at}
 use Rattle.kh_types.proofs.Ranges.{range-append}
-use Rattle.dotted_surfaces.specs.Points.{AreAmong}
+use Rattle.surface_laws.specs.Points.{AreAmong}
 use Rattle.dotted_maps.proofs.LeastPoints.{AreBelow-among}
-use Rattle.added_crossings.specs.Codes.{ends_among, is_open, points_at, smoothing_at, step_at}
-use Rattle.added_crossings.specs.Steps.{is_near, near, those}
-use Rattle.added_crossings.proofs.CodeSums.{joins-near}
-use Rattle.added_crossings.proofs.Members.{All-contained, range-within, those-are}
+use Rattle.added_crossing_laws.specs.Codes.{ends_among, is_open, points_at, smoothing_at, step_at}
+use Rattle.added_crossing_laws.specs.Steps.{is_near, near, those}
+use Rattle.added_crossing_laws.proofs.CodeSums.{joins-near}
+use Rattle.added_crossing_laws.proofs.Members.{All-contained, range-within, those-are}
 
 -- the arc at a place: behind all crossings there is none, and 0 stands for it
 arc-few : (crossings : List (List ℕ)) (place : ℕ) → HasArcsTwice crossings → arc_at crossings place ≤ arc_count crossings

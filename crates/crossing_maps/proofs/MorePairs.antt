@@ -5,7 +5,7 @@ use Rattle.std.proofs.lemmas.List.{map-append}
 use Rattle.std.proofs.lemmas.List.Elements.{filter-append}
 use Rattle.std.proofs.lemmas.List.Sums.{fold-append}
 use Rattle.std.proofs.lemmas.Grind.{flat_map-append}
-use Rattle.added_crossings.specs.Steps.{is_mate, pair_with, pairs_at}
+use Rattle.added_crossing_laws.specs.Steps.{is_mate, pair_with, pairs_at}
 use Rattle.crossing_maps.specs.Partners.{paired_up}
 
 pairs_at-append : (xs ys classes : List ℕ) (x : ℕ) → pairs_at (xs ++ ys) classes x ≡ pairs_at xs classes x ++ pairs_at ys classes x

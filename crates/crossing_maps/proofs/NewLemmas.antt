@@ -14,21 +14,21 @@ use Rattle.std.proofs.lemmas.List.Sums.{sum_by-cons}
 use Rattle.kh_types.specs.Bits.{bit}
 use Rattle.kh_types.specs.Classes.{classes_of}
 use Rattle.kh_types.specs.Code.{Code, arc_count}
-use Rattle.dotted_surfaces.specs.Points.{discs, least_points}
-use Rattle.dotted_surfaces.specs.Sheets.{marked}
-use Rattle.dotted_surfaces.specs.Surfaces.{value}
-use Rattle.dotted_surfaces.proofs.Components.{AllByRecursion-weaker}
-use Rattle.dotted_surfaces.proofs.TwoSides.{AllByRecursion-map}
+use Rattle.surface_laws.specs.Points.{discs, least_points}
+use Rattle.surface_laws.specs.Sheets.{marked}
+use Rattle.surface_laws.specs.Surfaces.{value}
+use Rattle.surface_laws.proofs.Components.{AllByRecursion-weaker}
+use Rattle.surface_laws.proofs.TwoSides.{AllByRecursion-map}
 use Rattle.dotted_maps.specs.declared.term.Term.{Term}
 use Rattle.dotted_maps.specs.Maps.{coefficient_in, scaled}
 use Rattle.dotted_maps.specs.Parts.{product_over}
 use Rattle.dotted_maps.proofs.ChoiceCounts.{choices-below}
 use Rattle.dotted_maps.proofs.LeastPoints.{AreJoins, least-contained}
-use Rattle.added_crossings.specs.Codes.{arc_there, disc_of, discs_behind, points_at, saddle_strips, step_at}
-use Rattle.added_crossings.specs.Entries.{coefficient_sheet, saddle_surface}
-use Rattle.added_crossings.specs.Steps.{near}
-use Rattle.added_crossings.proofs.CodeSteps.{slot-near}
-use Rattle.added_crossings.proofs.Members.{All-contained}
+use Rattle.added_crossing_laws.specs.Codes.{arc_there, disc_of, discs_behind, points_at, saddle_strips, step_at}
+use Rattle.added_crossing_laws.specs.Entries.{coefficient_sheet, saddle_surface}
+use Rattle.added_crossing_laws.specs.Steps.{near}
+use Rattle.added_crossing_laws.proofs.CodeSteps.{slot-near}
+use Rattle.added_crossing_laws.proofs.Members.{All-contained}
 use Rattle.tangle_maps.specs.declared.pairing.TheConstants.{POINTS}
 use Rattle.tangle_maps.specs.declared.seam.Seam.{Seam}
 use Rattle.tangle_maps.specs.Seams.{seam_behind, seam_listed, seam_terms}

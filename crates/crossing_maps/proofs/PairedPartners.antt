@@ -7,10 +7,10 @@ use Rattle.std.proofs.lemmas.Bool.Decides.{nat_tests}
 use Rattle.std.proofs.lemmas.List.Sorted.{sum_by-IsPermutation}
 use Rattle.std.proofs.lemmas.List.Sums.{sum_by-cons}
 use Rattle.kh_types.proofs.ListSums.{sum_by-alike, sum_by-flat_map}
-use Rattle.dotted_surfaces.specs.Points.{Points, AreAmong, IsOpenPairing, ends_of}
+use Rattle.surface_laws.specs.Points.{Points, AreAmong, IsOpenPairing, ends_of}
 use Rattle.dotted_maps.proofs.ComponentParts.{one_at}
-use Rattle.added_crossings.specs.Pairings.{IsPairingOf, end_count, ends_in}
-use Rattle.added_crossings.proofs.Members.{Contains-cons_cases}
+use Rattle.added_crossing_laws.specs.Pairings.{IsPairingOf, end_count, ends_in}
+use Rattle.added_crossing_laws.proofs.Members.{Contains-cons_cases}
 use Rattle.tangle_maps.specs.Pairings.{ArePartners, joins_of, opened_points, paired_arcs}
 use Rattle.tangle_maps.proofs.PairedLemmas.{paired, paired-among}
 

@@ -14,11 +14,11 @@ use Rattle.std.proofs.lemmas.List.FromFn.{length-range_with_len, get_or-range_wi
 use Rattle.std.proofs.lemmas.List.Sums.{sum_by-cons}
 use Rattle.kh_types.proofs.ListSums.{sum_by-flat_map}
 use Rattle.kh_types.proofs.Lists.{Contains-filter, Contains-map, Contains-flat_map}
-use Rattle.dotted_surfaces.proofs.Components.{AllByRecursion-at}
-use Rattle.added_crossings.specs.Pairings.{IsPairingOf, end_count, ends_in}
-use Rattle.added_crossings.specs.Steps.{is_mate, pair_with, pairs_among, pairs_at}
-use Rattle.added_crossings.proofs.Members.{All-contained, Contains-cons_cases, Contains-next}
-use Rattle.added_crossings.proofs.NewPairing.{IsPair, pairs-are}
+use Rattle.surface_laws.proofs.Components.{AllByRecursion-at}
+use Rattle.added_crossing_laws.specs.Pairings.{IsPairingOf, end_count, ends_in}
+use Rattle.added_crossing_laws.specs.Steps.{is_mate, pair_with, pairs_among, pairs_at}
+use Rattle.added_crossing_laws.proofs.Members.{All-contained, Contains-cons_cases, Contains-next}
+use Rattle.added_crossing_laws.proofs.NewPairing.{IsPair, pairs-are}
 use Rattle.tangle_maps.specs.declared.pairing.TheConstants.{POINTS}
 use Rattle.tangle_maps.specs.Pairings.{IsOpened, joins_of, leads, partnered, with_partner}
 use Rattle.crossing_maps.specs.Partners.{can_pair, paired_up}

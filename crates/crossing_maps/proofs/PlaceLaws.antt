@@ -6,11 +6,11 @@ use Rattle.std.proofs.lemmas.List.FromFn.{length-range_with_len}
 use Rattle.std.proofs.lemmas.List.Sums.{count_by-le-length, length-filter}
 use Rattle.kh_types.specs.Classes.{classes_of, is_least}
 use Rattle.kh_types.specs.Code.{Code, arc_count, arc_in}
-use Rattle.dotted_surfaces.specs.Points.{AreAmong}
-use Rattle.added_crossings.specs.Codes.{closed_at, is_open, points_at, smoothing_at, step_at}
-use Rattle.added_crossings.specs.Steps.{is_near, is_none_in, near, those}
-use Rattle.added_crossings.proofs.CodeSteps.{slot-near}
-use Rattle.added_crossings.proofs.Members.{All-contained, those-are}
+use Rattle.surface_laws.specs.Points.{AreAmong}
+use Rattle.added_crossing_laws.specs.Codes.{closed_at, is_open, points_at, smoothing_at, step_at}
+use Rattle.added_crossing_laws.specs.Steps.{is_near, is_none_in, near, those}
+use Rattle.added_crossing_laws.proofs.CodeSteps.{slot-near}
+use Rattle.added_crossing_laws.proofs.Members.{All-contained, those-are}
 use Rattle.tangle_maps.specs.declared.pairing.TheConstants.{POINTS}
 use Rattle.crossing_maps.specs.ListedPlaces.{IsArcs}
 use Rattle.crossing_maps.specs.Partners.{HasArcsBelow}

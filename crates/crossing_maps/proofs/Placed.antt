@@ -5,18 +5,18 @@ use Rattle.std.specs.List.{count_by, range_with_len, AllByRecursion, Contains}
 use Rattle.std.proofs.lemmas.Bool.{both_ways}
 use Rattle.kh_types.specs.Classes.{classes_of, is_least}
 use Rattle.kh_types.specs.Code.{Code, arc_count}
-use Rattle.dotted_surfaces.specs.Points.{least_points}
-use Rattle.dotted_surfaces.specs.Surfaces.{value}
-use Rattle.dotted_surfaces.proofs.Components.{AllByRecursion-at, AllByRecursion-weaker}
+use Rattle.surface_laws.specs.Points.{least_points}
+use Rattle.surface_laws.specs.Surfaces.{value}
+use Rattle.surface_laws.proofs.Components.{AllByRecursion-at, AllByRecursion-weaker}
 use Rattle.dotted_maps.specs.Parts.{product_over}
 use Rattle.dotted_maps.proofs.ComponentParts.{AreDistinct, distinct-filter}
 use Rattle.dotted_maps.proofs.LeastPoints.{AllByRecursion-filter, AreAmong-append, AreJoins, joins-below, least-contained}
-use Rattle.added_crossings.specs.Steps.{is_near, is_none_in, near}
-use Rattle.added_crossings.specs.Codes.{closed_at, is_alive, is_open, pairing_behind, points_at, smoothing_at, step_at}
-use Rattle.added_crossings.proofs.CodeSteps.{IsStep-at}
-use Rattle.added_crossings.proofs.CodeSums.{joins-near}
-use Rattle.added_crossings.proofs.Labels.{map-on}
-use Rattle.added_crossings.proofs.Members.{All-contained, are-those, those-are}
+use Rattle.added_crossing_laws.specs.Steps.{is_near, is_none_in, near}
+use Rattle.added_crossing_laws.specs.Codes.{closed_at, is_alive, is_open, pairing_behind, points_at, smoothing_at, step_at}
+use Rattle.added_crossing_laws.proofs.CodeSteps.{IsStep-at}
+use Rattle.added_crossing_laws.proofs.CodeSums.{joins-near}
+use Rattle.added_crossing_laws.proofs.Labels.{map-on}
+use Rattle.added_crossing_laws.proofs.Members.{All-contained, are-those, those-are}
 use Rattle.tangle_maps.specs.declared.pairing.TheConstants.{POINTS}
 use Rattle.tangle_maps.proofs.SizeLemmas.{class-sizes, least_points-sizes}
 use Rattle.crossing_maps.specs.AddedSeams.{ArePairs, joins_there, places_there}

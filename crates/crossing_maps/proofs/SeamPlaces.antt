@@ -9,12 +9,12 @@ use Rattle.kh_types.specs.Circles.{smoothing_of}
 use Rattle.kh_types.specs.Classes.{classes_of, is_least}
 use Rattle.kh_types.specs.Code.{Code, arc_count, arc_in}
 use Rattle.kh_types.specs.Darts.{HasArcsTwice}
-use Rattle.dotted_surfaces.specs.Points.{AreAmong, discs, least_points}
+use Rattle.surface_laws.specs.Points.{AreAmong, discs, least_points}
 use Rattle.dotted_maps.proofs.LeastPoints.{AllByRecursion-filter, AreAmong-append, AreBelow-among}
-use Rattle.added_crossings.specs.Codes.{discs_behind, pairing_behind, points_at, step_at}
-use Rattle.added_crossings.specs.Steps.{near}
-use Rattle.added_crossings.proofs.CodeSums.{AreAmong-behind}
-use Rattle.added_crossings.proofs.Members.{All-contained}
+use Rattle.added_crossing_laws.specs.Codes.{discs_behind, pairing_behind, points_at, step_at}
+use Rattle.added_crossing_laws.specs.Steps.{near}
+use Rattle.added_crossing_laws.proofs.CodeSums.{AreAmong-behind}
+use Rattle.added_crossing_laws.proofs.Members.{All-contained}
 use Rattle.tangle_maps.specs.declared.pairing.TheConstants.{POINTS}
 use Rattle.tangle_maps.specs.Pairings.{with_partner}
 use Rattle.tangle_maps.proofs.SizeLemmas.{least_points-sizes}

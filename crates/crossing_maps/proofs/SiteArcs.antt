@@ -11,11 +11,11 @@ use Rattle.kh_types.specs.Code.{Code, arc_count, arc_in}
 use Rattle.kh_types.specs.CircleSteps.{arc_at}
 use Rattle.kh_types.proofs.JoinedSlots.{arc_at-slot}
 use Rattle.kh_types.proofs.Ranges.{filter-range_more}
-use Rattle.dotted_surfaces.proofs.Components.{list_any-contained, list_any-some}
-use Rattle.added_crossings.specs.Steps.{is_near, near, those}
-use Rattle.added_crossings.specs.Codes.{ends_at, ends_before, is_open, points_at, step_at}
-use Rattle.added_crossings.proofs.Members.{are-those, those-are}
-use Rattle.added_crossings.proofs.CodeSteps.{ends_before-more, few-ends, slot-near}
+use Rattle.surface_laws.proofs.Components.{list_any-contained, list_any-some}
+use Rattle.added_crossing_laws.specs.Steps.{is_near, near, those}
+use Rattle.added_crossing_laws.specs.Codes.{ends_at, ends_before, is_open, points_at, step_at}
+use Rattle.added_crossing_laws.proofs.Members.{are-those, those-are}
+use Rattle.added_crossing_laws.proofs.CodeSteps.{ends_before-more, few-ends, slot-near}
 use Rattle.tangle_maps.specs.declared.pairing.TheConstants.{POINTS}
 use Rattle.crossing_maps.specs.Sites.{IsPlace, slot_count, is_near_by, is_next_by}
 use Rattle.crossing_maps.proofs.Loopless.{near-are, near-few, open-are, open-few}

@@ -12,14 +12,14 @@ use Rattle.kh_types.specs.Classes.{classes_of}
 use Rattle.kh_types.specs.Code.{Code, arc_count}
 use Rattle.kh_types.proofs.Lists.{filter-range_agree}
 use Rattle.kh_types.proofs.Ranges.{range-append}
-use Rattle.dotted_surfaces.proofs.Components.{AllByRecursion-at}
-use Rattle.dotted_surfaces.specs.Points.{AreAmong}
-use Rattle.added_crossings.specs.Pairings.{IsPairingOf, end_count, ends_in}
-use Rattle.added_crossings.specs.Steps.{pairs_among, those}
-use Rattle.added_crossings.specs.Codes.{is_open, pairing_behind, points_at}
-use Rattle.added_crossings.proofs.Members.{All-contained, are-those, range-within, those-are}
-use Rattle.added_crossings.proofs.NewPairing.{IsPair, pairs-are}
-use Rattle.added_crossings.proofs.Pairs.{IsPairingOf-behind}
+use Rattle.surface_laws.proofs.Components.{AllByRecursion-at}
+use Rattle.surface_laws.specs.Points.{AreAmong}
+use Rattle.added_crossing_laws.specs.Pairings.{IsPairingOf, end_count, ends_in}
+use Rattle.added_crossing_laws.specs.Steps.{pairs_among, those}
+use Rattle.added_crossing_laws.specs.Codes.{is_open, pairing_behind, points_at}
+use Rattle.added_crossing_laws.proofs.Members.{All-contained, are-those, range-within, those-are}
+use Rattle.added_crossing_laws.proofs.NewPairing.{IsPair, pairs-are}
+use Rattle.added_crossing_laws.proofs.Pairs.{IsPairingOf-behind}
 use Rattle.tangle_maps.specs.declared.pairing.TheConstants.{POINTS}
 use Rattle.tangle_maps.specs.Pairings.{IsOpened, is_paired, paired_arcs}
 use Rattle.crossing_maps.specs.Sites.{IsPlace, IsSite}

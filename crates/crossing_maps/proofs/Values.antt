@@ -14,11 +14,11 @@ use Rattle.std.proofs.lemmas.List.Sums.{sum_by-cons}
 use Rattle.std.proofs.lemmas.Nat.{shr-shr}
 use Rattle.kh_types.specs.Bits.{bit}
 use Rattle.kh_types.specs.Classes.{classes_of, is_least}
-use Rattle.dotted_surfaces.specs.Points.{least_points}
-use Rattle.dotted_surfaces.specs.Surfaces.{Surface, factor, genus_on, is_component, marks_on, value, weight}
-use Rattle.dotted_surfaces.proofs.Components.{AllByRecursion-at, AllByRecursion-weaker, list_any-contained, list_any-some}
-use Rattle.dotted_surfaces.proofs.Products.{product_below-alike}
-use Rattle.dotted_surfaces.proofs.TwoSides.{AllByRecursion-map}
+use Rattle.surface_laws.specs.Points.{least_points}
+use Rattle.surface_laws.specs.Surfaces.{Surface, factor, genus_on, is_component, marks_on, value, weight}
+use Rattle.surface_laws.proofs.Components.{AllByRecursion-at, AllByRecursion-weaker, list_any-contained, list_any-some}
+use Rattle.surface_laws.proofs.Products.{product_below-alike}
+use Rattle.surface_laws.proofs.TwoSides.{AllByRecursion-map}
 use Rattle.dotted_maps.specs.Choices.{choices}
 use Rattle.dotted_maps.specs.Parts.{product_over}
 use Rattle.dotted_maps.proofs.ChoiceCounts.{choices-counted, zeros}

@@ -5,9 +5,9 @@ use Rattle.std.specs.List.{Contains}
 use Rattle.kh_types.specs.Bits.{bit}
 use Rattle.kh_types.specs.Classes.{classes_of}
 use Rattle.kh_types.specs.Code.{Code}
-use Rattle.dotted_surfaces.specs.Points.{AreAmong, least_points}
-use Rattle.added_crossings.specs.Codes.{closed_at, discs_behind, points_at, smoothing_at, step_at}
-use Rattle.added_crossings.specs.Steps.{near}
+use Rattle.surface_laws.specs.Points.{AreAmong, least_points}
+use Rattle.added_crossing_laws.specs.Codes.{closed_at, discs_behind, points_at, smoothing_at, step_at}
+use Rattle.added_crossing_laws.specs.Steps.{near}
 use Rattle.tangle_maps.specs.declared.pairing.TheConstants.{POINTS}
 use Rattle.tangle_maps.specs.declared.seam.Seam.{Seam}
 use Rattle.crossing_maps.specs.Counts.{Places, genus_at, on}

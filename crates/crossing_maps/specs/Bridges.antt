@@ -2,9 +2,9 @@
 use Rattle.std.specs.Prelude.{◌≡◌, ℕ, ◌≤◌, List, length, map, slice_index}
 use Rattle.kh_types.specs.Classes.{classes_of}
 use Rattle.kh_types.specs.Code.{Code}
-use Rattle.dotted_surfaces.specs.Points.{discs, least_points}
-use Rattle.added_crossings.specs.Codes.{points_at, saddle_strips, step_at}
-use Rattle.added_crossings.specs.Steps.{near}
+use Rattle.surface_laws.specs.Points.{discs, least_points}
+use Rattle.added_crossing_laws.specs.Codes.{points_at, saddle_strips, step_at}
+use Rattle.added_crossing_laws.specs.Steps.{near}
 use Rattle.tangle_maps.specs.declared.pairing.TheConstants.{POINTS}
 use Rattle.tangle_maps.specs.Seams.{CanCompose}
 use Rattle.crossing_maps.specs.declared.bridges.Bridge.{Bridge}

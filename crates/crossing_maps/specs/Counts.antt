@@ -2,8 +2,8 @@
 use Rattle.std.specs.Prelude.{ℕ, ◌+◌, ◌-◌, ◌*◌, ◌/◌, List, ◌++◌, map, nat_eq, if◌then◌else◌}
 use Rattle.std.specs.List.{count_by, enumerate_from, sum_by}
 use Rattle.kh_types.specs.Bits.{bit}
-use Rattle.dotted_surfaces.specs.Surfaces.{Surface}
-use Rattle.dotted_surfaces.specs.Sheets.{marked, marked_else}
+use Rattle.surface_laws.specs.Surfaces.{Surface}
+use Rattle.surface_laws.specs.Sheets.{marked, marked_else}
 use Rattle.tangle_maps.specs.Seams.{dots_on}
 
 -- what a surface is glued of, at its places or on its components: the discs after a crossing and before it, the circles that are closed on

@@ -3,11 +3,11 @@ use Rattle.std.specs.Prelude.{ℕ, ◌*◌, ◌^◌, ◌<◌, List, length, map}
 use Rattle.std.specs.List.{flat_map, range_with_len, sum_by}
 use Rattle.kh_types.specs.Code.{Code}
 use Rattle.kh_types.specs.Residues.{Same}
-use Rattle.dotted_surfaces.specs.Surfaces.{value}
+use Rattle.surface_laws.specs.Surfaces.{value}
 use Rattle.dotted_maps.specs.declared.term.Term.{Term}
 use Rattle.dotted_maps.specs.Maps.{coefficient_in}
-use Rattle.added_crossings.specs.Codes.{discs_behind}
-use Rattle.added_crossings.specs.Entries.{added_surface, saddle_surface}
+use Rattle.added_crossing_laws.specs.Codes.{discs_behind}
+use Rattle.added_crossing_laws.specs.Entries.{added_surface, saddle_surface}
 use Rattle.tangle_maps.specs.Sums.{HaveDotsBelow, dotted_term}
 
 -- a term for each dot set below a count, with its coefficient

@@ -2,8 +2,8 @@
 use Rattle.std.specs.Prelude.{◌≡◌, ℕ, ◌+◌, ◌<◌, ◌≤◌, List, length}
 use Rattle.std.specs.List.{AllByRecursion, Contains}
 use Rattle.kh_types.specs.Code.{Code, arc_in}
-use Rattle.dotted_surfaces.specs.Points.{AreAmong}
-use Rattle.added_crossings.specs.Codes.{closed_at, pairing_behind, points_at}
+use Rattle.surface_laws.specs.Points.{AreAmong}
+use Rattle.added_crossing_laws.specs.Codes.{closed_at, pairing_behind, points_at}
 use Rattle.tangle_maps.specs.declared.pairing.TheConstants.{POINTS}
 use Rattle.tangle_maps.specs.Pairings.{joins_of}
 use Rattle.crossing_maps.specs.declared.between.Side.{Side}

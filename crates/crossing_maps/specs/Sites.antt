@@ -4,8 +4,8 @@ use Rattle.std.specs.List.{filter, list_any}
 use Rattle.kh_types.specs.Classes.{is_least}
 use Rattle.kh_types.specs.Code.{Code, arc_count, arc_in}
 use Rattle.kh_types.specs.Darts.{HasArcsTwice}
-use Rattle.added_crossings.specs.Steps.{is_none_in, near}
-use Rattle.added_crossings.specs.Codes.{points_at, step_at}
+use Rattle.added_crossing_laws.specs.Steps.{is_none_in, near}
+use Rattle.added_crossing_laws.specs.Codes.{points_at, step_at}
 use Rattle.tangle_maps.specs.declared.pairing.TheConstants.{POINTS}
 
 -- a code each of whose arcs has two ends, and which a program can number; and a crossing of it. Loops need no number: no pairing meets one

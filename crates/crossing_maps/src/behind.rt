@@ -2,8 +2,8 @@
 
 ghost use Rattle.std.specs.Prelude.{◌≡◌, ◌<◌, [], ◌∷◌};
 ghost use Rattle.std.specs.List.{fold, range_with_len};
-ghost use Rattle.added_crossings.specs.Pairings.{IsPairingOf};
-ghost use Rattle.added_crossings.specs.Steps.{pairs_among, pairs_at};
+ghost use Rattle.added_crossing_laws.specs.Pairings.{IsPairingOf};
+ghost use Rattle.added_crossing_laws.specs.Steps.{pairs_among, pairs_at};
 ghost use Rattle.tangle_maps.specs.declared.pairing.TheConstants.{POINTS};
 ghost use Rattle.tangle_maps.specs.Pairings.{IsOpened, joins_of};
 ghost use Rattle.crossing_maps.specs.Partners.{paired_up};

@@ -3,7 +3,7 @@
 
 ghost use Rattle.std.specs.Prelude.{◌≡◌, ℕ, ◌*◌, ◌<◌, ◌≤◌, ◌++◌, ◌∷◌, length, map};
 ghost use Rattle.kh_types.specs.Code.{Code, arc_in};
-ghost use Rattle.dotted_surfaces.specs.Points.{least_points};
+ghost use Rattle.surface_laws.specs.Points.{least_points};
 ghost use Rattle.tangle_maps.specs.declared.pairing.TheConstants.{POINTS};
 ghost use Rattle.tangle_maps.specs.Pairings.{IsOpened, joins_of, leads};
 ghost use Rattle.crossing_maps.specs.Bridges.{CanLabel, IsAddedBridge, IsBridgeAt, IsSaddleBridge};

@@ -3,7 +3,7 @@
 ghost use Rattle.std.specs.Prelude.{◌≡◌, ◌≤◌, length};
 ghost use Rattle.std.specs.List.{filter};
 ghost use Rattle.kh_types.specs.Classes.{is_least};
-ghost use Rattle.added_crossings.specs.Steps.{is_none_in};
+ghost use Rattle.added_crossing_laws.specs.Steps.{is_none_in};
 ghost use Rattle.tangle_maps.specs.declared.pairing.TheConstants.{POINTS};
 ghost use Rattle.tangle_maps.specs.Pairings.{IsOpened};
 

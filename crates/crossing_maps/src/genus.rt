@@ -4,11 +4,11 @@ ghost use Rattle.std.specs.Prelude.{◌≡◌, ℕ, ◌+◌, ◌++◌, ◌*◌, 
 ghost use Rattle.std.specs.List.{Contains};
 ghost use Rattle.kh_types.specs.Classes.{classes_of};
 ghost use Rattle.kh_types.specs.Code.{Code};
-ghost use Rattle.added_crossings.specs.Codes.{closed_at, discs_behind, points_at, smoothing_at, step_at};
-ghost use Rattle.added_crossings.specs.Entries.{added_surface};
-ghost use Rattle.dotted_surfaces.specs.Points.{discs};
-ghost use Rattle.added_crossings.specs.Steps.{near};
-ghost use Rattle.dotted_surfaces.specs.Surfaces.{genus_on, marks_on};
+ghost use Rattle.added_crossing_laws.specs.Codes.{closed_at, discs_behind, points_at, smoothing_at, step_at};
+ghost use Rattle.added_crossing_laws.specs.Entries.{added_surface};
+ghost use Rattle.surface_laws.specs.Points.{discs};
+ghost use Rattle.added_crossing_laws.specs.Steps.{near};
+ghost use Rattle.surface_laws.specs.Surfaces.{genus_on, marks_on};
 ghost use Rattle.tangle_maps.specs.declared.pairing.TheConstants.{POINTS};
 ghost use Rattle.tangle_maps.specs.Pairings.{IsOpened};
 ghost use Rattle.crossing_maps.specs.Counts.{genus_at, genus_among, marks_by, surface_of};

@@ -4,10 +4,10 @@
 ghost use Rattle.std.specs.Prelude.{◌≡◌, ℕ, ◌+◌, ◌≤◌, List, [], ◌++◌, length, slice_index_or};
 ghost use Rattle.kh_types.specs.Classes.{classes_of};
 ghost use Rattle.kh_types.specs.Code.{Code};
-ghost use Rattle.dotted_surfaces.specs.Points.{AreAmong};
-ghost use Rattle.added_crossings.specs.Pairings.{IsPairingOf};
-ghost use Rattle.added_crossings.specs.Steps.{near, pairs_among};
-ghost use Rattle.added_crossings.specs.Codes.{closed_at, pairing_behind, points_at, smoothing_at, step_at};
+ghost use Rattle.surface_laws.specs.Points.{AreAmong};
+ghost use Rattle.added_crossing_laws.specs.Pairings.{IsPairingOf};
+ghost use Rattle.added_crossing_laws.specs.Steps.{near, pairs_among};
+ghost use Rattle.added_crossing_laws.specs.Codes.{closed_at, pairing_behind, points_at, smoothing_at, step_at};
 ghost use Rattle.tangle_maps.specs.declared.pairing.TheConstants.{POINTS};
 ghost use Rattle.tangle_maps.specs.Pairings.{ArePartners, joins_of, paired_arcs};
 ghost use Rattle.crossing_maps.specs.ListedPlaces.{IsArcs};

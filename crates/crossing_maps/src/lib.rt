@@ -1,4 +1,5 @@
-//! Adding a crossing: the pairing after it, the circles that it closes, and the terms of the new maps.
+//! Adding a crossing: the pairing after it, the circles that it closes, and the terms of the new
+//! maps.
 #![tactic(auto)]
 
 pub mod added;

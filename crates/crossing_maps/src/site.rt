@@ -3,8 +3,8 @@
 ghost use Rattle.std.specs.Prelude.{◌≡◌, ℕ, ◌+◌, ◌<◌, ◌≤◌, ◌++◌, [], ◌∷◌, length, nat_eq, slice_index_or, if◌then◌else◌};
 ghost use Rattle.std.specs.List.{filter, list_any, range_with_len};
 ghost use Rattle.kh_types.specs.Code.{Code};
-ghost use Rattle.added_crossings.specs.Steps.{near};
-ghost use Rattle.added_crossings.specs.Codes.{points_at, step_at};
+ghost use Rattle.added_crossing_laws.specs.Steps.{near};
+ghost use Rattle.added_crossing_laws.specs.Codes.{points_at, step_at};
 ghost use Rattle.tangle_maps.specs.declared.pairing.TheConstants.{POINTS};
 ghost use Rattle.crossing_maps.specs.Sites.{IsPlace, slot_count, is_near_by, is_next_by};
 

@@ -2,8 +2,8 @@
 
 ghost use Rattle.std.specs.Prelude.{◌≡◌, ℕ, ◌≤◌, length};
 ghost use Rattle.kh_types.specs.Code.{Code};
-ghost use Rattle.added_crossings.specs.Pairings.{IsPairingOf};
-ghost use Rattle.added_crossings.specs.Codes.{closed_at, pairing_behind, points_at};
+ghost use Rattle.added_crossing_laws.specs.Pairings.{IsPairingOf};
+ghost use Rattle.added_crossing_laws.specs.Codes.{closed_at, pairing_behind, points_at};
 ghost use Rattle.tangle_maps.specs.declared.pairing.TheConstants.{POINTS};
 ghost use Rattle.tangle_maps.specs.Pairings.{IsOpened, joins_of, paired_arcs};
 ghost use Rattle.crossing_maps.specs.Partners.{HasArcsBelow};

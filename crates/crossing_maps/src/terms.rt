@@ -2,9 +2,9 @@
 
 ghost use Rattle.std.specs.Prelude.{◌≡◌, ℕ, List, map, OnOk};
 ghost use Rattle.kh_types.specs.Code.{Code};
-ghost use Rattle.dotted_surfaces.specs.Points.{discs};
+ghost use Rattle.surface_laws.specs.Points.{discs};
 ghost use Rattle.dotted_maps.specs.Maps.{scaled};
-ghost use Rattle.added_crossings.specs.Codes.{points_at, saddle_strips};
+ghost use Rattle.added_crossing_laws.specs.Codes.{points_at, saddle_strips};
 ghost use Rattle.tangle_maps.specs.Seams.{CanCompose};
 ghost use Rattle.tangle_maps.specs.Sums.{AreReduced, IsSum, dotted_term};
 ghost use Rattle.crossing_maps.specs.AddedSeams.{ArePairs, IsSeamAt};

@@ -5,7 +5,7 @@
 
 ghost use Rattle.std.specs.Prelude.{◌≡◌, ◌<◌, [], slice_index_or};
 ghost use Rattle.kh_types.specs.WorkedCodes.{trefoil};
-ghost use Rattle.added_crossings.specs.Codes.{points_at};
+ghost use Rattle.added_crossing_laws.specs.Codes.{points_at};
 ghost use Rattle.tangle_maps.specs.Pairings.{joins_of, paired_arcs};
 ghost use Rattle.crossing_maps.specs.Sides.{IsSiteAt, IsSplit};
 

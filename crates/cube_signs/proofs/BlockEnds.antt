@@ -6,12 +6,13 @@ use Rattle.std.specs.List.{Contains, position_or_len, suffix_len}
 use Rattle.std.proofs.lemmas.Int.{ints}
 use Rattle.std.proofs.lemmas.List.{get_or-reverse, length-drop, length-map, length-reverse, length-take}
 use Rattle.std.proofs.lemmas.List.Sums.{prefix_len_stops, suffix_len-le-length}
+use Rattle.std.proofs.lemmas.Bool.{not-false}
 use Rattle.kh_types.specs.Code.{Code}
 use Rattle.kh_types.specs.Generators.{generators_at}
 use Rattle.kh_types.specs.History.{block, homological_degrees, is_empty}
 use Rattle.kh_types.specs.Table.{from_minus}
 use Rattle.sparse_block.specs.Complexes.{high_of}
-use Rattle.cube_squares.proofs.BlockDegrees.{cube_degree, degree-at, degree-found, degree-placed, first_degree, get_or-from_minus, length-from_minus}
+use Rattle.square_laws.proofs.BlockDegrees.{cube_degree, degree-at, degree-found, degree-placed, first_degree, get_or-from_minus, length-from_minus}
 use Rattle.cube_signs.specs.Blocks.{block_degrees}
 use Rattle.cube_signs.proofs.NamedBlocks.{block-some}
 
@@ -20,19 +21,16 @@ abbrev has_generators : Code → ℤ → ℤ → Bool
 has_generators code j i = not (is_empty (generators_at code i j))
 
 not-empty : {X : Type 0} (xs : List X) → not (is_empty xs) ≡ true → xs ≢ []
-not-empty xs passes = grind (arith, nat_tests)
+not-empty xs not-false = grind (arith, nat_tests)
 
 some-element : {X : Type 0} (xs : List X) → xs ≢ [] → 0 < length xs
 some-element [] some = absurd (some refl)
 some-element (x ∷ xs) some = omega arith
 
-passes : (b : Bool) → not b ≡ false → b ≡ true
-passes b is = grind (arith, nat_tests)
-
 -- the first element that passes a test, where there is one, and the last
 first-passes : {X : Type 0} (test : X → Bool) (xs : List X) (d : X) → position_or_len test xs < length xs
     → test (get_or xs (position_or_len test xs) d) ≡ true
-first-passes test xs d within = grind (arith, nat_tests, passes, prefix_len_stops)
+first-passes test xs d within = grind (arith, nat_tests, not-false, prefix_len_stops)
 
 last-passes : {X : Type 0} (test : X → Bool) (xs : List X) (m : ℕ) (d : X) → m + 1 ≡ length xs - suffix_len (λ x. not (test x)) xs
     → test (get_or xs m d) ≡ true
@@ -41,7 +39,7 @@ last-passes test xs m d is =
     let stops = prefix_len_stops (λ x. not (test x)) (reverse xs) d (omega (arith, is, length-reverse xs)) in
     let same : get_or (reverse xs) behind d ≡ get_or xs m d =
     get_or-reverse xs behind d (omega (arith, is)) ∙ ap (λ k. get_or xs k d) (omega (arith, is)) in
-    passes (test (get_or xs m d)) (sym (ap (λ x. not (test x)) same) ∙ stops)
+    not-false (test (get_or xs m d)) (sym (ap (λ x. not (test x)) same) ∙ stops)
 
 -- the degree of the block at a place, where it is the first or the last
 ends : (code : Code) (j : ℤ) → 0 < length (homological_degrees code j)

@@ -33,7 +33,7 @@ use Rattle.cube_signs.specs.Heads.{labels_behind}
 use Rattle.cube_signs.specs.Steps.{HasSteps, IsStep}
 use Rattle.cube_signs.specs.Tables.{base_of, own_base, own_degree}
 use Rattle.cube_signs.proofs.ColumnLemmas.{All-elements, All-flat_map-range, Contains-images, ascend-append, ascend-map, value_at-is}
-use Rattle.cube_squares.proofs.Degrees.{coefficient-next}
+use Rattle.square_laws.proofs.Degrees.{coefficient-next}
 use Rattle.cube_signs.proofs.EdgeHeads.{coefficient-along, coefficient-elsewhere, labels_behind-ascend, labels_behind-below, list_any-decides}
 use Rattle.cube_signs.proofs.GeneratorPlaces.{base-all, base-le, generator-at, is_label, passing-lt, place_from, HasPlace-within, IsPlaced-label}
 use Rattle.cube_signs.proofs.SignLemmas.{sign-below, sign-positive}

@@ -8,7 +8,7 @@ use Rattle.std.proofs.lemmas.List.{get_or_default, map-append}
 use Rattle.std.proofs.lemmas.List.Elements.{All-append, All-head, All-nil, All-tail}
 use Rattle.std.proofs.lemmas.List.FromFn.{get_or-range_with_len, length-range_with_len}
 use Rattle.std.proofs.lemmas.Map.Made.{Contains-tail}
-use Rattle.kh_types.proofs.Lists.{Contains-flat_map}
+use Rattle.kh_types.proofs.Lists.{Contains-flat_map, Contains-range, Contains-later, Contains-first}
 use Rattle.sparse_block.specs.Entries.{Entry, value_at}
 use Rattle.sparse_block.proofs.AscendingLemmas.{Ascend, ascend-earlier, increasing-tail}
 use Rattle.sparse_block.proofs.EntryLemmas.{value_at-here, value_at-later}
@@ -40,19 +40,6 @@ All-flat_map-range P f a (suc n) each =
 pub All-elements : {X : Type 0} (P : X → Type 0) (xs : List X) → ((x : X) → Contains xs x → P x) → All P xs
 All-elements P xs each k d below =
     each (get_or xs k d) (k, below, get_or_default xs k (get_or xs k d) d below)
-
-pub Contains-range : (n k : ℕ) → k < n → Contains (range_with_len 0 n) k
-Contains-range n k below = (
-  k,
-  omega (arith, below, length-range_with_len 0 n),
-  get_or-range_with_len 0 n k k below ∙ omega arith,
-)
-
-Contains-later : {X : Type 0} (x y : X) (xs : List X) → Contains xs y → Contains (x ∷ xs) y
-Contains-later x y xs (k, below, is) = (suc k, omega (arith, below), is)
-
-Contains-first : {X : Type 0} (x : X) (xs : List X) → Contains (x ∷ xs) x
-Contains-first x xs = (zero, omega arith, refl)
 
 increasing-first : (x : ℕ) (xs : List ℕ) → IsStrictlyIncreasing (x ∷ xs) → (k : ℕ) → k < length xs → x < slice_index xs k
 increasing-first x [] ascending k below = absurd (omega (arith, below))

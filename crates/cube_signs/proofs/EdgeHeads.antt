@@ -27,11 +27,11 @@ use Rattle.circle_smoothing.specs.declared.change.Edge.{Edge}
 use Rattle.circle_smoothing.specs.declared.change.Edge.TheVariants.{Merge, Split}
 use Rattle.circle_smoothing.proofs.EdgeNumbers.{renumbers}
 use Rattle.cube_signs.specs.Heads.{labels_behind, merged_labels, minuses_gained, split_labels}
-use Rattle.cube_squares.proofs.Merges.{IsMerge, IsSwitch, switch-edge}
+use Rattle.square_laws.proofs.Merges.{IsMerge, IsSwitch, switch-edge}
 use Rattle.kh_types.proofs.ListSums.{sum_by-some}
-use Rattle.cube_squares.proofs.MarkedLabels.{labels-lower}
-use Rattle.cube_squares.proofs.TouchedCircles.{fits, fits-decides}
-use Rattle.cube_squares.proofs.Pairs.{edge_or_zero, coefficient-one}
+use Rattle.square_laws.proofs.MarkedLabels.{labels-lower}
+use Rattle.square_laws.proofs.TouchedCircles.{fits, fits-decides}
+use Rattle.square_laws.proofs.Pairs.{edge_or_zero, coefficient-one}
 use Rattle.cube_signs.proofs.HeadBits.{Contains-merged, Contains-parted, IsMerged-contains, IsParted-contains, increasing-merged, increasing-split}
 use Rattle.cube_signs.proofs.HeadLabels.{AreNumbered, fits-merge, fits-split, greater-below}
 

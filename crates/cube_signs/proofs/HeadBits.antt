@@ -17,7 +17,7 @@ use Rattle.circle_smoothing.specs.Edges.{renumbered}
 use Rattle.kh_types.proofs.EdgeBits.{bit-set_other, bit-set_there, set-within}
 use Rattle.cube_signs.specs.Heads.{merged_labels, split_labels, with_gap, without_bit}
 use Rattle.cube_signs.proofs.LabelBits.{AgreeOff, gap-below, gap-low, gap-renumbered, gap-there, one-number, renumbered-other, two-number, without-below, without-low, without-renumbered}
-use Rattle.cube_squares.proofs.TouchedCircles.{one_in, two_in}
+use Rattle.square_laws.proofs.TouchedCircles.{one_in, two_in}
 
 -- a merge of a and b: the bit at a becomes the sum of both
 pub record IsMerged (size a b label head : ℕ) : Type 0 where

@@ -17,12 +17,12 @@ use Rattle.kh_types.specs.CircleNumbers.{IsName, circle_number, number_of}
 use Rattle.circle_smoothing.specs.Edges.{AreRenumbered, HaveMerged, renumbered}
 use Rattle.kh_types.specs.Edges.{arc_at_slot}
 use Rattle.kh_types.proofs.CircleNumbers.{IsCircle-of, number_of-below, number_of-one}
-use Rattle.cube_squares.specs.Squares.{circle_at_slot}
-use Rattle.cube_squares.proofs.Merges.{IsMerge, circle_in}
-use Rattle.cube_squares.proofs.Marks.{IsOff}
-use Rattle.cube_squares.proofs.LabelNumbers.{IsName-name_at, circle-name_at, label_of-name_at, name_at, number_of-name_at}
-use Rattle.cube_squares.proofs.EdgeMarks.{IsSameOff, label_at}
-use Rattle.cube_squares.proofs.TouchedCircles.{fits, fits-decides}
+use Rattle.square_laws.specs.Squares.{circle_at_slot}
+use Rattle.square_laws.proofs.Merges.{IsMerge, circle_in}
+use Rattle.square_laws.proofs.Marks.{IsOff}
+use Rattle.square_laws.proofs.LabelNumbers.{IsName-name_at, circle-name_at, label_of-name_at, name_at, number_of-name_at}
+use Rattle.square_laws.proofs.EdgeMarks.{IsSameOff, label_at}
+use Rattle.square_laws.proofs.TouchedCircles.{fits, fits-decides}
 use Rattle.cube_signs.proofs.LabelBits.{AgreeOff}
 use Rattle.cube_signs.proofs.HeadBits.{IsMerged, IsParted}
 

@@ -4,7 +4,7 @@ use Rattle.std.proofs.Common.{◌≡◌, ℕ, ◌+◌, ◌^◌, ◌≤◌, ◌�
 use Rattle.std.specs.Prelude.{nat_eq, not, ◌&&◌, ◌||◌}
 use Rattle.std.specs.List.{count_by, filter, list_any, range_with_len}
 use Rattle.std.proofs.Math.Path.{fun_ext}
-use Rattle.std.proofs.lemmas.Bool.{eq-eqb, eqb-true}
+use Rattle.std.proofs.lemmas.Bool.{eq-eqb, eqb-true, and_parts}
 use Rattle.std.proofs.lemmas.List.Sums.{sum_by-cons}
 use Rattle.kh_types.specs.declared.limits.TheConstants.{CROSSINGS, EXPONENT}
 use Rattle.kh_types.specs.Acceptance.{accepted}
@@ -25,8 +25,9 @@ use Rattle.cube_signs.specs.Blocks.{block_degrees}
 use Rattle.cube_signs.specs.KindShapes.{all_kind_shapes, has_kind, kind_shape, kind_shapes, shapes_of_kind}
 use Rattle.cube_signs.specs.Shapes.{degrees_of, has_degree, have_degree, shape_of}
 use Rattle.cube_signs.specs.declared.shape.Shape.{Shape}
-use Rattle.cube_signs.proofs.ShapeLemmas.{have_degree-states, list_any-flat_map, same-passes, shape-made}
+use Rattle.cube_signs.proofs.ShapeLemmas.{have_degree-states, list_any-flat_map, shape-made}
 use Rattle.kh_types.proofs.MappedLists.{list_any-map}
+use Rattle.kh_types.proofs.Tests.{agree}
 
 -- a list has elements that pass where their number is not 0
 any-one : (b any : Bool) (count : ℕ) → any ≡ not (nat_eq count 0) → (b || any) ≡ not (nat_eq (cond b 1 0 + count) 0)
@@ -40,9 +41,6 @@ list_any-count p (x ∷ xs) =
 
 list_any-cond : (p : Shape → Bool) (b : Bool) (shape : Shape) → list_any p (cond b (shape ∷ []) []) ≡ (b && p shape)
 list_any-cond p b shape = grind (arith, nat_tests)
-
-and_true : (a b : Bool) → (a && b) ≡ true → (a ≡ true) × (b ≡ true)
-and_true a b holds = grind (arith, nat_tests)
 
 -- a code has a state of a kind where one of its states is of it
 has_kind-states : (code : Code) (kind : ℕ) → IsAccepted code → length code.crossings ≤ CROSSINGS
@@ -72,11 +70,11 @@ any-kinds test code is few =
     list_any-flat_map test (shapes_of_kind code) (range_with_len 0 KINDS)
     ∙ ap (λ (p : ℕ → Bool). list_any p (range_with_len 0 KINDS))
     (fun_ext (λ kind. list_any-cond test (has_kind code kind) (kind_shape code kind)))
-    ∙ same-passes (list_any of_kind (range_with_len 0 KINDS)) (list_any of_state (states code))
+    ∙ agree (list_any of_kind (range_with_len 0 KINDS)) (list_any of_state (states code))
     (λ passes.
     let found = list_any-found of_kind KINDS passes in
     let kind = found.0 in
-    let both = and_true (has_kind code kind) (test (kind_shape code kind)) found.2 in
+    let both = and_parts (has_kind code kind) (test (kind_shape code kind)) found.2 in
     let of = list_any-found (λ state. nat_eq (state_kind code state) kind) count (has_kind-states code kind is few ∙ both.0) in
     list_any-below of_state count of.0 of.1
     (ap test (sym (shape_of-kind code of.0 kind is few (eqb-true (state_kind code of.0) kind of.2))) ∙ both.1))

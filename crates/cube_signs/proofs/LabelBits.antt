@@ -12,35 +12,17 @@ use Rattle.std.proofs.lemmas.Nat.Bits.{bit_at_above, bit_at_cat_high, bit_at_cat
 use Rattle.std.proofs.Math.Nat.{div-div-eq-div-mul, div-lt_iff_lt-mul, mod-lt, mul-le-mul_left}
 use Rattle.std.proofs.Math.Pow.{pow-lt}
 use Rattle.kh_types.specs.Bits.{bit}
+use Rattle.kh_types.proofs.JointNumbers.{bit-high, bit-low, bit-inside, joint-below}
 use Rattle.circle_smoothing.specs.Edges.{renumbered}
+use Rattle.circle_smoothing.proofs.EdgeNumbers.{renumbered-low}
 use Rattle.cube_signs.specs.Heads.{with_gap, without_bit}
 
 -- a number by its low bits and the others
-
-bit-high : (number low k : ℕ) → bit (number / 2 ^ low) k ≡ bit number (low + k)
-bit-high number low k = grind (arith, nat_tests, div-div-eq-div-mul, pow-add)
-
-bit-low : (number low k : ℕ) → k < low → bit (number % 2 ^ low) k ≡ bit number k
-bit-low number low k below =
-    sym (bit_at_cat_low (number / 2 ^ low) low (number % 2 ^ low) k below)
-    ∙ ap (λ n. bit n k) (let e : number / 2 ^ low * 2 ^ low + number % 2 ^ low ≡ number = omega arith in e)
-
-bit-joined_low : (low high size k : ℕ) → k < size → bit (low + 2 ^ size * high) k ≡ bit low k
-bit-joined_low low high size k below =
-    ap (λ n. bit n k) (let e : low + 2 ^ size * high ≡ high * 2 ^ size + low = omega arith in e) ∙ bit_at_cat_low high size low k below
 
 bit-joined_high : (low high size k : ℕ) → low < 2 ^ size → size ≤ k → bit (low + 2 ^ size * high) k ≡ bit high (k - size)
 bit-joined_high low high size k small from =
     ap (λ n. bit n k) (let e : low + 2 ^ size * high ≡ high * 2 ^ size + low = omega arith in e)
     ∙ bit_at_cat_high high size low k small from
-
-joined-below : (low high size rest : ℕ) → low < 2 ^ size → high < 2 ^ rest → low + 2 ^ size * high < 2 ^ (size + rest)
-joined-below low high size rest low_small high_small =
-    let whole : 2 ^ size * (high + 1) ≤ 2 ^ size * 2 ^ rest = mul-le-mul_left (2 ^ size) (let e : high + 1 ≤ 2 ^ rest = omega arith in e) in
-    omega (arith, whole, pow-add 2 size rest, spread (2 ^ size) high)
-  where
-    spread : (p h : ℕ) → p * (h + 1) ≡ p * h + p
-    spread p h = omega arith
 
 high-below : (number low rest : ℕ) → number < 2 ^ (rest + low) → number / 2 ^ low < 2 ^ rest
 high-below number low rest small = (div-lt_iff_lt-mul (pow_pos low)).1 (omega (arith, pow-add 2 rest low, small))
@@ -48,12 +30,12 @@ high-below number low rest small = (div-lt_iff_lt-mul (pow_pos low)).1 (omega (a
 -- without a bit
 
 pub without-low : (place label k : ℕ) → k < place → bit (without_bit place label) k ≡ bit label k
-without-low place label k below = grind (arith, nat_tests, bit-joined_low, bit-low)
+without-low place label k below = grind (arith, nat_tests, bit-inside, bit-low)
 
 without-high : (place label k : ℕ) → place ≤ k → bit (without_bit place label) k ≡ bit label (k + 1)
 without-high place label k from =
     bit-joined_high (label % 2 ^ place) (label / 2 ^ (place + 1)) place k (mod-lt label (pow_pos place)) from
-    ∙ bit-high label (place + 1) (k - place)
+    ∙ bit-high (place + 1) label (k - place)
     ∙ ap (bit label) (omega (arith, from))
 
 pub without-below : (place label size : ℕ) → place ≤ size → label < 2 ^ (size + 1) → without_bit place label < 2 ^ size
@@ -61,24 +43,24 @@ without-below place label size within small =
     let e : place + (size - place) ≡ size = omega (arith, within) in
     let f : size + 1 ≡ size - place + (place + 1) = omega (arith, within) in
     subst (λ (n : ℕ). without_bit place label < 2 ^ n) e
-    (joined-below (label % 2 ^ place) (label / 2 ^ (place + 1)) place (size - place) (mod-lt label (pow_pos place))
+    (joint-below place (size - place) (label % 2 ^ place) (label / 2 ^ (place + 1)) (mod-lt label (pow_pos place))
     (high-below label (place + 1) (size - place) (subst (λ (n : ℕ). label < 2 ^ n) f small)))
 
 -- with a gap
 
 pub gap-low : (place label k : ℕ) → k < place → bit (with_gap place label) k ≡ bit label k
-gap-low place label k below = grind (arith, nat_tests, bit-joined_low, bit-low)
+gap-low place label k below = grind (arith, nat_tests, bit-inside, bit-low)
 
 low-small : (place label : ℕ) → label % 2 ^ place < 2 ^ (place + 1)
 low-small place label = omega (arith, mod-lt label (pow_pos place), pow-lt (let e : place < place + 1 = omega arith in e))
 
 pub gap-there : (place label : ℕ) → bit (with_gap place label) place ≡ 0
-gap-there place label = grind (arith, nat_tests, bit-joined_low, bit_at_above, mod-lt, pow_pos)
+gap-there place label = grind (arith, nat_tests, bit-inside, bit_at_above, mod-lt, pow_pos)
 
 gap-high : (place label k : ℕ) → place < k → bit (with_gap place label) k ≡ bit label (k - 1)
 gap-high place label k above =
     bit-joined_high (label % 2 ^ place) (label / 2 ^ place) (place + 1) k (low-small place label) (omega (arith, above))
-    ∙ bit-high label place (k - (place + 1))
+    ∙ bit-high place label (k - (place + 1))
     ∙ ap (bit label) (omega (arith, above))
 
 pub gap-below : (place label size : ℕ) → place ≤ size → label < 2 ^ size → with_gap place label < 2 ^ (size + 1)
@@ -86,13 +68,10 @@ gap-below place label size within small =
     let e : place + 1 + (size - place) ≡ size + 1 = omega (arith, within) in
     let f : size ≡ size - place + place = omega (arith, within) in
     subst (λ (n : ℕ). with_gap place label < 2 ^ n) e
-    (joined-below (label % 2 ^ place) (label / 2 ^ place) (place + 1) (size - place) (low-small place label)
+    (joint-below (place + 1) (size - place) (label % 2 ^ place) (label / 2 ^ place) (low-small place label)
     (high-below label place (size - place) (subst (λ (n : ℕ). label < 2 ^ n) f small)))
 
 -- by the numbers of circles, of which a and b have become one
-
-renumbered-low : (a b k : ℕ) → k < b → renumbered a b k ≡ k
-renumbered-low a b k below = grind (arith, nat_tests)
 
 renumbered-high : (a b k : ℕ) → b < k → renumbered a b k ≡ k - 1
 renumbered-high a b k above = grind (arith, nat_tests)

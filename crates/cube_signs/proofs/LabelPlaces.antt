@@ -155,9 +155,6 @@ state_generators-none code i j state none =
         (filter (is_label code i j state) (range_with_len (a + 1) n))) (none a)
         ∙ nothing (a + 1) n
 
-pub not-int_eq : (x y : ℤ) → (x ≡ y → ⊥) → int_eq x y ≡ false
-not-int_eq x y differ = grind (arith, nat_tests)
-
 -- the ranks in the tables of a cube
 pub AreRanks-tables : (code : Code) (minus : ℕ) (shapes : List Shape) (rows : List (ArrayVec (Option Edge))) (weights ranks : List ℕ)
     (levels : List (List ℕ)) → AreTables code minus shapes rows weights ranks levels → AreRanks code ranks

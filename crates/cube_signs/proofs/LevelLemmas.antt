@@ -19,14 +19,15 @@ use Rattle.kh_types.specs.Generators.{Generator, generators_at, one_count, state
 use Rattle.kh_types.specs.declared.limits.TheConstants.{CROSSINGS}
 use Rattle.kh_types.proofs.QuantumDegrees.{one_count-le}
 use Rattle.kh_types.proofs.Ranges.{filter-range_more}
+use Rattle.kh_types.proofs.Tests.{agree}
+use Rattle.kh_types.proofs.Integers.{int_eq-other}
 use Rattle.sparse_block.specs.Inside.{lists_in}
 use Rattle.sparse_block.proofs.LineLemmas.{list-lists_in}
 use Rattle.cube_signs.specs.Shapes.{shape_of}
 use Rattle.cube_signs.specs.Tables.{all_levels, levels_below, own_degree, state_generators, states_at, states_with}
 use Rattle.cube_signs.specs.declared.shape.Shape.{Shape}
 use Rattle.cube_signs.proofs.GeneratorPlaces.{generators_at-below}
-use Rattle.cube_signs.proofs.LabelPlaces.{is_label-none, not-int_eq, state_generators-none}
-use Rattle.cube_signs.proofs.ShapeLemmas.{same-passes}
+use Rattle.cube_signs.proofs.LabelPlaces.{is_label-none, state_generators-none}
 use Rattle.cube_signs.proofs.StateLists.{images-more}
 
 -- one state more of a level
@@ -74,7 +75,7 @@ states_at-level code levels one level i are few within is is_i =
     sym (list-lists_in levels level one within is) ∙ ap (λ (xs : List (List ℕ)). slice_index_or xs level []) are
     ∙ get_or-map-range_with_len (states_with code) 0 (CROSSINGS + 1) level level [] (omega (arith, few)) (omega arith) in
     there ∙ ap (λ (p : ℕ → Bool). filter p (states code)) (fun_ext (λ state.
-    same-passes (nat_eq (one_count code state) level) (int_eq (own_degree code state) i)
+    agree (nat_eq (one_count code state) level) (int_eq (own_degree code state) i)
     (λ same. same-int (own_degree code state) i (omega (arith, ints, is_i, eqb-true (one_count code state) level same)))
     (λ same. eq-eqb (one_count code state) level (omega (arith, ints, is_i, int-same (own_degree code state) i same)))))
   where
@@ -94,7 +95,7 @@ states_at-none code i few none =
     nothing (x ∷ xs) =
         ap (λ b. cond b (x ∷ filter (λ state. int_eq (own_degree code state) i) xs)
         (filter (λ state. int_eq (own_degree code state) i) xs))
-        (not-int_eq (own_degree code x) i (none (one_count code x) (omega (arith, few, one_count-le code x))))
+        (int_eq-other (own_degree code x) i (none (one_count code x) (omega (arith, few, one_count-le code x))))
         ∙ nothing xs
 
 -- states are numbers below that of all states

@@ -23,8 +23,8 @@ use Rattle.kh_types.proofs.ListSums.{sum_by-alike}
 use Rattle.cube_signs.specs.Chosen.{coefficients, list_complex, list_degree}
 use Rattle.cube_signs.proofs.ListMatrices.{SquareToZero, coefficients-square, entry-below, entry-column_past, length-coefficients, length-row}
 use Rattle.kh_types.proofs.MappedLists.{count-all}
-use Rattle.cube_squares.proofs.BlockComplexes.{all_alive}
-use Rattle.cube_squares.proofs.BlockDegrees.{get_or-from_minus, length-from_minus}
+use Rattle.square_laws.proofs.BlockComplexes.{all_alive}
+use Rattle.square_laws.proofs.BlockDegrees.{get_or-from_minus, length-from_minus}
 
 -- what the lists have: beyond n they are empty, and the coefficients square to zero
 pub record AreLists (p : ℕ) (code : Code) (n : ℕ) (lists : ℤ → List Generator) : Type 0 where

@@ -36,8 +36,8 @@ use Rattle.sparse_block.proofs.DegreeLemmas.{length-at}
 use Rattle.kh_types.specs.declared.limits.TheConstants.{EXPONENT}
 use Rattle.cube_signs.specs.Blocks.{block_degrees, has_block, named_block}
 use Rattle.cube_signs.specs.Columns.{generators_from, AreAllColumns, AreParts, AreWholeColumns}
-use Rattle.cube_squares.proofs.BlockComplexes.{product_entry-block}
-use Rattle.cube_squares.proofs.BlockDegrees.{cube_degree, degree-at, degree-found, first_degree}
+use Rattle.square_laws.proofs.BlockComplexes.{product_entry-block}
+use Rattle.square_laws.proofs.BlockDegrees.{cube_degree, degree-at, degree-found, first_degree}
 use Rattle.cube_signs.proofs.GeneratorPlaces.{length-generators_at}
 use Rattle.std.proofs.lemmas.Simd.{map-map}
 

@@ -13,15 +13,16 @@ use Rattle.kh_types.specs.Directions.{minus_count}
 use Rattle.kh_types.specs.Generators.{generators_at, one_count, states}
 use Rattle.kh_types.specs.declared.limits.TheConstants.{CROSSINGS}
 use Rattle.kh_types.proofs.QuantumDegrees.{one_count-le}
+use Rattle.kh_types.proofs.Integers.{int_eq-other}
 use Rattle.circle_smoothing.specs.GeneratorCounts.{generator_count}
 use Rattle.circle_smoothing.specs.declared.limits.TheConstants.{GENERATORS}
 use Rattle.cube_signs.specs.Tables.{base_of, own_base, own_degree, state_generators, HaveSizes}
 use Rattle.cube_signs.proofs.GeneratorPlaces.{base-more, base-small, generators_at-below}
-use Rattle.cube_signs.proofs.LabelPlaces.{is_label-none, not-int_eq, state_generators-none}
+use Rattle.cube_signs.proofs.LabelPlaces.{is_label-none, state_generators-none}
 
 -- a state has no generators of other homological degrees
 none-of_other : (code : Code) (i j : ℤ) (state : ℕ) → own_degree code state ≢ i → length (state_generators code i j state) ≡ 0
-none-of_other code i j state other = grind (arith, nat_tests, state_generators-none, is_label-none, not-int_eq)
+none-of_other code i j state other = grind (arith, nat_tests, state_generators-none, is_label-none, int_eq-other)
 
 -- one state more
 pub HaveSizes-more : (code : Code) (j : ℤ) (state level more : ℕ) (sizes : List ℕ) → HaveSizes code j state sizes

@@ -30,6 +30,7 @@ use Rattle.cube_signs.specs.Blocks.{has_block}
 use Rattle.cube_signs.specs.Shapes.{degrees_of, gives_degree, has_degree, have_degree, is_given, shape_of}
 use Rattle.cube_signs.specs.declared.shape.Shape.{Shape}
 use Rattle.kh_types.proofs.MappedLists.{list_any-map}
+use Rattle.kh_types.proofs.Tests.{agree}
 
 -- a shape by its parts, and whether a number that is given is within a limit
 abbrev pub record_of : ℕ → ℕ → ℤ → Shape
@@ -38,10 +39,6 @@ record_of circles ones top = record { circles = circles; ones = ones; top = top 
 abbrev pub is_within : Option ℕ → ℕ → Bool
 is_within None limit = false
 is_within (Some given) limit = nat_le given limit
-
--- tests that pass together are the same
-pub same-passes : (a b : Bool) → (a ≡ true → b ≡ true) → (b ≡ true → a ≡ true) → a ≡ b
-same-passes a b forth back = grind (arith, nat_tests)
 
 pub list_any-flat_map : {X Y : Type 0} (p : Y → Bool) (f : X → List Y) (xs : List X)
     → list_any p (flat_map f xs) ≡ list_any (λ x. list_any p (f x)) xs
@@ -102,7 +99,7 @@ has_degree-shape code j state =
     let of_label : ℕ → Bool = λ label. int_eq (quantum_degree code (generator_of state label)) j in
     let same : (label : ℕ) → of_label label ≡ gives_degree shape j (ones count label) =
     λ label. ap (λ (d : ℤ). int_eq d j) (quantum_degree-label code state label) in
-    same-passes (has_degree shape j) (list_any of_label (range_with_len 0 (2 ^ count)))
+    agree (has_degree shape j) (list_any of_label (range_with_len 0 (2 ^ count)))
     (λ passes.
     let found = list_any-found (gives_degree shape j) (count + 1) passes in
     let n = found.0 in

@@ -13,7 +13,7 @@ use Rattle.kh_types.specs.History.{first_or_zero, homological_degrees, is_empty}
 use Rattle.kh_types.specs.Table.{from_minus}
 use Rattle.kh_types.proofs.Lists.{position_or_len-map}
 use Rattle.cube_signs.specs.Columns.{flags_of}
-use Rattle.cube_squares.proofs.BlockDegrees.{degree-placed, first-is}
+use Rattle.square_laws.proofs.BlockDegrees.{degree-placed, first-is}
 use Rattle.cube_signs.proofs.StateLists.{images-more}
 use Rattle.std.proofs.lemmas.Simd.{map-map}
 

@@ -1,4 +1,5 @@
-//! The labels behind the cube's edges, and the blocks of the cube.
+//! The blocks of the cube, whole or over chosen generators: the labels behind its edges, and their
+//! coefficients with signs.
 #![tactic(auto)]
 
 mod blocks;

@@ -8,10 +8,10 @@ ghost use Rattle.sparse_block.specs.Inside.{lines_in, lists_in};
 ghost use Rattle.cube_tests.specs.Squares.{square, square_columns, square_names};
 
 use crate::made_complexes::{Columns, NONE, lines};
-use cancel_step::{Foreign, Pivot, apply, cancel_in_place, copy, find, finish, look, patch};
+use cancel_step::{Foreign, apply, cancel_in_place, copy, find, finish, look, patch};
 use kh_types::NoMemory;
 use prime_field::{F5, PrimeField};
-use sparse_block::{ColumnComplex, Complex, Entry, Generator};
+use sparse_block::{ColumnComplex, Complex, Entry, Generator, Pivot};
 use std::alloc::Global;
 use std::process::Abort;
 use std::test::Fail;

@@ -4,13 +4,14 @@
 ghost use Rattle.std.specs.Prelude.{◌≡◌, pos, slice_index, IfOk};
 ghost use Rattle.sparse_block.specs.Complexes.{MakeComplex};
 ghost use Rattle.sparse_block.specs.Inside.{lines_in, lists_in};
-ghost use Rattle.cancel_step.specs.WorkedColumns.{four_names, square_lines};
+ghost use Rattle.column_reduction.specs.WorkedColumns.{four_names, square_lines};
 
 use crate::made_complexes::{Columns, NONE, labels, lines};
-use cancel_step::{Pivot, Reduced, cancel_in_place, find, reduce};
+use cancel_step::{cancel_in_place, find};
+use column_reduction::{Reduced, reduce};
 use kh_types::NoMemory;
 use prime_field::{F2, F3, PrimeField};
-use sparse_block::{ColumnComplex, Generator};
+use sparse_block::{ColumnComplex, Generator, Pivot};
 use std::alloc::Global;
 use std::test::Fail;
 

@@ -3,7 +3,7 @@
 
 use commit_core::{Answer, Event, Run, are_of_workers, run_events};
 use cube_signs::check_size;
-use jones_sum::Row;
+use homology_tables::Row;
 use kh_types::NoMemory;
 use known_links::{HOPF, TREFOIL, diagram_of};
 use prime_field::{F2, F3, F5, F7, PrimeField};

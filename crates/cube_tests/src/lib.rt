@@ -11,7 +11,7 @@ mod column_reductions;
 #[cfg(test)]
 mod cores;
 #[cfg(test)]
-mod homology_tables;
+mod known_tables;
 #[cfg(test)]
 mod locks;
 #[cfg(test)]

@@ -5,7 +5,7 @@ ghost use Rattle.circle_smoothing.specs.GeneratorCounts.{generator_count};
 ghost use Rattle.circle_smoothing.specs.declared.limits.TheConstants.{GENERATORS};
 ghost use Rattle.kh_types.specs.CircleNumbers.{IsName};
 
-use jones_sum::Row;
+use homology_tables::Row;
 use kh_types::Diagram;
 use known_links::{TREFOIL, diagram_of};
 use prime_field::{F3, PrimeField};

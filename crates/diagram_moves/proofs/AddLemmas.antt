@@ -9,12 +9,12 @@ use Rattle.kh_types.specs.Acceptance.{accepted}
 use Rattle.kh_types.specs.Code.{Code}
 use Rattle.kh_types.specs.Directions.{positive_at}
 use Rattle.kh_types.specs.StateSum.{state_sum}
-use Rattle.kinks_and_fingers.proofs.AddedSums.{state_sum-fingered}
-use Rattle.kinks_and_fingers.specs.FingerAdd.{moved_slots, with_finger, differ}
-use Rattle.kinks_and_fingers.specs.KinkAdds.{with_kink}
-use Rattle.kinks_and_fingers.proofs.FingeredCodes.{AreFingerable-accepted}
-use Rattle.kinks_and_fingers.proofs.FingerPlanar.{accepted-fingered}
-use Rattle.kinks_and_fingers.proofs.KinkFaces.{accepted-kinked}
+use Rattle.kink_and_finger_laws.proofs.AddedSums.{state_sum-fingered}
+use Rattle.kink_and_finger_laws.specs.FingerAdd.{moved_slots, with_finger, differ}
+use Rattle.kink_and_finger_laws.specs.KinkAdds.{with_kink}
+use Rattle.kink_and_finger_laws.proofs.FingeredCodes.{AreFingerable-accepted}
+use Rattle.kink_and_finger_laws.proofs.FingerPlanar.{accepted-fingered}
+use Rattle.kink_and_finger_laws.proofs.KinkFaces.{accepted-kinked}
 use Rattle.diagram_moves.specs.AddSteps.{IsTakenArc, AreTakenArcs, kinked_there}
 use Rattle.diagram_moves.proofs.MadeSoFar.{kinked_to, fingered_to}
 use Rattle.diagram_moves.specs.MoveFaults.{kink_add_fault, finger_place_fault, wrong_genus}

@@ -12,16 +12,16 @@ use Rattle.kh_types.specs.Code.{Code, place_of}
 use Rattle.kh_types.specs.Components.{component_count}
 use Rattle.kh_types.specs.Faces.{face_count, planar_face_count}
 use Rattle.kh_types.specs.StateSum.{state_sum}
-use Rattle.kinks_and_fingers.specs.Drops.{is_bigon, is_kink, without_finger, without_kink}
-use Rattle.kinks_and_fingers.specs.FingerAdd.{with_finger, differ}
-use Rattle.kinks_and_fingers.specs.KinkAdds.{with_kink}
+use Rattle.kink_and_finger_laws.specs.Drops.{is_bigon, is_kink, without_finger, without_kink}
+use Rattle.kink_and_finger_laws.specs.FingerAdd.{with_finger, differ}
+use Rattle.kink_and_finger_laws.specs.KinkAdds.{with_kink}
 use Rattle.code_passes.specs.Parts.{slots_in}
 use Rattle.orient_arcs.specs.Renumbered.{renumber}
-use Rattle.kinks_and_fingers.proofs.FingeredCodes.{AreFingerable-accepted, component_count-fingered}
-use Rattle.kinks_and_fingers.proofs.KinkedCodes.{IsKinkable-accepted, component_count-kinked}
-use Rattle.kinks_and_fingers.proofs.FingerPlanar.{planar-two_pieces}
-use Rattle.kinks_and_fingers.proofs.AddedSums.{state_sum-kinked}
-use Rattle.slides.specs.Triangles.{has_triangle, slide_slot}
+use Rattle.kink_and_finger_laws.proofs.FingeredCodes.{AreFingerable-accepted, component_count-fingered}
+use Rattle.kink_and_finger_laws.proofs.KinkedCodes.{IsKinkable-accepted, component_count-kinked}
+use Rattle.kink_and_finger_laws.proofs.FingerPlanar.{planar-two_pieces}
+use Rattle.kink_and_finger_laws.proofs.AddedSums.{state_sum-kinked}
+use Rattle.slide_laws.specs.Triangles.{has_triangle, slide_slot}
 use Rattle.diagram_moves.specs.declared.change.Move.{Move}
 use Rattle.diagram_moves.specs.declared.change.Move.TheVariants.{KinkAdd, KinkDrop, FingerAdd, FingerDrop, Slide}
 use Rattle.diagram_moves.specs.declared.fault.MoveFault.{MoveFault}

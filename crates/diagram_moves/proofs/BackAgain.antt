@@ -6,16 +6,16 @@ use Rattle.std.specs.List.{AllByRecursion}
 use Rattle.kh_types.specs.Code.{Code, arc_in}
 use Rattle.code_passes.specs.Parts.{slots_in, ArePaired}
 use Rattle.orient_arcs.specs.Renumbered.{renumber}
-use Rattle.kinks_and_fingers.specs.Drops.{dropped, straight_names}
-use Rattle.kinks_and_fingers.proofs.KeptCodes.{kept-sign, kept-slots, length-kept, renamed_slots-at}
+use Rattle.kink_and_finger_laws.specs.Drops.{dropped, straight_names}
+use Rattle.kink_and_finger_laws.proofs.KeptCodes.{kept-sign, kept-slots, length-kept, renamed_slots-at}
 use Rattle.orient_arcs.specs.OtherNames.{IsNamedBy}
 use Rattle.orient_arcs.proofs.AscendingNames.{KeepsComponents-ascending}
 use Rattle.orient_arcs.proofs.KeptOrder.{own-crossings}
-use Rattle.kinks_and_fingers.specs.Drops.{ring_count}
-use Rattle.kinks_and_fingers.proofs.RisenNumbers.{rise-less}
-use Rattle.kinks_and_fingers.proofs.AddedCodes.{IsAdded}
-use Rattle.kinks_and_fingers.proofs.AddedDrops.{AreAddedGone, map-places, no-ring, old-names}
-use Rattle.kinks_and_fingers.proofs.AddedSigns.{sign-old}
+use Rattle.kink_and_finger_laws.specs.Drops.{ring_count}
+use Rattle.kink_and_finger_laws.proofs.RisenNumbers.{rise-less}
+use Rattle.kink_and_finger_laws.proofs.AddedCodes.{IsAdded}
+use Rattle.kink_and_finger_laws.proofs.AddedDrops.{AreAddedGone, map-places, no-ring, old-names}
+use Rattle.kink_and_finger_laws.proofs.AddedSigns.{sign-old}
 use Rattle.diagram_moves.specs.declared.fault.MoveFault.{MoveFault}
 use Rattle.diagram_moves.specs.Moved.{answered}
 

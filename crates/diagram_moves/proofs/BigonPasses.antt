@@ -8,13 +8,14 @@ use Rattle.kh_types.specs.Darts.{partner_at}
 use Rattle.kh_types.specs.Directions.{is_positive, positive_at}
 use Rattle.kh_types.proofs.AcceptedLemmas.{HasArcsTwice-accepted}
 use Rattle.kh_types.proofs.Heads.{HasNoSingleArcs-accepted}
+use Rattle.kh_types.proofs.BitLemmas.{parity}
 use Rattle.code_passes.specs.Parts.{slots_in}
-use Rattle.gluing.specs.Codes.{arc_of_dart}
-use Rattle.gluing.specs.Arcs.{enters}
-use Rattle.kinks_and_fingers.specs.Dropping.{HasBigonAt}
-use Rattle.kinks_and_fingers.specs.Pulls.{dart_in}
-use Rattle.kinks_and_fingers.proofs.DroppedDarts.{is_code_head}
-use Rattle.kinks_and_fingers.proofs.OldDarts.{arc_of_dart-in, arc_of_dart-partner, dart_in-slot, heads-partner}
+use Rattle.gluing_laws.specs.Codes.{arc_of_dart}
+use Rattle.gluing_laws.specs.Arcs.{enters}
+use Rattle.kink_and_finger_laws.specs.Dropping.{HasBigonAt}
+use Rattle.kink_and_finger_laws.specs.Pulls.{dart_in}
+use Rattle.kink_and_finger_laws.proofs.DroppedDarts.{is_code_head}
+use Rattle.kink_and_finger_laws.proofs.OldDarts.{arc_of_dart-in, arc_of_dart-partner, dart_in-slot, heads-partner}
 use Rattle.diagram_moves.specs.DropPasses.{AreNeighbours, over_pass_of, under_pass_of}
 
 -- a slot is that where a pass enters, or that where it leaves
@@ -79,9 +80,6 @@ over-side code c d p r side p_odd r_odd = grind (arith, nat_tests, joined-ends, 
 
 swapped : {A B : Type 0} → A ⊎ B → B ⊎ A
 swapped has0 = grind (arith, nat_tests)
-
-parity : (x : ℕ) → (x % 2 ≡ 0) ⊎ (x % 2 ≡ 1)
-parity x = grind arith
 
 pub bigon-passes : (code : Code) (first second p q : ℕ) → IsTrue (accepted code) → IsCrossing code.crossings first → IsCrossing code.crossings second
     → HasBigonAt code.crossings (place_of first) (place_of second) p q

@@ -16,11 +16,11 @@ use Rattle.kh_types.specs.Components.{passes_of}
 use Rattle.kh_types.specs.StateSum.{state_sum}
 use Rattle.std.proofs.lemmas.Grind.{flat_map-append}
 use Rattle.kh_types.proofs.Ranges.{filter-range_more}
-use Rattle.gluing.proofs.CodeCircles.{append-nothing}
-use Rattle.kinks_and_fingers.specs.Drops.{dropped, is_of_two, kept_crossings, kept_signs, renamed_slots, straight_names, without_finger, without_kink}
-use Rattle.kinks_and_fingers.specs.Dropping.{HasBigonAt, HasKinkAt}
+use Rattle.gluing_laws.proofs.CodeCircles.{append-nothing}
+use Rattle.kink_and_finger_laws.specs.Drops.{dropped, is_of_two, kept_crossings, kept_signs, renamed_slots, straight_names, without_finger, without_kink}
+use Rattle.kink_and_finger_laws.specs.Dropping.{HasBigonAt, HasKinkAt}
 use Rattle.orient_arcs.specs.Renumbered.{renumber}
-use Rattle.kinks_and_fingers.proofs.Sound.{HasBigonAt-found, IsSound-finger, IsSound-kink}
+use Rattle.kink_and_finger_laws.proofs.Sound.{HasBigonAt-found, IsSound-finger, IsSound-kink}
 use Rattle.diagram_moves.specs.DropSteps.{is_ring_in, kept_to, passes_there, renamed_there, signs_to, stays}
 use Rattle.diagram_moves.proofs.MadeSoFar.{straight_to}
 use Rattle.diagram_moves.specs.Joinable.{AreReady}

@@ -19,12 +19,12 @@ use Rattle.kh_types.proofs.AcceptedLemmas.{HasArcsTwice-accepted}
 use Rattle.kh_types.proofs.Heads.{HasEnds-accepted}
 use Rattle.kh_types.proofs.RangeCounts.{list_any-at}
 use Rattle.code_passes.specs.Parts.{Parts}
-use Rattle.gluing.specs.Arcs.{enters}
-use Rattle.kinks_and_fingers.specs.Dropping.{HasBigonAt}
-use Rattle.kinks_and_fingers.specs.DropRule.{IsLeft}
-use Rattle.kinks_and_fingers.specs.Drops.{after, is_bigon, is_bigon_at, is_kink, is_kink_at, is_of_two, without_finger, without_kink}
-use Rattle.kinks_and_fingers.proofs.DropRules.{IsLeft-dropped}
-use Rattle.kinks_and_fingers.proofs.Sound.{HasBigonAt-found, HasKinkAt-found}
+use Rattle.gluing_laws.specs.Arcs.{enters}
+use Rattle.kink_and_finger_laws.specs.Dropping.{HasBigonAt}
+use Rattle.kink_and_finger_laws.specs.DropRule.{IsLeft}
+use Rattle.kink_and_finger_laws.specs.Drops.{after, is_bigon, is_bigon_at, is_kink, is_kink_at, is_of_two, without_finger, without_kink}
+use Rattle.kink_and_finger_laws.proofs.DropRules.{IsLeft-dropped}
+use Rattle.kink_and_finger_laws.proofs.Sound.{HasBigonAt-found, HasKinkAt-found}
 use Rattle.orient_arcs.specs.Renumbered.{renumber}
 use Rattle.diagram_moves.specs.DropPasses.{HasKink}
 use Rattle.diagram_moves.specs.MoveFaults.{finger_drop_fault, kink_drop_fault, no_bigon, no_crossing, no_kink, refused_where}

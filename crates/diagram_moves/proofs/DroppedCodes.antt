@@ -11,22 +11,22 @@ use Rattle.kh_types.specs.Darts.{HasArcsTwice}
 use Rattle.kh_types.specs.StateSum.{state_sum}
 use Rattle.kh_types.proofs.AcceptedLemmas.{HasArcsTwice-accepted, IsAccepted-is}
 use Rattle.kh_types.proofs.JoinedClasses.{IsNamed-classes_of}
-use Rattle.gluing.specs.Arcs.{arc_by_place}
+use Rattle.gluing_laws.specs.Arcs.{arc_by_place}
 use Rattle.code_passes.specs.Parts.{slots_in}
 use Rattle.orient_arcs.specs.Renumbered.{renumber}
-use Rattle.kinks_and_fingers.specs.Drops.{dropped, kept_places, kept_crossings, straight_names, straight_pairs, is_of_two, without_kink, without_finger}
-use Rattle.kinks_and_fingers.specs.Dropping.{HasKinkAt, HasBigonAt, IsPlanarRest}
-use Rattle.kinks_and_fingers.specs.DropCircles.{parts_sum}
-use Rattle.kinks_and_fingers.specs.Pulls.{early, late}
-use Rattle.kinks_and_fingers.proofs.KeptCodes.{length-kept, kept-slots, kept-sign, renamed_slots-at, arc_by_place-below, straight-below}
-use Rattle.kinks_and_fingers.proofs.KinkCircles.{kept_are, early-low}
-use Rattle.kinks_and_fingers.proofs.KinkDropSums.{state_sum-without_kink}
-use Rattle.kinks_and_fingers.proofs.FingerDrops.{places-two, late-below}
-use Rattle.kinks_and_fingers.proofs.FingerDropSums.{state_sum-without_finger}
-use Rattle.kinks_and_fingers.proofs.ComponentDrops.{components-dropped}
-use Rattle.kinks_and_fingers.proofs.Smoothed.{IsPermutation-late}
-use Rattle.kinks_and_fingers.proofs.OldDarts.{arc_of_dart-arc_of}
-use Rattle.kinks_and_fingers.proofs.Sound.{IsSound-kink, IsSound-finger, two_below}
+use Rattle.kink_and_finger_laws.specs.Drops.{dropped, kept_places, kept_crossings, straight_names, straight_pairs, is_of_two, without_kink, without_finger}
+use Rattle.kink_and_finger_laws.specs.Dropping.{HasKinkAt, HasBigonAt, IsPlanarRest}
+use Rattle.kink_and_finger_laws.specs.DropCircles.{parts_sum}
+use Rattle.kink_and_finger_laws.specs.Pulls.{early, late}
+use Rattle.kink_and_finger_laws.proofs.KeptCodes.{length-kept, kept-slots, kept-sign, renamed_slots-at, arc_by_place-below, straight-below}
+use Rattle.kink_and_finger_laws.proofs.KinkCircles.{kept_are, early-low}
+use Rattle.kink_and_finger_laws.proofs.KinkDropSums.{state_sum-without_kink}
+use Rattle.kink_and_finger_laws.proofs.FingerDrops.{places-two, late-below}
+use Rattle.kink_and_finger_laws.proofs.FingerDropSums.{state_sum-without_finger}
+use Rattle.kink_and_finger_laws.proofs.ComponentDrops.{components-dropped}
+use Rattle.kink_and_finger_laws.proofs.Smoothed.{IsPermutation-late}
+use Rattle.kink_and_finger_laws.proofs.OldDarts.{arc_of_dart-arc_of}
+use Rattle.kink_and_finger_laws.proofs.Sound.{IsSound-kink, IsSound-finger, two_below}
 use Rattle.diagram_moves.specs.Joinable.{IsJoinable}
 use Rattle.diagram_moves.specs.Kept.{IsKeptCode}
 use Rattle.diagram_moves.proofs.Numbered.{IsAccepted-renumber, components-renumber, sign-renumber, state_sum-renumber}

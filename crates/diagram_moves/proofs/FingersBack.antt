@@ -6,15 +6,15 @@ use Rattle.std.specs.List.{AllByRecursion}
 use Rattle.kh_types.specs.Acceptance.{accepted}
 use Rattle.kh_types.specs.Code.{Code, place_of, IsArc}
 use Rattle.orient_arcs.specs.Renumbered.{renumber}
-use Rattle.kinks_and_fingers.specs.Drops.{is_bigon, is_of_two, without_finger}
-use Rattle.kinks_and_fingers.specs.Dropping.{HasBigonAt}
-use Rattle.kinks_and_fingers.specs.FingerAdd.{differ, fingered, head_number, opened, with_finger}
-use Rattle.kinks_and_fingers.proofs.FingeredCodes.{AreFingerable-accepted, IsAdded-finger, finger_sign}
-use Rattle.kinks_and_fingers.proofs.AddedSums.{AreAddedGone-finger, HasBigonAt-fingered, first_slot, second_slot}
-use Rattle.kinks_and_fingers.proofs.MovableArcs.{AreFingerable}
-use Rattle.kinks_and_fingers.proofs.Opened.{low}
-use Rattle.kinks_and_fingers.proofs.FingerSlots.{length-fingered}
-use Rattle.kinks_and_fingers.proofs.Sound.{IsSound-finger}
+use Rattle.kink_and_finger_laws.specs.Drops.{is_bigon, is_of_two, without_finger}
+use Rattle.kink_and_finger_laws.specs.Dropping.{HasBigonAt}
+use Rattle.kink_and_finger_laws.specs.FingerAdd.{differ, fingered, head_number, opened, with_finger}
+use Rattle.kink_and_finger_laws.proofs.FingeredCodes.{AreFingerable-accepted, IsAdded-finger, finger_sign}
+use Rattle.kink_and_finger_laws.proofs.AddedSums.{AreAddedGone-finger, HasBigonAt-fingered}
+use Rattle.kink_and_finger_laws.proofs.MovableArcs.{AreFingerable}
+use Rattle.kink_and_finger_laws.proofs.Opened.{low}
+use Rattle.kink_and_finger_laws.proofs.FingerSlots.{first_slot, length-fingered, second_slot}
+use Rattle.kink_and_finger_laws.proofs.Sound.{IsSound-finger}
 use Rattle.diagram_moves.specs.declared.change.Side.{Side}
 use Rattle.diagram_moves.specs.declared.change.Move.TheVariants.{FingerAdd, FingerDrop}
 use Rattle.diagram_moves.specs.declared.fault.MoveFault.{MoveFault}

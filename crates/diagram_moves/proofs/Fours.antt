@@ -3,7 +3,7 @@ use Rattle.std.proofs.lemmas.Bool.Decides.{nat_tests}
 use Rattle.std.proofs.Common.{◌≡◌, ℕ, ◌∙◌, List, arith, refl, ap, ap₂, Bool, not}
 use Rattle.std.specs.Prelude.{nat_eq, ◌&&◌, ◌||◌, if◌then◌else◌, Some, None}
 use Rattle.std.specs.List.{find, list_any, range_with_len}
-use Rattle.slides.specs.Triangles.{dart_at_slot, is_at_crossing, is_triangle, step}
+use Rattle.slide_laws.specs.Triangles.{dart_at_slot, is_at_crossing, is_triangle, step}
 
 pub list_any_four : (p : ℕ → Bool) → list_any p (range_with_len 0 4) ≡ (p 0 || (p 1 || (p 2 || p 3)))
 list_any_four p = grind (arith, nat_tests)

@@ -6,15 +6,15 @@ use Rattle.std.proofs.lemmas.Bool.Decides.{nat_tests}
 use Rattle.kh_types.specs.Acceptance.{accepted}
 use Rattle.kh_types.specs.Code.{Code, place_of, IsArc}
 use Rattle.orient_arcs.specs.Renumbered.{renumber}
-use Rattle.kinks_and_fingers.specs.Drops.{without_kink}
-use Rattle.kinks_and_fingers.specs.Dropping.{HasKinkAt}
-use Rattle.kinks_and_fingers.specs.KinkAdds.{raised, with_kink}
-use Rattle.kinks_and_fingers.proofs.AddedSums.{AreAddedGone-kink, HasKinkAt-kinked}
-use Rattle.kinks_and_fingers.proofs.Opened.{lowered}
-use Rattle.kinks_and_fingers.proofs.KinkFaces.{accepted-kinked}
-use Rattle.kinks_and_fingers.proofs.KinkedCodes.{IsAdded-kink, IsKinkable-accepted}
-use Rattle.kinks_and_fingers.proofs.KinkSlots.{inner_slot, last, length-kinked}
-use Rattle.kinks_and_fingers.proofs.Sound.{IsSound-kink}
+use Rattle.kink_and_finger_laws.specs.Drops.{without_kink}
+use Rattle.kink_and_finger_laws.specs.Dropping.{HasKinkAt}
+use Rattle.kink_and_finger_laws.specs.KinkAdds.{raised, with_kink}
+use Rattle.kink_and_finger_laws.proofs.AddedSums.{AreAddedGone-kink, HasKinkAt-kinked}
+use Rattle.kink_and_finger_laws.proofs.Opened.{lowered}
+use Rattle.kink_and_finger_laws.proofs.KinkFaces.{accepted-kinked}
+use Rattle.kink_and_finger_laws.proofs.KinkedCodes.{IsAdded-kink, IsKinkable-accepted}
+use Rattle.kink_and_finger_laws.proofs.KinkSlots.{inner_slot, last, length-kinked}
+use Rattle.kink_and_finger_laws.proofs.Sound.{IsSound-kink}
 use Rattle.diagram_moves.specs.declared.change.Move.TheVariants.{KinkAdd, KinkDrop}
 use Rattle.diagram_moves.specs.declared.fault.MoveFault.{MoveFault}
 use Rattle.diagram_moves.specs.Moved.{answered, moved}

@@ -33,20 +33,20 @@ use Rattle.face_walk.proofs.FewFaces.{IsPlanar-twice}
 use Rattle.kh_types.proofs.RangeImages.{map_range-agree}
 use Rattle.face_walk.proofs.Board.{IsCheckerboard-planar}
 use Rattle.code_passes.specs.Parts.{Parts, is_positive_at, ArePaired}
-use Rattle.gluing.specs.Arcs.{arc_by_place}
+use Rattle.gluing_laws.specs.Arcs.{arc_by_place}
 use Rattle.orient_arcs.specs.Renumbered.{renumber}
-use Rattle.kinks_and_fingers.specs.DropCircles.{parts_circle_count, parts_plus, parts_minus, parts_term, parts_sum}
-use Rattle.kinks_and_fingers.specs.DropComponents.{parts_component_count}
-use Rattle.kinks_and_fingers.proofs.OldDarts.{arc_of_dart-arc_of}
-use Rattle.kinks_and_fingers.proofs.KinkCircles.{before}
-use Rattle.kinks_and_fingers.proofs.KinkDropSums.{count-later, sums-alike}
-use Rattle.kinks_and_fingers.proofs.StandingNames.{IsOfNames-passes, IsOfNames-smoothings, standing-classes}
-use Rattle.gluing.specs.Alike.{AreAlike}
-use Rattle.gluing.specs.Glue as glue
+use Rattle.kink_and_finger_laws.specs.DropCircles.{parts_circle_count, parts_plus, parts_minus, parts_term, parts_sum}
+use Rattle.kink_and_finger_laws.specs.DropComponents.{parts_component_count}
+use Rattle.kink_and_finger_laws.proofs.OldDarts.{arc_of_dart-arc_of}
+use Rattle.kink_and_finger_laws.proofs.KinkCircles.{before}
+use Rattle.kink_and_finger_laws.proofs.KinkDropSums.{count-later, sums-alike}
+use Rattle.kink_and_finger_laws.proofs.StandingNames.{IsOfNames-passes, IsOfNames-smoothings, standing-classes}
+use Rattle.gluing_laws.specs.Alike.{AreAlike}
+use Rattle.gluing_laws.specs.Glue as glue
 use Rattle.orient_arcs.proofs.Bridge.{IsDirected-renumbered, sign-kept}
 use Rattle.orient_arcs.proofs.AlikeCrossings.{AreAlike-renumbered, ArcsBelow-places, class_count-alike, class_count-darts}
 use Rattle.orient_arcs.proofs.AcceptedParts.{over-apart}
-use Rattle.gluing.specs.Codes.{arc_of_dart}
+use Rattle.gluing_laws.specs.Codes.{arc_of_dart}
 use Rattle.orient_arcs.proofs.DartSmoothings.{dart_passes, passes_of-darts, dart_passes-below}
 use Rattle.diagram_moves.specs.Joinable.{IsJoinable}
 use Rattle.diagram_moves.proofs.Standing.{standing-count}

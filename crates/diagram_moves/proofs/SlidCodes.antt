@@ -9,11 +9,12 @@ use Rattle.std.proofs.Common.{◌≡◌, ℕ, ◌+◌, ◌-◌, ◌*◌, ◌/◌
 use Rattle.std.specs.List.{count_by, flat_map, range_with_len}
 use Rattle.std.proofs.lemmas.List.FromFn.{get_or-map-range_with_len, length-map-range_with_len}
 use Rattle.std.proofs.lemmas.List.{length-map}
-use Rattle.gluing.specs.Arcs.{enters as strand_enters}
+use Rattle.std.proofs.lemmas.Bool.{not_from_false, not-true}
+use Rattle.gluing_laws.specs.Arcs.{enters as strand_enters}
 use Rattle.code_passes.specs.Parts.{ArePaired, Parts, is_positive_at}
-use Rattle.gluing.specs.Codes.{arc_of_dart}
-use Rattle.kinks_and_fingers.proofs.TwoEnds.{is_head_at, ArePaired-ends, HasTwoEnds}
-use Rattle.kinks_and_fingers.specs.Planar.{IsPlanarBy}
+use Rattle.gluing_laws.specs.Codes.{arc_of_dart}
+use Rattle.kink_and_finger_laws.proofs.TwoEnds.{is_head_at, ArePaired-ends, HasTwoEnds}
+use Rattle.kink_and_finger_laws.specs.Planar.{IsPlanarBy}
 use Rattle.orient_arcs.specs.Renumbered.{renumber}
 use Rattle.kh_types.specs.Acceptance.{accepted}
 use Rattle.kh_types.specs.Bits.{ones}
@@ -30,21 +31,21 @@ use Rattle.kh_types.proofs.ClassCounts.{class_count-components}
 use Rattle.kh_types.proofs.DartPairs.{IsDart-at, IsOtherPlace-partner_at, IsPairing-partner_at, dart_at-place, dart_place-at, dart_place-below}
 use Rattle.kh_types.proofs.Lists.{count_by-map}
 use Rattle.face_walk.proofs.FewFaces.{IsPlanar-twice}
-use Rattle.kinks_and_fingers.specs.DropCircles.{parts_circle_count, parts_plus, parts_minus, parts_term, parts_sum}
-use Rattle.kinks_and_fingers.specs.DropComponents.{parts_component_count}
-use Rattle.kinks_and_fingers.proofs.OldDarts.{arc_of_dart-arc_of, arc_of_dart-partner, arc_of_dart-below}
-use Rattle.kinks_and_fingers.proofs.KinkCircles.{before}
-use Rattle.kinks_and_fingers.proofs.KinkDropSums.{count-later, sums-alike}
-use Rattle.kinks_and_fingers.proofs.StandingNames.{IsOfNames-passes, IsOfNames-smoothings, standing-classes}
-use Rattle.slides.specs.Slid.{slid, slid_code}
-use Rattle.slides.specs.SlideCodes.{is_head_with, HasHeadsAndTails}
-use Rattle.slides.specs.Triangles.{IsTriangle, has_heights}
-use Rattle.slides.proofs.Sides.{HasSides-triangle}
-use Rattle.slides.proofs.SlidArcs.{length-slid, HasArcsTwice-slid}
-use Rattle.slides.proofs.SlidBack.{planar-slid}
-use Rattle.slides.proofs.SlidHeads.{HasHeadsAndTails-slid}
-use Rattle.slides.proofs.SlidTriangle.{sum_with-slid}
-use Rattle.slides.proofs.Passes.{component_count-slid}
+use Rattle.kink_and_finger_laws.specs.DropCircles.{parts_circle_count, parts_plus, parts_minus, parts_term, parts_sum}
+use Rattle.kink_and_finger_laws.specs.DropComponents.{parts_component_count}
+use Rattle.kink_and_finger_laws.proofs.OldDarts.{arc_of_dart-arc_of, arc_of_dart-partner, arc_of_dart-below}
+use Rattle.kink_and_finger_laws.proofs.KinkCircles.{before}
+use Rattle.kink_and_finger_laws.proofs.KinkDropSums.{count-later, sums-alike}
+use Rattle.kink_and_finger_laws.proofs.StandingNames.{IsOfNames-passes, IsOfNames-smoothings, standing-classes}
+use Rattle.slide_laws.specs.Slid.{slid, slid_code}
+use Rattle.slide_laws.specs.SlideCodes.{is_head_with, HasHeadsAndTails}
+use Rattle.slide_laws.specs.Triangles.{IsTriangle, has_heights}
+use Rattle.slide_laws.proofs.Sides.{HasSides-triangle}
+use Rattle.slide_laws.proofs.SlidArcs.{length-slid, HasArcsTwice-slid}
+use Rattle.slide_laws.proofs.SlidBack.{planar-slid}
+use Rattle.slide_laws.proofs.SlidHeads.{HasHeadsAndTails-slid}
+use Rattle.slide_laws.proofs.SlidTriangle.{sum_with-slid}
+use Rattle.slide_laws.proofs.Passes.{component_count-slid}
 use Rattle.diagram_moves.specs.Joinable.{IsJoinable}
 use Rattle.diagram_moves.specs.Kept.{IsKeptCode, slid_parts}
 use Rattle.diagram_moves.proofs.Standing.{standing-count}
@@ -53,12 +54,6 @@ use Rattle.diagram_moves.proofs.Numbered.{IsAccepted-renumber, components-renumb
 -- signs that stand in a list for those of a function of crossings
 abbrev AreSigns : List Bool → (ℕ → Bool) → ℕ → Type 0
 AreSigns signs positive n = (place : ℕ) → place < n → is_positive_at signs place ≡ positive (place + 1)
-
-not_true : (b : Bool) → b ≡ false → not b ≡ true
-not_true b is = grind (arith, nat_tests)
-
-not_false : (b : Bool) → not b ≡ true → b ≡ false
-not_false b is = grind (arith, nat_tests)
 
 -- crossings on which each arc has one head and one tail
 HasTwoEnds-arcs : (crossings : List (List ℕ)) (positive : ℕ → Bool) (signs : List Bool) → HasArcsTwice crossings
@@ -85,9 +80,9 @@ HasTwoEnds-arcs crossings positive signs twice ends are =
       one_tail = λ x y x_below y_below x_tail y_tail same.
           let one = (ends (arc_of_dart crossings x) (arc x x_below)).1 in
           back x y
-          (one.1.only (dart_at x) (own x x_below) (not_true (is_head_with positive (dart_at x)) (sym (head x x_below) ∙ x_tail))
+          (one.1.only (dart_at x) (own x x_below) (not_from_false (is_head_with positive (dart_at x)) (sym (head x x_below) ∙ x_tail))
           ∙ sym
-          (one.1.only (dart_at y) (of_name x y y_below same) (not_true (is_head_with positive (dart_at y)) (sym (head y y_below) ∙ y_tail))));
+          (one.1.only (dart_at y) (of_name x y y_below same) (not_from_false (is_head_with positive (dart_at y)) (sym (head y y_below) ∙ y_tail))));
       tail_of = λ x below is_head.
           let one = (ends (arc_of_dart crossings x) (arc x below)).1 in
           let y = dart_place one.0 in
@@ -95,7 +90,7 @@ HasTwoEnds-arcs crossings positive signs twice ends are =
           let at = dart_at-place crossings one.0 one.1.is.within in (
             y,
             y_below,
-            head (dart_place one.0) y_below ∙ ap (is_head_with positive) at ∙ not_false (is_head_with positive one.0) one.1.kind_of,
+            head (dart_place one.0) y_below ∙ ap (is_head_with positive) at ∙ not-true (is_head_with positive one.0) one.1.kind_of,
             sym (sym (arc_of_dart-arc_of crossings (dart_place one.0)) ∙ ap (arc_of crossings) at ∙ one.1.is.on_arc),
           );
       head_of = λ x below is_tail.

@@ -32,17 +32,17 @@ use Rattle.orient_arcs.proofs.Bridge.{number-once, slot-head}
 use Rattle.orient_arcs.proofs.Members.{IsIn}
 use Rattle.orient_arcs.proofs.PairedPasses.{heads_of, All-flat_map_range, entering-at, entering-enters, entering-holds}
 use Rattle.orient_arcs.proofs.PlacedNumbers.{HasOverLabels, IsPlaced, placed-numbers}
-use Rattle.slides.specs.Slid.{on, slid, source}
-use Rattle.slides.specs.SlideCodes.{is_head_with}
-use Rattle.slides.specs.Triangles.{IsTriangle}
-use Rattle.slides.proofs.Corners.{four, at_places, on-below, on-on, on-zero, source-below, source-outside, source-rotated, source-x}
-use Rattle.slides.proofs.Passes.{KeepsPass-slid, arc-behind, passes-arcs, respects-behind}
-use Rattle.slides.proofs.Sides.{HasSides, HasSides-rotated, HasSides-triangle}
-use Rattle.slides.proofs.SlidArcs.{arc_of-at, arc_of_dart-slid, length-slid}
-use Rattle.slides.proofs.SlidHeads.{HasHeadsAndTails-slid}
+use Rattle.slide_laws.specs.Slid.{on, slid, source}
+use Rattle.slide_laws.specs.SlideCodes.{is_head_with}
+use Rattle.slide_laws.specs.Triangles.{IsTriangle}
+use Rattle.slide_laws.proofs.Corners.{four, at_places, on-below, on-on, on-zero, source-below, source-outside, source-rotated, source-x}
+use Rattle.slide_laws.proofs.Passes.{KeepsPass-slid, arc-behind, passes-arcs, respects-behind}
+use Rattle.slide_laws.proofs.Sides.{HasSides, HasSides-rotated, HasSides-triangle}
+use Rattle.slide_laws.proofs.SlidArcs.{arc_of-at, arc_of_dart-slid, length-slid}
+use Rattle.slide_laws.proofs.SlidHeads.{HasHeadsAndTails-slid}
 use Rattle.diagram_moves.specs.Kept.{slid_parts}
 use Rattle.diagram_moves.proofs.SlidCodes.{ArePaired-slid, signs-slid}
-use Rattle.gluing.specs.Codes.{arc_of_dart}
+use Rattle.gluing_laws.specs.Codes.{arc_of_dart}
 
 -- what is one at the two darts of each arc, and at opposite slots, is one at a dart and at its source
 

@@ -7,13 +7,13 @@ use Rattle.std.specs.Option.{option_or}
 use Rattle.kh_types.specs.Acceptance.{accepted}
 use Rattle.kh_types.specs.Code.{Code, IsCrossing}
 use Rattle.kh_types.specs.StateSum.{state_sum}
-use Rattle.slides.specs.Triangles.{dart_at_slot, slide_slot, step}
-use Rattle.slides.proofs.FoundTriangles.{IsTriangle-slot, has_heights-slot}
+use Rattle.slide_laws.specs.Triangles.{dart_at_slot, slide_slot, step}
+use Rattle.slide_laws.proofs.FoundTriangles.{IsTriangle-slot, has_heights-slot}
 use Rattle.diagram_moves.specs.Joinable.{AreReady}
 use Rattle.diagram_moves.specs.Kept.{slid_parts}
 use Rattle.diagram_moves.proofs.KeptComponents.{HasComponents}
 use Rattle.diagram_moves.specs.SlideSteps.{IsSlidable, slid_arc, slid_parts_at}
-use Rattle.slides.specs.Slid.{slid_crossing}
+use Rattle.slide_laws.specs.Slid.{slid_crossing}
 use Rattle.diagram_moves.specs.Moved.{slid_at, slid_from}
 use Rattle.diagram_moves.specs.MoveFaults.{no_crossing, no_heights, no_triangle, slide_fault}
 use Rattle.diagram_moves.specs.declared.fault.MoveFault.TheVariants.{Heights}

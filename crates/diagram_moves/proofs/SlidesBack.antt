@@ -22,13 +22,14 @@ use Rattle.orient_arcs.specs.Renumbered.{number_in, order_of, renumber}
 use Rattle.orient_arcs.proofs.AlikeCrossings.{AreAlike-renumbered, partner_at-alike}
 use Rattle.orient_arcs.proofs.Bridge.{length-renumbered, slot-renumbered}
 use Rattle.orient_arcs.proofs.KeptOrder.{own-crossings}
-use Rattle.slides.specs.Slid.{on, slid, source}
-use Rattle.slides.specs.Triangles.{IsTriangle, IsTriangleAt, dart_at_slot, has_heights, has_triangle, is_slidable_at, is_triangle, slide_slot, step}
-use Rattle.slides.proofs.Corners.{on-crossing, source-below, source-source}
-use Rattle.slides.proofs.FoundTriangles.{IsFirst-found, IsTriangleAt-is, is_triangle-at, IsTriangle-slot, has_heights-slot}
-use Rattle.slides.proofs.Sides.{HasSides, HasSides-slid, HasSides-triangle}
-use Rattle.slides.proofs.SlidArcs.{arc_of_dart-slid, length-slid, partner_at-slid}
-use Rattle.slides.proofs.SlidBack.{source-across}
+use Rattle.slide_laws.specs.Slid.{on, slid, source}
+use Rattle.slide_laws.specs.Triangles.{IsTriangle, IsTriangleAt, dart_at_slot, has_heights, has_triangle, is_slidable_at, is_triangle, slide_slot, step}
+use Rattle.slide_laws.proofs.Corners.{on-crossing, source-below, source-source}
+use Rattle.slide_laws.proofs.FoundTriangles.{IsFirst-found, IsTriangleAt-is, is_triangle-at, IsTriangle-slot, has_heights-slot}
+use Rattle.slide_laws.proofs.Sides.{HasSides, HasSides-slid, HasSides-triangle}
+use Rattle.slide_laws.proofs.SlidArcs.{arc_of_dart-slid, length-slid, partner_at-slid}
+use Rattle.slide_laws.proofs.SlidBack.{source-across}
+use Rattle.slide_laws.proofs.SlidFaces.{turned-on_1}
 use Rattle.diagram_moves.specs.declared.change.Move.TheVariants.{Slide}
 use Rattle.diagram_moves.specs.declared.fault.MoveFault.{MoveFault}
 use Rattle.diagram_moves.specs.declared.fault.MoveFault.TheVariants.{Heights, NoCrossing, NoTriangle}
@@ -40,10 +41,7 @@ use Rattle.diagram_moves.proofs.KinksBack.{held-none, within-none}
 use Rattle.diagram_moves.proofs.SlidCodes.{ArePaired-slid, IsKept-slid, signs-slid}
 use Rattle.diagram_moves.proofs.SlideLemmas.{IsPlaced-none}
 use Rattle.diagram_moves.proofs.SlidNumbers.{slid-keeps, slid-paired}
-use Rattle.gluing.specs.Codes.{arc_of_dart}
-
-turned-on : (place : ℕ) → turned (on place 1) ≡ place
-turned-on place = omega arith
+use Rattle.gluing_laws.specs.Codes.{arc_of_dart}
 
 module _ (code : Code) (x y z : ℕ) (holds : IsTrue (accepted code)) (triangle : IsTriangle code.crossings x y z)
     (heights : has_heights x y z ≡ true) where
@@ -82,7 +80,7 @@ module _ (code : Code) (x y z : ℕ) (holds : IsTrue (accepted code)) (triangle 
   step-across : (u v : ℕ) → u < 4 * length code.crossings
       → source x y z (partner_at code.crossings (source x y z u)) ≡ on v 1
       → step (renumber (slid_parts code x y z)).crossings u ≡ v
-  step-across u v below goes = grind (arith, nat_tests, partner-new, partner_at-slid, twice, sides, turned-on)
+  step-across u v below goes = grind (arith, nat_tests, partner-new, partner_at-slid, twice, sides, turned-on_1)
 
   across : HasSides (length code.crossings) (λ place. source x y z (partner_at code.crossings (source x y z place))) (on x 2) (on y 2) (on z 2)
   across = HasSides-slid (length code.crossings) (partner_at code.crossings) x y z sides

@@ -7,14 +7,14 @@ use Rattle.std.proofs.lemmas.Bool.{cases_Bool}
 use Rattle.kh_types.proofs.RangeCounts.{found-counted}
 use Rattle.face_walk.proofs.PlainCounts.{count_by-one_to_one}
 use Rattle.code_passes.specs.Parts.{Parts, is_positive_at}
-use Rattle.gluing.specs.Codes.{arc_of_dart}
-use Rattle.gluing.specs.Arcs.{arc_by_place, enters}
-use Rattle.kinks_and_fingers.specs.Drops.{stands_in}
-use Rattle.kinks_and_fingers.proofs.StandingNames.{stands-none, stands-some}
+use Rattle.gluing_laws.specs.Codes.{arc_of_dart}
+use Rattle.gluing_laws.specs.Arcs.{arc_by_place, enters}
+use Rattle.kink_and_finger_laws.specs.Drops.{stands_in}
+use Rattle.kink_and_finger_laws.proofs.StandingNames.{stands-none, stands-some}
 use Rattle.orient_arcs.specs.Alike.{HasNamesBelow}
-use Rattle.kinks_and_fingers.proofs.OldDarts.{arc_of_dart-arc_of}
+use Rattle.kink_and_finger_laws.proofs.OldDarts.{arc_of_dart-arc_of}
 use Rattle.code_passes.specs.Parts.{ArePaired}
-use Rattle.kinks_and_fingers.proofs.TwoEnds.{is_head_at, HasTwoEnds-paired, is_head_of, head-of, of-head, count-darts, count-some, head-at, name-at}
+use Rattle.kink_and_finger_laws.proofs.TwoEnds.{is_head_at, HasTwoEnds-paired, is_head_of, head-of, of-head, count-darts, count-some, head-at, name-at}
 
 -- two darts of each crossing are heads
 heads-all : (signs : List Bool) (a n : ℕ) → count_by (is_head_at signs) (range_with_len (4 * a) (4 * n)) ≡ 2 * n

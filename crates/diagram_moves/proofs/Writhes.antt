@@ -15,21 +15,21 @@ use Rattle.kh_types.proofs.DirectionLemmas.{plus_count-le}
 use Rattle.kh_types.proofs.Lists.{count_by-map}
 use Rattle.kh_types.proofs.RangeCounts.{count_by-alike}
 use Rattle.kh_types.proofs.Heads.{HasNoSingleArcs-accepted}
-use Rattle.kinks_and_fingers.specs.DropCircles.{parts_plus}
-use Rattle.kinks_and_fingers.specs.Drops.{dropped, kept_places, is_of_two, without_finger, without_kink}
-use Rattle.kinks_and_fingers.specs.FingerAdd.{with_finger, differ}
-use Rattle.kinks_and_fingers.specs.KinkAdds.{with_kink}
-use Rattle.kinks_and_fingers.specs.KinkCodes.{one_where}
-use Rattle.kinks_and_fingers.specs.Pulls.{early, late}
-use Rattle.kinks_and_fingers.proofs.FingeredCodes.{AreFingerable-accepted, minus_count-fingered, plus_count-fingered}
-use Rattle.kinks_and_fingers.proofs.FingerDrops.{places-two}
-use Rattle.kinks_and_fingers.proofs.FingerDropSums.{HasBigonAt-slots, bigon-signs, plus-kept_two}
-use Rattle.kinks_and_fingers.proofs.KinkCircles.{kept_are}
-use Rattle.kinks_and_fingers.proofs.KinkDropSums.{count-later, plus-kept}
+use Rattle.kink_and_finger_laws.specs.DropCircles.{parts_plus}
+use Rattle.kink_and_finger_laws.specs.Drops.{dropped, kept_places, is_of_two, without_finger, without_kink}
+use Rattle.kink_and_finger_laws.specs.FingerAdd.{with_finger, differ}
+use Rattle.kink_and_finger_laws.specs.KinkAdds.{with_kink}
+use Rattle.kink_and_finger_laws.specs.KinkCodes.{one_where}
+use Rattle.kink_and_finger_laws.specs.Pulls.{early, late}
+use Rattle.kink_and_finger_laws.proofs.FingeredCodes.{AreFingerable-accepted, minus_count-fingered, plus_count-fingered}
+use Rattle.kink_and_finger_laws.proofs.FingerDrops.{places-two}
+use Rattle.kink_and_finger_laws.proofs.FingerDropSums.{HasBigonAt-slots, bigon-signs, plus-kept_two}
+use Rattle.kink_and_finger_laws.proofs.KinkCircles.{kept_are}
+use Rattle.kink_and_finger_laws.proofs.KinkDropSums.{count-later, plus-kept}
 use Rattle.kh_types.specs.Bits.{one_if}
-use Rattle.kinks_and_fingers.proofs.KinkedCodes.{IsKinkable-accepted, minus_count-kinked, plus_count-kinked}
-use Rattle.slides.specs.Triangles.{dart_at_slot, step}
-use Rattle.slides.proofs.FoundTriangles.{IsTriangle-slot, has_heights-slot}
+use Rattle.kink_and_finger_laws.proofs.KinkedCodes.{IsKinkable-accepted, minus_count-kinked, plus_count-kinked}
+use Rattle.slide_laws.specs.Triangles.{dart_at_slot, step}
+use Rattle.slide_laws.proofs.FoundTriangles.{IsTriangle-slot, has_heights-slot}
 use Rattle.diagram_moves.specs.declared.change.Move.{Move}
 use Rattle.diagram_moves.specs.declared.change.Move.TheVariants.{KinkAdd, KinkDrop, FingerAdd, FingerDrop, Slide}
 use Rattle.diagram_moves.specs.declared.fault.MoveFault.{MoveFault}
@@ -46,7 +46,7 @@ use Rattle.diagram_moves.proofs.DropLemmas.{bigon-found, kink-found}
 use Rattle.diagram_moves.proofs.FaultLemmas.{both-none, none-within}
 use Rattle.diagram_moves.proofs.SlideLemmas.{IsPlaced-none}
 use Rattle.diagram_moves.proofs.SlidCodes.{IsKept-slid}
-use Rattle.kinks_and_fingers.proofs.Sound.{two_below}
+use Rattle.kink_and_finger_laws.proofs.Sound.{two_below}
 
 -- the positive crossings of what a move keeps are those among the crossings that stay
 plus-of_kept : (old new : Code) (kept : ℕ → ℕ) (k : ℕ) → IsKeptCode old new kept k

@@ -3,7 +3,7 @@ use Rattle.std.specs.Prelude.{◌≢◌, ◌≤◌, ℕ, ◌+◌, List, length}
 use Rattle.kh_types.specs.Code.{Code, IsArc}
 use Rattle.kh_types.specs.declared.limits.TheConstants.{CROSSINGS}
 use Rattle.kh_types.specs.Directions.{is_positive}
-use Rattle.kinks_and_fingers.specs.KinkAdds.{kinked_slots}
+use Rattle.kink_and_finger_laws.specs.KinkAdds.{kinked_slots}
 use Rattle.code_passes.specs.Parts.{slots_in}
 
 -- the crossing at a place, on the arcs after a kink

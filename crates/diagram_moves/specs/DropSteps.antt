@@ -5,7 +5,7 @@ use Rattle.kh_types.specs.Directions.{positive_at}
 use Rattle.kh_types.specs.Classes.{is_least}
 use Rattle.kh_types.specs.Code.{arc_in}
 use Rattle.kh_types.specs.Components.{passes_of}
-use Rattle.kinks_and_fingers.specs.Drops.{is_of_two, renamed_slots, stands_in}
+use Rattle.kink_and_finger_laws.specs.Drops.{is_of_two, renamed_slots, stands_in}
 use Rattle.code_passes.specs.Parts.{slots_in}
 
 -- the crossing at a place is neither of two

@@ -1,6 +1,6 @@
 -- What a move leaves, before its arcs are numbered anew.
 use Rattle.std.specs.Prelude.{◌≡◌, ℕ, IsTrue, length}
-use Rattle.kinks_and_fingers.specs.Planar.{IsPlanarBy}
+use Rattle.kink_and_finger_laws.specs.Planar.{IsPlanarBy}
 use Rattle.kh_types.specs.Acceptance.{accepted}
 use Rattle.code_passes.specs.Parts.{ArePaired, Parts}
 use Rattle.orient_arcs.specs.Alike.{HasNamesBelow}

@@ -7,7 +7,7 @@ use Rattle.kh_types.specs.Components.{component_count}
 use Rattle.kh_types.specs.Directions.{is_positive, positive_at}
 use Rattle.kh_types.specs.StateSum.{state_sum}
 use Rattle.code_passes.specs.Parts.{Parts}
-use Rattle.slides.specs.Slid.{slid}
+use Rattle.slide_laws.specs.Slid.{slid}
 
 -- a code whose crossings are those at some places of another, in that order, is accepted, with its components and loops together, their
 -- signs, and its state sum

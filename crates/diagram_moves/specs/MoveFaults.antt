@@ -1,12 +1,12 @@
--- What keeps a move from being made (this project's rules): ten faults, each by its own test.
+-- What keeps a move from being made: ten faults, each by its own test.
 use Rattle.std.specs.Prelude.{ℕ, ◌+◌, List, length, nat_eq, nat_lt, Bool, not, ◌||◌, if◌then◌else◌, Option, Some, None, is_none}
 use Rattle.std.specs.Option.{option_or}
 use Rattle.kh_types.specs.Code.{Code, arc_count, place_of, slots_of}
 use Rattle.kh_types.specs.Faces.{face_count, planar_face_count}
 use Rattle.kh_types.specs.declared.limits.TheConstants.{CROSSINGS}
-use Rattle.kinks_and_fingers.specs.Drops.{is_kink, is_bigon}
-use Rattle.kinks_and_fingers.specs.FingerAdd.{with_finger}
-use Rattle.slides.specs.Triangles.{has_triangle, slide_slot}
+use Rattle.kink_and_finger_laws.specs.Drops.{is_kink, is_bigon}
+use Rattle.kink_and_finger_laws.specs.FingerAdd.{with_finger}
+use Rattle.slide_laws.specs.Triangles.{has_triangle, slide_slot}
 use Rattle.diagram_moves.specs.declared.fault.MoveFault.{MoveFault}
 use Rattle.diagram_moves.specs.declared.fault.MoveFault.TheVariants.{NoArc, NoCrossing, CrossingLimit, OnLoop, SameArc, NoKink, NoBigon, NoTriangle, Heights, Genus}
 

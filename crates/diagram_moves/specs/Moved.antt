@@ -1,11 +1,11 @@
--- The Reidemeister moves of codes: the code that a move leaves, or the least numbered fault (this project's rules).
+-- The Reidemeister moves of codes: the code that a move leaves, or the least numbered fault.
 use Rattle.std.specs.Prelude.{◌≡◌, ◌≢◌, ℕ, Bool, true, false, not, Option, Some, None, Result, Ok, Err, unwrap_or}
 use Rattle.kh_types.specs.Code.{Code, place_of}
 use Rattle.kh_types.specs.Faces.{face_count, planar_face_count}
-use Rattle.kinks_and_fingers.specs.Drops.{without_kink, without_finger}
-use Rattle.kinks_and_fingers.specs.FingerAdd.{with_finger, AreOfTwoPieces}
-use Rattle.kinks_and_fingers.specs.KinkAdds.{with_kink}
-use Rattle.slides.specs.Triangles.{slide_slot}
+use Rattle.kink_and_finger_laws.specs.Drops.{without_kink, without_finger}
+use Rattle.kink_and_finger_laws.specs.FingerAdd.{with_finger, AreOfTwoPieces}
+use Rattle.kink_and_finger_laws.specs.KinkAdds.{with_kink}
+use Rattle.slide_laws.specs.Triangles.{slide_slot}
 use Rattle.orient_arcs.specs.Renumbered.{renumber}
 use Rattle.diagram_moves.specs.SlideSteps.{slid_parts_at}
 use Rattle.diagram_moves.specs.MoveFaults.{kink_add_fault, kink_drop_fault, finger_add_fault, finger_place_fault, finger_drop_fault, slide_fault}

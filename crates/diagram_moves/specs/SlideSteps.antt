@@ -3,9 +3,9 @@ use Rattle.std.specs.Prelude.{ℕ, ◌+◌, ◌*◌, ◌<◌, List, unwrap_or}
 use Rattle.kh_types.specs.Code.{Code, IsCrossing}
 use Rattle.kh_types.specs.Darts.{dart_count}
 use Rattle.code_passes.specs.Parts.{Parts}
-use Rattle.gluing.specs.Codes.{arc_of_dart}
-use Rattle.slides.specs.Slid.{source}
-use Rattle.slides.specs.Triangles.{dart_at_slot, slide_slot, step}
+use Rattle.gluing_laws.specs.Codes.{arc_of_dart}
+use Rattle.slide_laws.specs.Slid.{source}
+use Rattle.slide_laws.specs.Triangles.{dart_at_slot, slide_slot, step}
 use Rattle.diagram_moves.specs.Joinable.{AreReady}
 use Rattle.diagram_moves.specs.Kept.{slid_parts}
 

@@ -2,7 +2,7 @@
 
 ghost use Rattle.std.specs.Prelude.{◌≡◌, ◌<◌, length};
 ghost use Rattle.std.specs.List.{list_any, range_with_len};
-ghost use Rattle.kinks_and_fingers.specs.Drops.{after, is_bigon, is_bigon_at};
+ghost use Rattle.kink_and_finger_laws.specs.Drops.{after, is_bigon, is_bigon_at};
 
 use crate::pair::Pair;
 use kh_types::Diagram;

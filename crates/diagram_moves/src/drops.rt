@@ -5,7 +5,7 @@ ghost use Rattle.std.specs.List.{count_by};
 ghost use Rattle.kh_types.specs.Code.{arc_in, arcs, place_of};
 ghost use Rattle.kh_types.specs.Components.{passes_of};
 ghost use Rattle.kh_types.specs.declared.limits.TheConstants.{ARCS, CROSSINGS};
-ghost use Rattle.kinks_and_fingers.specs.Drops.{is_of_two, renamed_slots, stands_in, straight_names, straight_pairs, without_finger, without_kink};
+ghost use Rattle.kink_and_finger_laws.specs.Drops.{is_of_two, renamed_slots, stands_in, straight_names, straight_pairs, without_finger, without_kink};
 ghost use Rattle.code_passes.specs.Parts.{slots_in};
 ghost use Rattle.orient_arcs.specs.Renumbered.{renumber};
 ghost use Rattle.diagram_moves.specs.DropSteps.{is_ring_in, kept_to, passes_there, renamed_there, signs_to, stands_at, stays};

@@ -1,7 +1,6 @@
 //! What keeps a move from being made.
 
-/// The least numbered fault of a move; the faults stand in their order. Source: this project's
-/// rule.
+/// The least numbered fault of a move; the faults stand in their order.
 #[derive(Clone, Copy, Debug, PartialEq, Eq)]
 pub enum MoveFault {
     /// The first named arc that is no arc and no loop.

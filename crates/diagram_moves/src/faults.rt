@@ -3,7 +3,7 @@
 ghost use Rattle.std.specs.Prelude.{◌≡◌, ◌≤◌};
 ghost use Rattle.std.specs.Option.{option_or};
 ghost use Rattle.kh_types.specs.Code.{IsCrossing, slots_of};
-ghost use Rattle.kinks_and_fingers.specs.Drops.{is_kink};
+ghost use Rattle.kink_and_finger_laws.specs.Drops.{is_kink};
 ghost use Rattle.diagram_moves.specs.MoveFaults.{crossing_limit_fault, finger_drop_fault, finger_place_fault, kink_add_fault, kink_drop_fault, no_arc, no_bigon, no_crossing, no_heights, no_kink, no_triangle, on_loop, refused_where, same_arc, slide_fault, wrong_genus};
 
 use crate::bigons::is_bigon;

@@ -6,7 +6,7 @@ ghost use Rattle.kh_types.specs.Code.{IsArc, IsCrossing};
 ghost use Rattle.kh_types.specs.Darts.{IsDart};
 ghost use Rattle.kh_types.specs.Directions.{is_positive};
 ghost use Rattle.kh_types.specs.declared.limits.TheConstants.{CROSSINGS, ARCS};
-ghost use Rattle.kinks_and_fingers.specs.FingerAdd.{crossing_with, differ, first_crossing, head_number, moved_arc, moved_crossings, moved_slots, opened, second_crossing, with_finger};
+ghost use Rattle.kink_and_finger_laws.specs.FingerAdd.{crossing_with, differ, first_crossing, head_number, moved_arc, moved_crossings, moved_slots, opened, second_crossing, with_finger};
 ghost use Rattle.diagram_moves.specs.AddSteps.{AreTakenArcs};
 ghost use Rattle.diagram_moves.specs.MoveFaults.{finger_add_fault, wrong_genus};
 ghost use Rattle.diagram_moves.specs.Moved.{answered, is_left};

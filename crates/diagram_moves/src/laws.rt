@@ -8,10 +8,10 @@ ghost use Rattle.kh_types.specs.Directions.{is_positive};
 ghost use Rattle.kh_types.specs.StateSum.{state_sum};
 ghost use Rattle.kh_types.specs.declared.limits.TheConstants.{COMPONENTS};
 ghost use Rattle.code_passes.specs.Parts.{Parts, is_positive_at};
-ghost use Rattle.gluing.specs.Arcs.{arc_by_place};
+ghost use Rattle.gluing_laws.specs.Arcs.{arc_by_place};
 ghost use Rattle.orient_arcs.specs.Renumbered.{renumber};
-ghost use Rattle.kinks_and_fingers.specs.DropCircles.{parts_circle_count, parts_sum};
-ghost use Rattle.kinks_and_fingers.specs.DropComponents.{parts_component_count};
+ghost use Rattle.kink_and_finger_laws.specs.DropCircles.{parts_circle_count, parts_sum};
+ghost use Rattle.kink_and_finger_laws.specs.DropComponents.{parts_component_count};
 ghost use Rattle.diagram_moves.specs.Joinable.{IsJoinable};
 
 /// Crossings over any names, whose arcs have a head and a tail each and which are on the sphere,

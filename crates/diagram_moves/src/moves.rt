@@ -4,10 +4,10 @@ ghost use Rattle.std.specs.Prelude.{◌≡◌, ◌-◌, ◌+◌, ℕ, true, IfOk
 ghost use Rattle.kh_types.specs.Acceptance.{accepted};
 ghost use Rattle.kh_types.specs.Code.{Code};
 ghost use Rattle.kh_types.specs.Components.{component_count};
-ghost use Rattle.kinks_and_fingers.specs.Drops.{without_finger, without_kink};
-ghost use Rattle.kinks_and_fingers.specs.Dropping.{HasBigonAt, HasKinkAt};
-ghost use Rattle.kinks_and_fingers.specs.Pulls.{early, late};
-ghost use Rattle.slides.specs.Triangles.{IsTriangle, has_heights};
+ghost use Rattle.kink_and_finger_laws.specs.Drops.{without_finger, without_kink};
+ghost use Rattle.kink_and_finger_laws.specs.Dropping.{HasBigonAt, HasKinkAt};
+ghost use Rattle.kink_and_finger_laws.specs.Pulls.{early, late};
+ghost use Rattle.slide_laws.specs.Triangles.{IsTriangle, has_heights};
 ghost use Rattle.orient_arcs.specs.Renumbered.{renumber};
 ghost use Rattle.diagram_moves.specs.Kept.{IsKeptCode, slid_parts};
 ghost use Rattle.diagram_moves.specs.Moved.{moved};

@@ -4,9 +4,9 @@ ghost use Rattle.std.specs.Prelude.{◌≡◌, ◌↔◌, ℕ, Err, IsTrue, Ok, 
 ghost use Rattle.kh_types.specs.Acceptance.{accepted};
 ghost use Rattle.kh_types.specs.Code.{Code, IsCrossing, place_of};
 ghost use Rattle.code_passes.specs.Parts.{Parts};
-ghost use Rattle.kinks_and_fingers.specs.Dropping.{HasBigonAt};
-ghost use Rattle.kinks_and_fingers.specs.DropRule.{IsLeft};
-ghost use Rattle.kinks_and_fingers.specs.Drops.{is_of_two};
+ghost use Rattle.kink_and_finger_laws.specs.Dropping.{HasBigonAt};
+ghost use Rattle.kink_and_finger_laws.specs.DropRule.{IsLeft};
+ghost use Rattle.kink_and_finger_laws.specs.Drops.{is_of_two};
 ghost use Rattle.orient_arcs.specs.Renumbered.{renumber};
 ghost use Rattle.diagram_moves.specs.DropPasses.{AreNeighbours, HasKink, over_pass_of, under_pass_of};
 ghost use Rattle.diagram_moves.specs.Moved.{moved};

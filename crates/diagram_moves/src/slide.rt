@@ -5,13 +5,13 @@ ghost use Rattle.std.specs.List.{range_with_len};
 ghost use Rattle.kh_types.specs.Directions.{positive_at};
 ghost use Rattle.kh_types.specs.Code.{IsCrossing};
 ghost use Rattle.kh_types.specs.Darts.{dart_count};
-ghost use Rattle.slides.specs.Slid.{corner, on, slid, slid_crossing, source, steps_from};
+ghost use Rattle.slide_laws.specs.Slid.{corner, on, slid, slid_crossing, source, steps_from};
 ghost use Rattle.diagram_moves.specs.Joinable.{AreReady};
 ghost use Rattle.diagram_moves.specs.Kept.{slid_parts};
 ghost use Rattle.diagram_moves.specs.MoveFaults.{slide_fault};
 ghost use Rattle.diagram_moves.specs.Moved.{answered, slid_at, slid_from};
 ghost use Rattle.diagram_moves.specs.SlideSteps.{AreDarts, IsSlidable, slid_arc, slid_parts_at};
-ghost use Rattle.gluing.specs.Codes.{arc_of_dart};
+ghost use Rattle.gluing_laws.specs.Codes.{arc_of_dart};
 
 use crate::accepted::renumbered;
 use crate::fault::MoveFault;

@@ -3,7 +3,7 @@
 ghost use Rattle.std.specs.Prelude.{◌≡◌, ◌+◌, ◌%◌, ◌<◌, ℕ, All, Bool, IsTrue, Ok, Some, length};
 ghost use Rattle.kh_types.specs.Acceptance.{accepted};
 ghost use Rattle.kh_types.specs.Code.{Code, IsCrossing};
-ghost use Rattle.slides.specs.Triangles.{IsTriangleAt, slide_slot};
+ghost use Rattle.slide_laws.specs.Triangles.{IsTriangleAt, slide_slot};
 ghost use Rattle.diagram_moves.specs.Moved.{moved, slid_from};
 ghost use Rattle.diagram_moves.specs.declared.change.Move.TheVariants.{FingerAdd, FingerDrop, KinkAdd, KinkDrop, Slide};
 ghost use Rattle.diagram_moves.specs.declared.change.Side.{Side};

@@ -3,7 +3,7 @@
 ghost use Rattle.std.specs.Prelude.{◌≡◌, ◌<◌, ◌&&◌, ◌||◌, IfSome, nat_eq, not, unwrap_or};
 ghost use Rattle.kh_types.specs.Code.{IsCrossing};
 ghost use Rattle.kh_types.specs.Darts.{dart_count};
-ghost use Rattle.slides.specs.Triangles.{dart_at_slot, has_heights, has_triangle, is_at_crossing, is_slidable_at, is_triangle, slide_slot, step};
+ghost use Rattle.slide_laws.specs.Triangles.{dart_at_slot, has_heights, has_triangle, is_at_crossing, is_slidable_at, is_triangle, slide_slot, step};
 
 use kh_types::{Diagram, turned};
 

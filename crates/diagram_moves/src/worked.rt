@@ -3,9 +3,9 @@
 ghost use Rattle.std.specs.Prelude.{◌≡◌, ◌∷◌, [], true, Ok, Err};
 ghost use Rattle.kh_types.specs.Acceptance.{accepted};
 ghost use Rattle.kh_types.specs.WorkedCodes.{curl, over_circle, slots_with, trefoil, two_curls, without_loops};
-ghost use Rattle.kinks_and_fingers.specs.DropComponents.{parts_component_count};
-ghost use Rattle.kinks_and_fingers.specs.Drops.{without_finger, without_kink};
-ghost use Rattle.kinks_and_fingers.specs.WorkedDrops.{curl_fingered, curl_kinked};
+ghost use Rattle.kink_and_finger_laws.specs.DropComponents.{parts_component_count};
+ghost use Rattle.kink_and_finger_laws.specs.Drops.{without_finger, without_kink};
+ghost use Rattle.kink_and_finger_laws.specs.WorkedDrops.{curl_fingered, curl_kinked};
 ghost use Rattle.orient_arcs.specs.Renumbered.{renumber};
 ghost use Rattle.diagram_moves.specs.Kept.{slid_parts};
 ghost use Rattle.diagram_moves.specs.Moved.{moved};

@@ -15,9 +15,9 @@ use Rattle.std.proofs.lemmas.List.Sums.{sum_by-cons, sum_by-append}
 use Rattle.kh_types.specs.Bits.{bit}
 use Rattle.kh_types.proofs.ListSums.{sum_by-map, sum_by-alike, sum_by-zeros}
 use Rattle.kh_types.proofs.Lists.{AllByRecursion-append}
-use Rattle.dotted_surfaces.proofs.Projected.{nat_eq-iff}
-use Rattle.dotted_surfaces.proofs.TwoSides.{AllByRecursion-map}
-use Rattle.dotted_surfaces.proofs.Components.{AllByRecursion-weaker}
+use Rattle.surface_laws.proofs.Projected.{nat_eq-iff}
+use Rattle.surface_laws.proofs.TwoSides.{AllByRecursion-map}
+use Rattle.surface_laws.proofs.Components.{AllByRecursion-weaker}
 use Rattle.dotted_maps.specs.Choices.{choices, fewer}
 
 -- how many of the discs of a component are not dotted

@@ -13,11 +13,11 @@ use Rattle.std.proofs.lemmas.List.Sorted.{sum_by-IsPermutation}
 use Rattle.kh_types.specs.Bits.{bit}
 use Rattle.kh_types.specs.Classes.{classes_of, is_least}
 use Rattle.kh_types.proofs.ListSums.{sum_by-map, sum_by-filter}
-use Rattle.dotted_surfaces.specs.Surfaces.{Surface, is_component, faces_on, lowers_on, marks_on, weight, factor, product_below}
-use Rattle.dotted_surfaces.proofs.Components.{list_any-contained, list_any-some, AllByRecursion-at, AllByRecursion-weaker}
-use Rattle.dotted_surfaces.proofs.Products.{product_below-ones, product_below-alike, product_below-without, without}
-use Rattle.dotted_surfaces.specs.Points.{Points, ArePlaced, AreAmong, IsOpenPairing, ends_of, inner, discs}
-use Rattle.dotted_surfaces.specs.Sheets.{marked, marked_else, sheet}
+use Rattle.surface_laws.specs.Surfaces.{Surface, is_component, faces_on, lowers_on, marks_on, weight, factor, product_below}
+use Rattle.surface_laws.proofs.Components.{list_any-contained, list_any-some, AllByRecursion-at, AllByRecursion-weaker}
+use Rattle.surface_laws.proofs.Products.{product_below-ones, product_below-alike, product_below-without, without}
+use Rattle.surface_laws.specs.Points.{Points, ArePlaced, AreAmong, IsOpenPairing, ends_of, inner, discs}
+use Rattle.surface_laws.specs.Sheets.{marked, marked_else, sheet}
 use Rattle.dotted_maps.specs.Composition.{composed, composed_faces}
 use Rattle.dotted_maps.specs.Parts.{components, component_in, how_many, dotted_on, undotted_on, genus_in, part_coefficient, product_over, part_at}
 use Rattle.dotted_maps.proofs.LeastPoints.{AreJoins, AreAmong-append, class-named, least-contained, AllByRecursion-filter}

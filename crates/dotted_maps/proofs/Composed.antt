@@ -14,17 +14,17 @@ use Rattle.kh_types.specs.Products.{sum_below}
 use Rattle.kh_types.proofs.ClassLemmas.{classes-together}
 use Rattle.kh_types.proofs.Lists.{AllByRecursion-append, AllByRecursion-first, AllByRecursion-second}
 use Rattle.kh_types.proofs.Sums.{sum_below-equal}
-use Rattle.dotted_surfaces.specs.Surfaces.{Surface, component_of, IsPlaced, IsClosed, value}
-use Rattle.dotted_surfaces.specs.Cuts.{with_faces, first_caps, second_caps, sum_of_products}
-use Rattle.dotted_surfaces.specs.Overlays.{overlaid, at_places}
-use Rattle.dotted_surfaces.specs.Projections.{LeadsBack, Projects}
-use Rattle.dotted_surfaces.proofs.Components.{AllByRecursion-at, AllByRecursion-weaker}
-use Rattle.dotted_surfaces.proofs.OneCut.{place_of_face}
-use Rattle.dotted_surfaces.proofs.Overlaid.{AreLaid, IsPlaced-overlaid, sum-laid}
-use Rattle.dotted_surfaces.proofs.Renamed.{KeepsComponents-led, value-reordered}
-use Rattle.dotted_surfaces.proofs.Projected.{Corresponds-projected, value-moved}
-use Rattle.dotted_surfaces.specs.Points.{Points, ArePlaced, AreAmong, inner, discs, circles}
-use Rattle.dotted_surfaces.specs.Sheets.{marked, marked_else, sheet}
+use Rattle.surface_laws.specs.Surfaces.{Surface, component_of, IsPlaced, IsClosed, value}
+use Rattle.surface_laws.specs.Cuts.{with_faces, first_caps, second_caps, sum_of_products}
+use Rattle.surface_laws.specs.Overlays.{overlaid, at_places}
+use Rattle.surface_laws.specs.Projections.{LeadsBack, Projects}
+use Rattle.surface_laws.proofs.Components.{AllByRecursion-at, AllByRecursion-weaker}
+use Rattle.surface_laws.proofs.OneCut.{place_of_face}
+use Rattle.surface_laws.proofs.Overlaid.{AreLaid, IsPlaced-overlaid, sum-laid}
+use Rattle.surface_laws.proofs.Renamed.{KeepsComponents-led, value-reordered}
+use Rattle.surface_laws.proofs.Projected.{Corresponds-projected, value-moved}
+use Rattle.surface_laws.specs.Points.{Points, ArePlaced, AreAmong, inner, discs, circles}
+use Rattle.surface_laws.specs.Sheets.{marked, marked_else, sheet}
 use Rattle.dotted_maps.specs.Terms.{term_faces, entry, AreGlued}
 use Rattle.dotted_maps.specs.Composition.{composed, composed_faces}
 use Rattle.dotted_maps.proofs.LeastPoints.{AreJoins, AreAmong-append, all-themselves, least_points-turned}

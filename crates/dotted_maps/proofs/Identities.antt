@@ -20,13 +20,13 @@ use Rattle.kh_types.proofs.ClassLemmas.{classes-together}
 use Rattle.kh_types.proofs.JoinedClasses.{classes_of-same}
 use Rattle.kh_types.proofs.ListSums.{sum_by-map, sum_by-zeros}
 use Rattle.kh_types.proofs.Lists.{AllByRecursion-append, AllByRecursion-first, AllByRecursion-second}
-use Rattle.dotted_surfaces.specs.Surfaces.{Surface, component_of, is_component, faces_on, marks_on, lowers_on, IsClosed, HasGenus, factor, weight, product_below}
-use Rattle.dotted_surfaces.proofs.Components.{AllByRecursion-at, AllByRecursion-weaker, list_any-some}
-use Rattle.dotted_surfaces.proofs.Factors.{factor-at, factor-none}
-use Rattle.dotted_surfaces.proofs.Products.{without, product_below-ones, product_below-without}
-use Rattle.dotted_surfaces.proofs.OneCut.{is_component-of}
-use Rattle.dotted_surfaces.specs.Points.{Points, ArePlaced, IsOpenPairing, discs, circles}
-use Rattle.dotted_surfaces.specs.Sheets.{marked, marked_else, sheet}
+use Rattle.surface_laws.specs.Surfaces.{Surface, component_of, is_component, faces_on, marks_on, lowers_on, IsClosed, HasGenus, factor, weight, product_below}
+use Rattle.surface_laws.proofs.Components.{AllByRecursion-at, AllByRecursion-weaker, list_any-some}
+use Rattle.surface_laws.proofs.Factors.{factor-at, factor-none}
+use Rattle.surface_laws.proofs.Products.{without, product_below-ones, product_below-without}
+use Rattle.surface_laws.proofs.OneCut.{is_component-of}
+use Rattle.surface_laws.specs.Points.{Points, ArePlaced, IsOpenPairing, discs, circles}
+use Rattle.surface_laws.specs.Sheets.{marked, marked_else, sheet}
 use Rattle.dotted_maps.specs.Terms.{term_faces, entry, AreGlued}
 use Rattle.dotted_maps.specs.Maps.{matrix_of, identity}
 use Rattle.dotted_maps.proofs.LeastPoints.{AreJoins, AreAmong-append, joins-below, class-below, class-named, class-own, least-contained}

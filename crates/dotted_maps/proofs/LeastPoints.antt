@@ -7,8 +7,8 @@ use Rattle.kh_types.specs.Classes.{classes_of, is_least, Respects, AreBelow}
 use Rattle.kh_types.proofs.JoinedClasses.{IsNamed-classes_of, classes_of-same}
 use Rattle.kh_types.proofs.ClassLemmas.{classes-finest}
 use Rattle.kh_types.proofs.Lists.{AllByRecursion-append, AllByRecursion-first, AllByRecursion-second, Contains-filter}
-use Rattle.dotted_surfaces.proofs.Components.{AllByRecursion-at, AllByRecursion-weaker, list_any-contained, list_any-some}
-use Rattle.dotted_surfaces.specs.Points.{AreAmong, least_points}
+use Rattle.surface_laws.proofs.Components.{AllByRecursion-at, AllByRecursion-weaker, list_any-contained, list_any-some}
+use Rattle.surface_laws.specs.Points.{AreAmong, least_points}
 
 pub AreBelow-among : (size : ℕ) (points : List ℕ) (joins : List (ℕ × ℕ)) → AllByRecursion (λ x. x < size) points
     → AreAmong points joins → AreBelow size joins

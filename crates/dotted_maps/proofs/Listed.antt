@@ -11,9 +11,9 @@ use Rattle.std.proofs.lemmas.Bool.Decides.{nat_tests}
 use Rattle.std.proofs.lemmas.List.{length-map}
 use Rattle.kh_types.proofs.ListSums.{sum_by-map, sum_by-alike, sum_by-times, sum_by-flat_map}
 use Rattle.kh_types.proofs.Lists.{AllByRecursion-append}
-use Rattle.dotted_surfaces.proofs.TwoSides.{AllByRecursion-map}
-use Rattle.dotted_surfaces.proofs.Components.{AllByRecursion-weaker, AllByRecursion-at}
-use Rattle.dotted_surfaces.specs.Points.{Points, ArePlaced, AreAmong, IsOpenPairing, discs}
+use Rattle.surface_laws.proofs.TwoSides.{AllByRecursion-map}
+use Rattle.surface_laws.proofs.Components.{AllByRecursion-weaker, AllByRecursion-at}
+use Rattle.surface_laws.specs.Points.{Points, ArePlaced, AreAmong, IsOpenPairing, discs}
 use Rattle.dotted_maps.specs.Composition.{composed}
 use Rattle.dotted_maps.specs.Parts.{components, component_in, dotted_on, undotted_on, genus_in, part_coefficient, product_over, part_at}
 use Rattle.dotted_maps.specs.Maps.{coefficient_in, composed_in, IsComposition}

@@ -10,7 +10,7 @@ use Rattle.kh_types.specs.Products.{sum_below, product_at}
 use Rattle.kh_types.proofs.Residues.{same-add, same-mul}
 use Rattle.kh_types.proofs.Sums.{sum_below-same}
 use Rattle.kh_types.proofs.ListSums.{sum_by-map, sum_by-single, sum_by-alike, sum_by-times}
-use Rattle.dotted_surfaces.specs.Points.{Points, discs, circles}
+use Rattle.surface_laws.specs.Points.{Points, discs, circles}
 use Rattle.dotted_maps.specs.Terms.{entry}
 use Rattle.dotted_maps.specs.Composition.{composed}
 use Rattle.dotted_maps.specs.Maps.{coefficient_in, matrix_of, composed_in, IsComposition, composition, scaled, AreOneMap}

@@ -3,10 +3,10 @@ use Rattle.std.proofs.Common.{◌≡◌, ℕ, List}
 use Rattle.std.specs.Prelude.{slice_index}
 use Rattle.std.specs.List.{Contains}
 use Rattle.kh_types.specs.Classes.{classes_of, Respects}
-use Rattle.dotted_surfaces.specs.Surfaces.{Surface, component_of, IsPlaced}
-use Rattle.dotted_surfaces.proofs.Overlaid.{AreLaid}
-use Rattle.dotted_surfaces.proofs.Components.{AllByRecursion-weaker}
-use Rattle.dotted_surfaces.specs.Points.{AreAmong, least_points}
+use Rattle.surface_laws.specs.Surfaces.{Surface, component_of, IsPlaced}
+use Rattle.surface_laws.proofs.Overlaid.{AreLaid}
+use Rattle.surface_laws.proofs.Components.{AllByRecursion-weaker}
+use Rattle.surface_laws.specs.Points.{AreAmong, least_points}
 use Rattle.dotted_maps.proofs.LeastPoints.{AreJoins, class-named, class-respected, least-contained}
 
 pub record Share (first second : Surface) (points : List ℕ) (common : List (ℕ × ℕ)) : Type 0 where

@@ -13,8 +13,8 @@ use Rattle.kh_types.specs.Classes.{classes_of, is_least, Respects}
 use Rattle.kh_types.proofs.ClassLemmas.{classes-together}
 use Rattle.kh_types.proofs.ListSums.{sum_by-filter}
 use Rattle.kh_types.proofs.Lists.{AllByRecursion-append, AllByRecursion-first}
-use Rattle.dotted_surfaces.proofs.Components.{AllByRecursion-weaker}
-use Rattle.dotted_surfaces.specs.Points.{Points, AreAmong, IsOpenPairing, ends_of, discs}
+use Rattle.surface_laws.proofs.Components.{AllByRecursion-weaker}
+use Rattle.surface_laws.specs.Points.{Points, AreAmong, IsOpenPairing, ends_of, discs}
 use Rattle.dotted_maps.proofs.LeastPoints.{AreJoins, joins-below, class-respected, AreAmong-append}
 
 pub all-both : {X : Type 0} (P Q R : X → Type 0) (xs : List X) → ((x : X) → P x → Q x → R x) → AllByRecursion P xs

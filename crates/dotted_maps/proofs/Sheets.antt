@@ -10,16 +10,16 @@ use Rattle.std.proofs.lemmas.List.{map-append}
 use Rattle.std.proofs.lemmas.List.Sorted.{sum_by-IsPermutation}
 use Rattle.kh_types.specs.Bits.{bit}
 use Rattle.kh_types.proofs.ListSums.{sum_by-map}
-use Rattle.dotted_surfaces.specs.Surfaces.{component_of, faces_on, lowers_on, IsClosed, IsPlaced}
-use Rattle.dotted_surfaces.specs.Cuts.{first_caps, second_caps}
-use Rattle.dotted_surfaces.specs.Overlays.{at_places}
-use Rattle.dotted_surfaces.proofs.JoinedCounts.{amount_at}
-use Rattle.dotted_surfaces.proofs.OneCut.{place_of_face, itself, one_place}
-use Rattle.dotted_surfaces.specs.Points.{Points, ArePlaced, AreAmong, least_points, discs, circles}
-use Rattle.dotted_surfaces.specs.Sheets.{marked, marked_else, sheet}
+use Rattle.surface_laws.specs.Surfaces.{component_of, faces_on, lowers_on, IsClosed, IsPlaced}
+use Rattle.surface_laws.specs.Cuts.{first_caps, second_caps}
+use Rattle.surface_laws.specs.Overlays.{at_places}
+use Rattle.surface_laws.proofs.JoinedCounts.{amount_at}
+use Rattle.surface_laws.proofs.OneCut.{place_of_face, itself, one_place}
+use Rattle.surface_laws.specs.Points.{Points, ArePlaced, AreAmong, least_points, discs, circles}
+use Rattle.surface_laws.specs.Sheets.{marked, marked_else, sheet}
 use Rattle.dotted_maps.specs.Terms.{term_faces}
 use Rattle.dotted_maps.proofs.LeastPoints.{AreBelow-among, AreAmong-append, AreAmong-wider, least-contained}
-use Rattle.dotted_surfaces.proofs.Components.{AllByRecursion-weaker, AllByRecursion-at}
+use Rattle.surface_laws.proofs.Components.{AllByRecursion-weaker, AllByRecursion-at}
 
 -- a face at a place, and a disc on either side of a circle
 

@@ -1,7 +1,7 @@
 -- The composition of two terms as a list: which dot sets count.
 use Rattle.std.specs.Prelude.{ℕ, ◌+◌, ◌-◌, ◌*◌, List, [], ◌∷◌, ◌++◌, map, nat_eq, if◌then◌else◌}
 use Rattle.std.specs.List.{flat_map, list_all}
-use Rattle.dotted_surfaces.specs.Points.{Points, discs}
+use Rattle.surface_laws.specs.Points.{Points, discs}
 use Rattle.dotted_maps.specs.Parts.{components, component_in, dotted_on, genus_in, product_over}
 use Rattle.dotted_maps.specs.declared.term.Term.{Term}
 

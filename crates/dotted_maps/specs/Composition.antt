@@ -1,8 +1,8 @@
 -- The composition of two terms is a sum of terms: the coefficient of each dot set.
 use Rattle.std.specs.Prelude.{ℕ, List, ◌++◌}
-use Rattle.dotted_surfaces.specs.Surfaces.{value}
-use Rattle.dotted_surfaces.specs.Points.{Points, inner, discs}
-use Rattle.dotted_surfaces.specs.Sheets.{marked, marked_else, sheet}
+use Rattle.surface_laws.specs.Surfaces.{value}
+use Rattle.surface_laws.specs.Points.{Points, inner, discs}
+use Rattle.surface_laws.specs.Sheets.{marked, marked_else, sheet}
 
 -- the faces of a term from m to n, of one from n to o, and those from m to o, where no dot of a third one stands
 abbrev pub composed_faces : Points → List (ℕ × ℕ) → List (ℕ × ℕ) → List (ℕ × ℕ) → ℕ → ℕ → ℕ → List (ℕ × ℕ)

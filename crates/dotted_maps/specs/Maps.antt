@@ -2,7 +2,7 @@
 use Rattle.std.specs.Prelude.{ℕ, ◌*◌, ◌%◌, ◌^◌, ◌<◌, List, [], ◌∷◌, length, map, nat_eq, if◌then◌else◌}
 use Rattle.std.specs.List.{sum_by, range_with_len, AllByRecursion}
 use Rattle.kh_types.specs.Residues.{Same}
-use Rattle.dotted_surfaces.specs.Points.{Points, discs}
+use Rattle.surface_laws.specs.Points.{Points, discs}
 use Rattle.dotted_maps.specs.Terms.{entry}
 use Rattle.dotted_maps.specs.Composition.{composed}
 use Rattle.dotted_maps.specs.declared.term.Term.{Term}

@@ -3,7 +3,7 @@ use Rattle.std.specs.Prelude.{ℕ, ◌+◌, ◌-◌, ◌*◌, ◌/◌, List, [],
 use Rattle.std.specs.List.{enumerate_from, count_by, sum_by}
 use Rattle.kh_types.specs.Bits.{bit}
 use Rattle.kh_types.specs.Classes.{classes_of}
-use Rattle.dotted_surfaces.specs.Points.{Points, least_points, discs}
+use Rattle.surface_laws.specs.Points.{Points, least_points, discs}
 
 -- the components of the opened arcs under three pairings, by their least arcs
 abbrev pub components : Points → List (ℕ × ℕ) → List (ℕ × ℕ) → List (ℕ × ℕ) → List ℕ

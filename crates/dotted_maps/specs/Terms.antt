@@ -1,8 +1,8 @@
 -- A term between two pairings is a set of dotted discs. The number of it, as an entry between labels of the circles.
 use Rattle.std.specs.Prelude.{ℕ, List, ◌++◌}
-use Rattle.dotted_surfaces.specs.Surfaces.{IsClosed, value}
-use Rattle.dotted_surfaces.specs.Points.{Points, AreAmong, discs, circles}
-use Rattle.dotted_surfaces.specs.Sheets.{marked, marked_else, sheet}
+use Rattle.surface_laws.specs.Surfaces.{IsClosed, value}
+use Rattle.surface_laws.specs.Points.{Points, AreAmong, discs, circles}
+use Rattle.surface_laws.specs.Sheets.{marked, marked_else, sheet}
 
 -- dots and labels are numbers, whose bits stand at the places of discs and circles in their lists: 1 for a dot, 0 for v+, 1 for v-
 

@@ -1,6 +1,6 @@
 -- Small pairings.
 use Rattle.std.specs.Prelude.{ℕ, List, [], ◌∷◌}
-use Rattle.dotted_surfaces.specs.Points.{Points}
+use Rattle.surface_laws.specs.Points.{Points}
 use Rattle.dotted_maps.specs.declared.term.Term.{Term}
 
 -- four opened arcs, and both ways to pair them without crossings

@@ -4,7 +4,7 @@ ghost use Rattle.std.specs.Prelude.{◌≡◌, ℕ, ◌+◌, ◌*◌, ◌%◌, �
 ghost use Rattle.kh_types.specs.Circles.{smoothings_of, circle_names};
 ghost use Rattle.kh_types.specs.Code.{Code};
 ghost use Rattle.kh_types.specs.Products.{sum_below, product_at};
-ghost use Rattle.dotted_surfaces.specs.Points.{Points, ArePlaced, AreAmong, IsOpenPairing, inner, discs, circles, whole};
+ghost use Rattle.surface_laws.specs.Points.{Points, ArePlaced, AreAmong, IsOpenPairing, inner, discs, circles, whole};
 ghost use Rattle.dotted_maps.specs.Terms.{AreGlued, entry};
 ghost use Rattle.dotted_maps.specs.Composition.{composed};
 ghost use Rattle.dotted_maps.specs.Parts.{components, part_at, product_over};

@@ -1,7 +1,7 @@
 //! Compositions of small pairings, computed from the definitions.
 
 ghost use Rattle.std.specs.Prelude.{◌≡◌, List, [], ◌∷◌, map};
-ghost use Rattle.dotted_surfaces.specs.Points.{discs};
+ghost use Rattle.surface_laws.specs.Points.{discs};
 ghost use Rattle.dotted_maps.specs.Composition.{composed};
 ghost use Rattle.dotted_maps.specs.Maps.{identity};
 ghost use Rattle.dotted_maps.specs.Choices.{listed};

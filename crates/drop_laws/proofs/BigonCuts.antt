@@ -1,21 +1,23 @@
 -- A bigon brought to the front: the views before and after it is dropped.
 use Rattle.std.proofs.lemmas.Bool.Decides.{nat_tests}
-use Rattle.std.proofs.Common.{◌≡◌, ◌≢◌, ℕ, zero, suc, ◌⊎◌, inl, inr, ◌+◌, ◌-◌, ◌*◌, ◌/◌, ◌%◌, ◌^◌, ◌<◌, ◌≤◌, ◌∙◌, length, refl, sym, ap, subst, arith, cond, IsTrue}
+use Rattle.std.proofs.Common.{◌≡◌, ◌≢◌, ℕ, zero, suc, ◌⊎◌, inl, inr, ◌+◌, ◌-◌, ◌*◌, ◌/◌, ◌%◌, ◌^◌, ◌<◌, ◌≤◌, ◌∙◌, [], length, refl, sym, ap, subst, arith, cond, IsTrue}
 use Rattle.std.specs.Prelude.{nat_eq}
+use Rattle.std.proofs.lemmas.Nat.Bits.{bit_at_lowest}
 use Rattle.kh_types.specs.Acceptance.{accepted}
 use Rattle.kh_types.specs.Bits.{bit}
 use Rattle.kh_types.specs.Circles.{circles_of}
 use Rattle.kh_types.specs.Code.{Code}
 use Rattle.kh_types.specs.Darts.{HasArcsTwice}
 use Rattle.kh_types.proofs.AcceptedLemmas.{HasArcsTwice-accepted}
-use Rattle.cell_complexes.specs.Cubes.{listed_by}
-use Rattle.cell_complexes.proofs.AnyOrder.{accepted-reordered}
-use Rattle.gluing.specs.Arcs.{arc_by_place}
+use Rattle.order_laws.specs.Orders.{listed_by}
+use Rattle.order_laws.proofs.AnyOrder.{accepted-reordered}
+use Rattle.order_laws.proofs.Reordered.{first-reordered}
+use Rattle.gluing_laws.specs.Arcs.{arc_by_place}
 use Rattle.orient_arcs.specs.Renumbered.{renumber}
-use Rattle.kinks_and_fingers.specs.DropCircles.{closing_at, through_at}
-use Rattle.kinks_and_fingers.specs.Dropping.{HasBigonAt}
-use Rattle.kinks_and_fingers.specs.Drops.{is_of_two, without_finger}
-use Rattle.kinks_and_fingers.specs.Pulls.{early, late}
+use Rattle.kink_and_finger_laws.specs.DropCircles.{closing_at, through_at}
+use Rattle.kink_and_finger_laws.specs.Dropping.{HasBigonAt}
+use Rattle.kink_and_finger_laws.specs.Drops.{is_of_two, without_finger}
+use Rattle.kink_and_finger_laws.specs.Pulls.{early, late}
 use Rattle.drop_laws.specs.DropViews.{AllShow, AreAlikeBut, DifferAt, IsBigonView, IsCircleOf, IsOfTwo, early_two}
 use Rattle.drop_laws.specs.DroppedCubes.{IsBigonCut, bigon_closing, bigon_first, bigon_through}
 use Rattle.drop_laws.specs.DroppedFirst.{two_first}
@@ -23,8 +25,8 @@ use Rattle.view_laws.specs.Fronts.{first_to, place_behind}
 use Rattle.drop_laws.specs.NamesLeft.{number_left}
 use Rattle.drop_laws.proofs.Bigons.{IsBigonView-dropped}
 use Rattle.drop_laws.proofs.ButSides.{IsView-front, IsView-left, SeeAlike-front, SeeAlike-left}
-use Rattle.drop_laws.proofs.FrontCircles.{bit-home, bit-suc, bit-zero, circles-first, past-early, state_home, state_home-below}
-use Rattle.view_laws.proofs.Fronts.{behind-below, first-reordered, home, home-behind, home-below, home-suc, home-zero, length-first, past, past-first, past-is, past-suc}
+use Rattle.drop_laws.proofs.FrontCircles.{bit-home, bit-suc, circles-first, past-early, state_home, state_home-below}
+use Rattle.view_laws.proofs.Fronts.{behind-below, home, home-behind, home-below, home-suc, home-zero, length-first, past, past-first, past-is, past-suc}
 use Rattle.drop_laws.proofs.KinkCuts.{closing_or_through}
 use Rattle.drop_laws.proofs.Signs.{AreBigonSigns-dropped}
 
@@ -123,7 +125,7 @@ module _ (code : Code) (c d p q : ℕ) (is : IsTrue (accepted code)) (bigon : Ha
   once_twice : HasArcsTwice (first_to c code.crossings)
   once_twice =
       HasArcsTwice-accepted (listed_by code (first_to c code.crossings))
-      (accepted-reordered code.loops code.crossings (first_to c code.crossings) (first-reordered c code.crossings bigon.first_below) is)
+      (accepted-reordered code.loops code.crossings (first_to c code.crossings) (first-reordered c code.crossings [] bigon.first_below) is)
 
   front_size : length (two_first c d code.crossings) ≡ length code.crossings
   front_size = length-first (place_behind c d) (first_to c code.crossings) second_below ∙ once_size
@@ -163,13 +165,13 @@ module _ (code : Code) (c d p q : ℕ) (is : IsTrue (accepted code)) (bigon : Ha
 
   bit-d : (state : ℕ) → state < 2 ^ length code.crossings → bit (back state) d ≡ state % 2
   bit-d state below =
-      ap (bit (back state)) (sym (home-first c d)) ∙ bit-back state 0 below (omega (arith, size)) ∙ bit-zero state
+      ap (bit (back state)) (sym (home-first c d)) ∙ bit-back state 0 below (omega (arith, size)) ∙ bit_at_lowest state
 
   bit-c : (state : ℕ) → state < 2 ^ length code.crossings → bit (back state) c ≡ state / 2 % 2
   bit-c state below =
       let e : 1 ≡ suc 0 = omega arith in
       ap (bit (back state)) (sym (home-second c d d_c)) ∙ bit-back state 1 below (omega (arith, size))
-      ∙ ap (bit state) e ∙ bit-suc state 0 ∙ bit-zero (state / 2)
+      ∙ ap (bit state) e ∙ bit-suc state 0 ∙ bit_at_lowest (state / 2)
 
   bit-others : (state i : ℕ) → state < 2 ^ length code.crossings → i < length code.crossings - 2
       → bit (back state) (early_two c d (length code.crossings - 2) i) ≡ bit (state / 2 / 2) i
@@ -275,12 +277,12 @@ module _ (code : Code) (c d p q : ℕ) (is : IsTrue (accepted code)) (bigon : Ha
       (omega (arith, both, inside_below)) in
       record {
         order = (
-          first-reordered c code.crossings bigon.first_below,
-          first-reordered (place_behind c d) (first_to c code.crossings) second_below,
+          first-reordered c code.crossings [] bigon.first_below,
+          first-reordered (place_behind c d) (first_to c code.crossings) [] second_below,
         );
         first_accepted = accepted-reordered code.loops (first_to c code.crossings) (two_first c d code.crossings)
-            (first-reordered (place_behind c d) (first_to c code.crossings) second_below)
-            (accepted-reordered code.loops code.crossings (first_to c code.crossings) (first-reordered c code.crossings bigon.first_below)
+            (first-reordered (place_behind c d) (first_to c code.crossings) [] second_below)
+            (accepted-reordered code.loops code.crossings (first_to c code.crossings) (first-reordered c code.crossings [] bigon.first_below)
             is);
         view = IsView-front code (bigon_first code c d) side other_side front_size refl back circles 2 (bigon_closing p q)
             (omega (arith, size))

@@ -17,19 +17,19 @@ use Rattle.kh_types.specs.Components.{passes_of}
 use Rattle.kh_types.specs.Darts.{HasArcsTwice}
 use Rattle.kh_types.proofs.AcceptedLemmas.{HasArcsTwice-accepted}
 use Rattle.code_passes.specs.Parts.{ArePaired, slots_in}
-use Rattle.gluing.specs.Arcs.{arc_by_place}
+use Rattle.gluing_laws.specs.Arcs.{arc_by_place}
 use Rattle.orient_arcs.specs.Renumbered.{number_in, renumber}
-use Rattle.kinks_and_fingers.specs.DropCircles.{closing_at, joined_at, through_at}
-use Rattle.kinks_and_fingers.specs.Dropping.{HasBigonAt}
-use Rattle.kinks_and_fingers.specs.Drops.{dropped, is_of_two, kept_places, straight_names, without_finger}
-use Rattle.kinks_and_fingers.specs.Pulls.{early, late}
-use Rattle.kinks_and_fingers.proofs.BigonJoins.{closing-joined, joined-closing, joined-through, marked, or-false, pass-straight, straight-pass, through-joined}
-use Rattle.kinks_and_fingers.proofs.FingerCircles.{AreBigonNames, AreBigonNames-bigon}
-use Rattle.kinks_and_fingers.proofs.FingerDrops.{late-below, places-two}
-use Rattle.kinks_and_fingers.proofs.KeptCodes.{arc_by_place-below, straight-joined}
-use Rattle.kinks_and_fingers.proofs.Smoothed.{IsPermutation-late}
-use Rattle.kinks_and_fingers.proofs.Sound.{IsSound-finger, two_below}
-use Rattle.kinks_and_fingers.proofs.StandingNames.{arc_by_place-positive}
+use Rattle.kink_and_finger_laws.specs.DropCircles.{closing_at, joined_at, through_at}
+use Rattle.kink_and_finger_laws.specs.Dropping.{HasBigonAt}
+use Rattle.kink_and_finger_laws.specs.Drops.{dropped, is_of_two, kept_places, straight_names, without_finger}
+use Rattle.kink_and_finger_laws.specs.Pulls.{early, late}
+use Rattle.kink_and_finger_laws.proofs.BigonJoins.{closing-joined, joined-closing, joined-through, marked, or-false, pass-straight, straight-pass, through-joined}
+use Rattle.kink_and_finger_laws.proofs.FingerCircles.{AreBigonNames, AreBigonNames-bigon}
+use Rattle.kink_and_finger_laws.proofs.FingerDrops.{late-below, places-two}
+use Rattle.kink_and_finger_laws.proofs.KeptCodes.{arc_by_place-below, straight-joined}
+use Rattle.kink_and_finger_laws.proofs.Smoothed.{IsPermutation-late}
+use Rattle.kink_and_finger_laws.proofs.Sound.{IsSound-finger, two_below}
+use Rattle.kink_and_finger_laws.proofs.StandingNames.{arc_by_place-positive}
 use Rattle.drop_laws.specs.DropViews.{AllShow, AreAlikeBut, DifferAt, IsBigonView, IsCircleOf, IsOfTwo, early_two}
 use Rattle.drop_laws.specs.NamesLeft.{names_left, number_left, straight_name}
 use Rattle.drop_laws.proofs.CircleMaps.{carried, joined-there}

@@ -7,15 +7,16 @@ use Rattle.std.proofs.lemmas.Bool.{cases_eq}
 use Rattle.kh_types.specs.Circles.{circle_of, circles_of}
 use Rattle.kh_types.specs.Code.{Code, arcs_and_loops, arc_count}
 use Rattle.kh_types.specs.CircleNumbers.{IsName}
-use Rattle.kh_types.proofs.Lists.{Contains-filter}
-use Rattle.cell_complexes.proofs.Members.{Contains-kept}
-use Rattle.cell_complexes.proofs.NoDoubles.{once-range, once-filter}
+use Rattle.kh_types.proofs.Lists.{Contains-filter, range-within, within-range}
+use Rattle.kh_types.proofs.Tests.{nat_eq-iff}
+use Rattle.cell_laws.proofs.Members.{Contains-kept}
+use Rattle.cell_laws.proofs.NoDoubles.{once-range, once-filter}
 use Rattle.view_laws.specs.Views.{IsView, SeeAlike, circle_at, AreTogether}
 use Rattle.drop_laws.specs.DropViews.{AllShow, AreAlikeBut, AreNumbered, AreSeenAlike, IsCircleOf, IsOfTwo}
 use Rattle.drop_laws.specs.DroppedFirst.{names_but, view_but, view_left}
 use Rattle.drop_laws.proofs.OffSides.{of_two}
 use Rattle.view_laws.proofs.ClosedOne.{closed-is, closed-there, closed-few}
-use Rattle.view_laws.proofs.Tests.{none-in, same-tests, range-within, within-range}
+use Rattle.view_laws.proofs.Tests.{none-in}
 
 -- names
 
@@ -131,7 +132,7 @@ module _ (code front : Code) (a b : ℕ) (size : length front.crossings ≡ leng
       let x_in = name-in front a b x has_x in
       let y_in = name-in front a b y has_y in
       let both = alike x y (from-front x x_in.0) (from-front y y_in.0) x_in.1 y_in.1 in
-      same-tests (circle_at front state x) (circle_at front state y) (circle_at new new_state (number x))
+      nat_eq-iff (circle_at front state x) (circle_at front state y) (circle_at new new_state (number x))
       (circle_at new new_state (number y))
       (λ same. both.0 (front-together state x y below same)) (λ same. together-front state x y below (both.1 same))
 
@@ -142,6 +143,6 @@ module _ (code front : Code) (a b : ℕ) (size : length front.crossings ≡ leng
       let x_in = name-in front a b x has_x in
       let y_in = name-in front a b y has_y in
       let both = alike x y (from-front x x_in.0) (from-front y y_in.0) x_in.1 y_in.1 in
-      same-tests (circle_at front state x) (circle_at front state y) (circle_at front other x) (circle_at front other y)
+      nat_eq-iff (circle_at front state x) (circle_at front state y) (circle_at front other x) (circle_at front other y)
       (λ same. together-front other x y other_below (both.0 (front-together state x y below same)))
       (λ same. together-front state x y below (both.1 (front-together other x y other_below same)))

@@ -6,8 +6,8 @@ use Rattle.kh_types.specs.Classes.{Respects, AreBelow}
 use Rattle.kh_types.specs.Code.{Code, arc_in, arc_count}
 use Rattle.kh_types.specs.Darts.{HasArcsTwice}
 use Rattle.kh_types.proofs.ClassLemmas.{classes-finest, classes-together}
-use Rattle.kinks_and_fingers.specs.DropCircles.{joined_at}
-use Rattle.kinks_and_fingers.proofs.SmoothingPairs.{smoothings-all, smoothings-each, joined-below}
+use Rattle.kink_and_finger_laws.specs.DropCircles.{joined_at}
+use Rattle.kink_and_finger_laws.proofs.SmoothingPairs.{smoothings-all, smoothings-each, joined-below}
 use Rattle.view_laws.specs.Views.{AreTogether}
 
 -- a smoothing of other slots with the same values

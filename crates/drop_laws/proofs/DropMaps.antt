@@ -14,13 +14,13 @@ use Rattle.kh_types.specs.Code.{Code, arc_count}
 use Rattle.kh_types.specs.Darts.{HasArcsTwice}
 use Rattle.kh_types.proofs.AcceptedLemmas.{HasArcsTwice-directed}
 use Rattle.code_passes.specs.Parts.{ArePaired, slots_in}
-use Rattle.gluing.specs.Arcs.{arc_by_place}
+use Rattle.gluing_laws.specs.Arcs.{arc_by_place}
 use Rattle.orient_arcs.specs.Renumbered.{number_in, renumber}
 use Rattle.orient_arcs.proofs.Bridge.{IsDirected-renumbered}
-use Rattle.kinks_and_fingers.specs.DropCircles.{joined_at}
-use Rattle.kinks_and_fingers.specs.Drops.{dropped, kept_places, straight_names}
-use Rattle.kinks_and_fingers.proofs.KeptCodes.{arc_by_place-below, straight-finest}
-use Rattle.kinks_and_fingers.proofs.StandingNames.{arc_by_place-positive}
+use Rattle.kink_and_finger_laws.specs.DropCircles.{joined_at}
+use Rattle.kink_and_finger_laws.specs.Drops.{dropped, kept_places, straight_names}
+use Rattle.kink_and_finger_laws.proofs.KeptCodes.{arc_by_place-below, straight-finest}
+use Rattle.kink_and_finger_laws.proofs.StandingNames.{arc_by_place-positive}
 use Rattle.drop_laws.specs.DropViews.{AreNumbered, AreOneOutside, AreSeenAlike}
 use Rattle.view_laws.specs.Views.{AreTogether}
 use Rattle.drop_laws.specs.NamesLeft.{names_left, number_left, straight_name}

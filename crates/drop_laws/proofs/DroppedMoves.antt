@@ -5,17 +5,18 @@ use Rattle.std.specs.Prelude.{Ok, None, Option}
 use Rattle.kh_types.specs.Acceptance.{accepted}
 use Rattle.kh_types.specs.Code.{Code, place_of}
 use Rattle.kh_types.specs.Residues.{HasInverses}
-use Rattle.cell_complexes.specs.Cells.{dimension_at}
-use Rattle.cell_complexes.specs.Cubes.{cube_of}
-use Rattle.cell_complexes.proofs.Orders.{dimension-reordered}
+use Rattle.cell_laws.specs.Cells.{dimension_at}
+use Rattle.cell_laws.specs.Cubes.{cube_of}
+use Rattle.order_laws.proofs.Orders.{dimension-reordered}
 use Rattle.orient_arcs.specs.Renumbered.{renumber}
-use Rattle.kinks_and_fingers.specs.Drops.{without_finger, without_kink}
-use Rattle.kinks_and_fingers.proofs.FingerDropSums.{HasBigonAt-slots}
+use Rattle.kink_and_finger_laws.specs.Drops.{without_finger, without_kink}
+use Rattle.kink_and_finger_laws.proofs.FingerDropSums.{HasBigonAt-slots}
 use Rattle.diagram_moves.specs.Moved.{answered, moved}
 use Rattle.diagram_moves.specs.MoveFaults.{finger_drop_fault, kink_drop_fault}
 use Rattle.diagram_moves.specs.declared.change.Move.TheVariants.{FingerDrop, KinkDrop}
 use Rattle.diagram_moves.specs.declared.fault.MoveFault.{MoveFault}
 use Rattle.diagram_moves.proofs.DropLemmas.{bigon-found, kink-found}
+use Rattle.diagram_moves.proofs.BackAgain.{answered-ok}
 use Rattle.drop_laws.specs.DroppedCubes.{IsBigonCut, IsFingerDrop, IsKinkCut, IsKinkDrop, bigon_first, kink_first}
 use Rattle.drop_laws.specs.DroppedFirst.{two_first}
 use Rattle.view_laws.specs.Fronts.{first_to}
@@ -23,14 +24,11 @@ use Rattle.drop_laws.proofs.BigonCuts.{IsBigonCut-dropped}
 use Rattle.drop_laws.proofs.KinkCuts.{IsKinkCut-dropped}
 use Rattle.drop_laws.proofs.Signs.{AreBigonSigns-dropped, AreKinkSigns-dropped}
 
-none-found : (fault : Option MoveFault) (code new : Code) → answered fault code ≡ Ok new → (fault ≡ None) × (code ≡ new)
-none-found fault code new is = grind (arith, nat_tests)
-
 pub IsKinkDrop-moved : (code new : Code) (crossing : ℕ) → IsTrue (accepted code) → moved code (KinkDrop crossing) ≡ Ok new
     → IsKinkDrop code new (place_of crossing)
 unfolding moved
 IsKinkDrop-moved code new crossing holds is =
-    let found = none-found (kink_drop_fault code crossing) (renumber (without_kink code (place_of crossing))) new is in
+    let found = answered-ok (kink_drop_fault code crossing) (renumber (without_kink code (place_of crossing))) new is in
     let kink = kink-found code crossing found.0 in
     subst (λ (left : Code). IsKinkDrop code left (place_of crossing)) found.1
     (record {
@@ -46,7 +44,7 @@ unfolding moved
 IsFingerDrop-moved code new first second holds is =
     let c = place_of first in
     let d = place_of second in
-    let found = none-found (finger_drop_fault code first second) (renumber (without_finger code (place_of first) (place_of second))) new
+    let found = answered-ok (finger_drop_fault code first second) (renumber (without_finger code (place_of first) (place_of second))) new
     is in
     let bigon = bigon-found code first second found.0 in
     let p = bigon.0 in

@@ -9,13 +9,13 @@ use Rattle.kh_types.specs.Classes.{AreBelow, Respects, classes_of}
 use Rattle.kh_types.specs.Code.{Code, arc_count}
 use Rattle.kh_types.specs.Darts.{HasArcsTwice}
 use Rattle.kh_types.proofs.JoinedClasses.{classes_of-same}
-use Rattle.cell_complexes.specs.Cubes.{listed_by}
+use Rattle.order_laws.specs.Orders.{listed_by}
 use Rattle.code_passes.specs.Parts.{slots_in}
-use Rattle.kinks_and_fingers.specs.DropCircles.{joined_at}
-use Rattle.kinks_and_fingers.specs.Pulls.{early}
-use Rattle.kinks_and_fingers.proofs.InsertedBits.{with_bit}
-use Rattle.kinks_and_fingers.proofs.Insertions.{HasBit-with_bit}
-use Rattle.kinks_and_fingers.proofs.SmoothingPairs.{joined-below, smoothings-all, smoothings-each}
+use Rattle.kink_and_finger_laws.specs.DropCircles.{joined_at}
+use Rattle.kink_and_finger_laws.specs.Pulls.{early}
+use Rattle.kink_and_finger_laws.proofs.InsertedBits.{with_bit}
+use Rattle.kink_and_finger_laws.proofs.Insertions.{HasBit-with_bit}
+use Rattle.kink_and_finger_laws.proofs.SmoothingPairs.{joined-below, smoothings-all, smoothings-each}
 use Rattle.view_laws.specs.Fronts.{first_to, place_behind}
 use Rattle.drop_laws.proofs.CircleMaps.{circles-below}
 use Rattle.view_laws.proofs.Fronts.{past, past-is, home, first-at, length-first, home-zero, home-suc, home-behind, home-below, behind-below}
@@ -57,10 +57,6 @@ circles-listed code other to back state other_state twice size loops onward home
     subst (λ (pairs : List (ℕ × ℕ)). Respects f pairs) (sym (same m small))
     (smoothings-each (λ pair. f pair.0 ≡ f pair.1) code.crossings state (to m) respects (onward m small).0)))
 
--- bits
-pub bit-zero : (s : ℕ) → bit s 0 ≡ s % 2
-bit-zero s = bit_at_lowest s
-
 pub bit-suc : (s i : ℕ) → bit s (suc i) ≡ bit (s / 2) i
 bit-suc s i = bit_at-suc s i
 
@@ -86,7 +82,7 @@ state_home k c state = with_bit k c (state % 2) (state / 2)
 pub bit-home : (k c state m : ℕ) → c ≤ k → state < 2 ^ suc k → m < suc k → bit (state_home k c state) (home c m) ≡ bit state m
 bit-home k c state zero within below m_below =
     let has = HasBit-with_bit k c (state % 2) (state / 2) within (omega arith) (half-below k state below) in
-    ap (bit (state_home k c state)) (home-zero c) ∙ has.there ∙ sym (bit-zero state)
+    ap (bit (state_home k c state)) (home-zero c) ∙ has.there ∙ sym (bit_at_lowest state)
 bit-home k c state (suc i) within below m_below =
     let has = HasBit-with_bit k c (state % 2) (state / 2) within (omega arith) (half-below k state below) in
     let small : i < k = omega (arith, m_below) in

@@ -1,26 +1,28 @@
 -- A kink brought to the front: the views before and after it is dropped.
-use Rattle.std.proofs.Common.{◌≡◌, ◌≢◌, ℕ, suc, ◌⊎◌, inl, inr, ◌+◌, ◌-◌, ◌*◌, ◌/◌, ◌%◌, ◌^◌, ◌<◌, ◌≤◌, ◌∙◌, length, refl, sym, ap, subst, arith, Bool, true, false, cond, IsTrue}
+use Rattle.std.proofs.Common.{◌≡◌, ◌≢◌, ℕ, suc, ◌⊎◌, inl, inr, ◌+◌, ◌-◌, ◌*◌, ◌/◌, ◌%◌, ◌^◌, ◌<◌, ◌≤◌, ◌∙◌, [], length, refl, sym, ap, subst, arith, Bool, true, false, cond, IsTrue}
 use Rattle.std.specs.Prelude.{nat_eq}
+use Rattle.std.proofs.lemmas.Nat.Bits.{bit_at_lowest}
 use Rattle.kh_types.specs.Acceptance.{accepted}
 use Rattle.kh_types.specs.Bits.{bit}
 use Rattle.kh_types.specs.Circles.{circles_of}
 use Rattle.kh_types.specs.Code.{Code}
 use Rattle.kh_types.specs.Darts.{HasArcsTwice}
 use Rattle.kh_types.proofs.AcceptedLemmas.{HasArcsTwice-accepted}
-use Rattle.cell_complexes.proofs.AnyOrder.{accepted-reordered}
-use Rattle.gluing.specs.Arcs.{arc_by_place}
+use Rattle.order_laws.proofs.AnyOrder.{accepted-reordered}
+use Rattle.order_laws.proofs.Reordered.{first-reordered}
+use Rattle.gluing_laws.specs.Arcs.{arc_by_place}
 use Rattle.orient_arcs.specs.Renumbered.{renumber}
-use Rattle.kinks_and_fingers.specs.DropCircles.{closing_at, through_at}
-use Rattle.kinks_and_fingers.specs.Dropping.{HasKinkAt}
-use Rattle.kinks_and_fingers.specs.Drops.{without_kink}
-use Rattle.kinks_and_fingers.specs.Pulls.{early}
+use Rattle.kink_and_finger_laws.specs.DropCircles.{closing_at, through_at}
+use Rattle.kink_and_finger_laws.specs.Dropping.{HasKinkAt}
+use Rattle.kink_and_finger_laws.specs.Drops.{without_kink}
+use Rattle.kink_and_finger_laws.specs.Pulls.{early}
 use Rattle.drop_laws.specs.DropViews.{AllShow, AreNumbered, AreSeenAlike, IsCircleOf, IsKinkView, IsOfTwo}
 use Rattle.drop_laws.specs.DroppedCubes.{IsKinkCut, kink_first}
 use Rattle.view_laws.specs.Fronts.{first_to}
 use Rattle.drop_laws.specs.NamesLeft.{number_left}
 use Rattle.drop_laws.proofs.ButSides.{IsView-front, IsView-left, SeeAlike-left}
-use Rattle.drop_laws.proofs.FrontCircles.{bit-home, bit-suc, bit-zero, circles-first, past-early, state_home}
-use Rattle.view_laws.proofs.Fronts.{first-reordered, home-suc, home-zero, length-first}
+use Rattle.drop_laws.proofs.FrontCircles.{bit-home, bit-suc, circles-first, past-early, state_home}
+use Rattle.view_laws.proofs.Fronts.{home-suc, home-zero, length-first}
 use Rattle.drop_laws.proofs.Kinks.{IsKinkView-dropped}
 use Rattle.drop_laws.proofs.Signs.{AreKinkSigns-dropped}
 
@@ -87,7 +89,7 @@ module _ (code : Code) (c p : ℕ) (is : IsTrue (accepted code)) (kink : HasKink
   unfolding back
   bit-kink state below =
       ap (bit (state_home (length code.crossings - 1) c state)) (sym (home-zero c))
-      ∙ bit-home (length code.crossings - 1) c state 0 within (omega (arith, below, powers)) (omega arith) ∙ bit-zero state
+      ∙ bit-home (length code.crossings - 1) c state 0 within (omega (arith, below, powers)) (omega arith) ∙ bit_at_lowest state
 
   bit-other : (state i : ℕ) → state < 2 ^ length code.crossings → i < length code.crossings - 1
       → bit (back state) (early c (length code.crossings - 1) i) ≡ bit (state / 2) i
@@ -125,9 +127,9 @@ module _ (code : Code) (c p : ℕ) (is : IsTrue (accepted code)) (kink : HasKink
       let side = arc_by_place code.crossings c p in
       let signs = AreKinkSigns-dropped code c p is kink in
       record {
-        order = first-reordered c code.crossings kink.below;
+        order = first-reordered c code.crossings [] kink.below;
         first_accepted = accepted-reordered code.loops code.crossings (first_to c code.crossings)
-            (first-reordered c code.crossings kink.below) is;
+            (first-reordered c code.crossings [] kink.below) is;
         view = IsView-front code (kink_first code c) side side front_size refl back circles 1 (closing_at p) (omega (arith, kink.below))
             view.side_is closes-at shows;
         left = IsView-left code (kink_first code c) side side front_size refl back circles (renumber (without_kink code c))

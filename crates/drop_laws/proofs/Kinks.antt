@@ -14,20 +14,20 @@ use Rattle.kh_types.specs.Components.{passes_of}
 use Rattle.kh_types.specs.Darts.{HasArcsTwice}
 use Rattle.kh_types.proofs.AcceptedLemmas.{HasArcsTwice-accepted}
 use Rattle.code_passes.specs.Parts.{ArePaired, slots_in}
-use Rattle.gluing.specs.Arcs.{arc_by_place}
+use Rattle.gluing_laws.specs.Arcs.{arc_by_place}
 use Rattle.orient_arcs.specs.Renumbered.{number_in, renumber}
-use Rattle.kinks_and_fingers.specs.DropCircles.{closing_at, joined_at, through_at}
-use Rattle.kinks_and_fingers.specs.Dropping.{HasKinkAt}
-use Rattle.kinks_and_fingers.specs.Drops.{dropped, kept_places, straight_names, without_kink}
-use Rattle.kinks_and_fingers.specs.Pulls.{dart_in, early}
-use Rattle.kinks_and_fingers.proofs.BigonJoins.{closing-joined, joined-closing, joined-through, mark, mark-off, marked, named-own, pass-straight, straight-pass, through-joined}
-use Rattle.kinks_and_fingers.proofs.KeptCodes.{arc_by_place-below, straight-joined}
-use Rattle.kinks_and_fingers.proofs.KinkCircles.{early-low, kept_are}
-use Rattle.kinks_and_fingers.proofs.KinkDrops.{kink-partner}
-use Rattle.kinks_and_fingers.proofs.OldDarts.{arc_of_dart-in}
-use Rattle.kinks_and_fingers.proofs.Smoothed.{dart_in-below}
-use Rattle.kinks_and_fingers.proofs.Sound.{IsSound-kink}
-use Rattle.kinks_and_fingers.proofs.StandingNames.{arc_by_place-positive}
+use Rattle.kink_and_finger_laws.specs.DropCircles.{closing_at, joined_at, through_at}
+use Rattle.kink_and_finger_laws.specs.Dropping.{HasKinkAt}
+use Rattle.kink_and_finger_laws.specs.Drops.{dropped, kept_places, straight_names, without_kink}
+use Rattle.kink_and_finger_laws.specs.Pulls.{dart_in, early}
+use Rattle.kink_and_finger_laws.proofs.BigonJoins.{closing-joined, joined-closing, joined-through, mark, mark-off, marked, named-own, pass-straight, straight-pass, through-joined}
+use Rattle.kink_and_finger_laws.proofs.KeptCodes.{arc_by_place-below, straight-joined}
+use Rattle.kink_and_finger_laws.proofs.KinkCircles.{early-low, kept_are}
+use Rattle.kink_and_finger_laws.proofs.KinkDrops.{kink-partner}
+use Rattle.kink_and_finger_laws.proofs.OldDarts.{arc_of_dart-in}
+use Rattle.kink_and_finger_laws.proofs.Smoothed.{dart_in-below}
+use Rattle.kink_and_finger_laws.proofs.Sound.{IsSound-kink}
+use Rattle.kink_and_finger_laws.proofs.StandingNames.{arc_by_place-positive}
 use Rattle.drop_laws.specs.DropViews.{AllShow, IsCircleOf, IsKinkView}
 use Rattle.view_laws.specs.Views.{AreTogether}
 use Rattle.drop_laws.specs.NamesLeft.{names_left, number_left, straight_name}

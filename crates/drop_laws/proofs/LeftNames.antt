@@ -14,24 +14,18 @@ use Rattle.kh_types.specs.Darts.{HasArcsTwice}
 use Rattle.kh_types.proofs.JoinedClasses.{IsNamed-classes_of}
 use Rattle.code_passes.specs.Parts.{Parts, ArePaired, passes_at, passes_through, slots_in}
 use Rattle.code_passes.specs.Passes.{Pass}
-use Rattle.gluing.specs.Arcs.{arc_by_place}
+use Rattle.gluing_laws.specs.Arcs.{arc_by_place}
 use Rattle.orient_arcs.specs.Renumbered.{number_in, order_of, renamed_crossing, renumber}
 use Rattle.orient_arcs.proofs.Bridge.{distinct-order, heads-order, length-order, order-heads, renamed-slot, slot-head}
 use Rattle.orient_arcs.proofs.Members.{IsIn, AreDistinct, AreDistinct-append, IsIn-get, IsIn-left, IsIn-right, IsIn-parts}
 use Rattle.orient_arcs.proofs.PairedPasses.{All-flat_map_range, entering-enters, entering-holds, heads_of}
-use Rattle.kinks_and_fingers.specs.Drops.{dropped, is_ring, kept_crossings, kept_places, stands_in, straight_names, straight_pairs}
-use Rattle.kinks_and_fingers.proofs.KeptCodes.{arc_by_place-below, kept-slots, length-kept, renamed_slots-at, straight-below, straight-finest}
-use Rattle.kinks_and_fingers.proofs.StandingNames.{arc_by_place-positive, stands-none, stands-some}
+use Rattle.orient_arcs.proofs.OwnNumbers.{in-range, range-in}
+use Rattle.kink_and_finger_laws.specs.Drops.{dropped, is_ring, kept_crossings, kept_places, stands_in, straight_names, straight_pairs}
+use Rattle.kink_and_finger_laws.proofs.KeptCodes.{arc_by_place-below, kept-slots, length-kept, renamed_slots-at, straight-below, straight-finest}
+use Rattle.kink_and_finger_laws.proofs.StandingNames.{arc_by_place-positive, stands-none, stands-some}
 use Rattle.drop_laws.specs.NamesLeft.{loops_left, names_left, number_left, straight_name}
-use Rattle.drop_laws.proofs.NameLists.{distinct-filter, distinct-range, filter-in, in-filter, in-range, in-map_range, map_range-in, number-front, number-get, number-in, range-in}
-
--- what stands at a slot stands
-pub stands-slot : (crossings : List (List ℕ)) (place slot : ℕ) → place < length crossings → slot < 4
-    → stands_in crossings (arc_by_place crossings place slot) ≡ true
-stands-slot crossings place slot below slot_below = elim (cases_Bool (stands_in crossings (arc_by_place crossings place slot))) [
-  | inl holds ↦ holds
-  | inr fails ↦ absurd (stands-none crossings (arc_by_place crossings place slot) place slot fails below slot_below refl)
-]
+use Rattle.drop_laws.proofs.NameLists.{distinct-filter, distinct-range, filter-in, in-filter, in-map_range, map_range-in, number-front, number-get, number-in}
+use Rattle.diagram_moves.proofs.Standing.{stands-at}
 
 -- the slot at which a pass enters
 over_slot : Bool → ℕ
@@ -50,8 +44,8 @@ heads-stand parts paired x is =
     (entering-holds parts paired (λ (pass : Pass). stands_in parts.crossings pass.enters ≡ true) x
     (All-flat_map_range (λ (pass : Pass). stands_in parts.crossings pass.enters ≡ true) (passes_at parts) 0 (length parts.crossings)
     (λ place from below. (
-      stands-slot parts.crossings place 0 (omega (arith, below)) (omega arith),
-      (stands-slot parts.crossings place _ (omega (arith, below)) (over_slot-below _), tt),
+      stands-at parts.crossings place 0 (omega (arith, below)) (omega arith),
+      (stands-at parts.crossings place _ (omega (arith, below)) (over_slot-below _), tt),
     ))) is)
 
 -- a number is that of an arc and names its class
@@ -325,7 +319,7 @@ module _ (code : Code) (gone : ℕ → Bool) (kept : ℕ → ℕ) (k : ℕ) (twi
       let name = name-at i slot below slot_below in
       let i_below : i < length (kept_crossings code.crossings gone) = omega (arith, below, size-left) in
       let ordered = standing-ordered (arc_by_place (kept_crossings code.crossings gone) i slot)
-      (stands-slot (kept_crossings code.crossings gone) i slot i_below slot_below) in
+      (stands-at (kept_crossings code.crossings gone) i slot i_below slot_below) in
       ap (λ slots. arc_in slots slot) (get_or-map (renamed_crossing (number_in (order_of (passes_through (dropped code gone)))))
       (kept_crossings code.crossings gone) i [] [] i_below)
       ∙ renamed-slot (number_in (order_of (passes_through (dropped code gone)))) (slots_in (kept_crossings code.crossings gone) i) slot

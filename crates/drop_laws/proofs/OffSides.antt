@@ -10,8 +10,8 @@ use Rattle.kh_types.specs.CircleNumbers.{IsName}
 use Rattle.kh_types.specs.Code.{Code}
 use Rattle.kh_types.specs.Darts.{HasArcsTwice}
 use Rattle.code_passes.specs.Parts.{slots_in}
-use Rattle.gluing.specs.Arcs.{arc_by_place}
-use Rattle.kinks_and_fingers.specs.DropCircles.{joined_at}
+use Rattle.gluing_laws.specs.Arcs.{arc_by_place}
+use Rattle.kink_and_finger_laws.specs.DropCircles.{joined_at}
 use Rattle.drop_laws.specs.DropViews.{AllShow, DifferAt, IsOfTwo}
 use Rattle.view_laws.specs.Views.{AreTogether}
 use Rattle.drop_laws.specs.NamesLeft.{straight_name}

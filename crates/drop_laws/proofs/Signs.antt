@@ -1,4 +1,4 @@
--- How many crossings of each sign are left.
+-- Where a kink or a bigon is dropped: how many crossings of each sign are left (DropSigns).
 use Rattle.std.proofs.lemmas.Bool.Decides.{nat_tests}
 use Rattle.std.proofs.Common.{◌≡◌, ℕ, ◌+◌, ◌-◌, ◌%◌, ◌≤◌, ◌∙◌, length, map, sym, ap, arith, Bool, cond, not, ◌||◌, count_by, IsTrue}
 use Rattle.std.specs.Prelude.{nat_eq}
@@ -13,15 +13,15 @@ use Rattle.kh_types.proofs.Heads.{HasNoSingleArcs-accepted}
 use Rattle.kh_types.proofs.Lists.{count_by-map}
 use Rattle.kh_types.proofs.RangeCounts.{count_by-alike}
 use Rattle.orient_arcs.specs.Renumbered.{renumber}
-use Rattle.kinks_and_fingers.specs.DropCircles.{parts_plus, through_at}
-use Rattle.kinks_and_fingers.specs.Dropping.{HasBigonAt, HasKinkAt}
-use Rattle.kinks_and_fingers.specs.Drops.{dropped, is_of_two, kept_places, without_finger, without_kink}
-use Rattle.kinks_and_fingers.specs.Pulls.{early, late}
-use Rattle.kinks_and_fingers.proofs.FingerDrops.{places-two}
-use Rattle.kinks_and_fingers.proofs.FingerDropSums.{HasBigonAt-slots, bigon-signs, plus-kept_two}
-use Rattle.kinks_and_fingers.proofs.KinkCircles.{kept_are}
-use Rattle.kinks_and_fingers.proofs.KinkDropSums.{count-later, kink-sign, plus-kept}
-use Rattle.kinks_and_fingers.proofs.Sound.{two_below}
+use Rattle.kink_and_finger_laws.specs.DropCircles.{parts_plus, through_at}
+use Rattle.kink_and_finger_laws.specs.Dropping.{HasBigonAt, HasKinkAt}
+use Rattle.kink_and_finger_laws.specs.Drops.{dropped, is_of_two, kept_places, without_finger, without_kink}
+use Rattle.kink_and_finger_laws.specs.Pulls.{early, late}
+use Rattle.kink_and_finger_laws.proofs.FingerDrops.{places-two}
+use Rattle.kink_and_finger_laws.proofs.FingerDropSums.{HasBigonAt-slots, bigon-signs, plus-kept_two}
+use Rattle.kink_and_finger_laws.proofs.KinkCircles.{kept_are}
+use Rattle.kink_and_finger_laws.proofs.KinkDropSums.{count-later, kink-sign, plus-kept}
+use Rattle.kink_and_finger_laws.proofs.Sound.{two_below}
 use Rattle.diagram_moves.specs.Kept.{IsKeptCode}
 use Rattle.diagram_moves.proofs.DroppedCodes.{IsKept-finger, IsKept-kink}
 use Rattle.drop_laws.specs.DropSigns.{AreBigonSigns, AreKinkSigns}

@@ -2,10 +2,10 @@
 use Rattle.std.specs.Prelude.{◌≡◌, ◌⊎◌, ℕ, ◌+◌, ◌-◌, ◌*◌, ◌^◌, ◌<◌, IsTrue, length, nat_eq}
 use Rattle.kh_types.specs.Acceptance.{accepted}
 use Rattle.kh_types.specs.Code.{Code}
-use Rattle.cell_complexes.specs.Cubes.{IsReordered, listed_by}
-use Rattle.gluing.specs.Arcs.{arc_by_place}
-use Rattle.kinks_and_fingers.specs.DropCircles.{closing_at, through_at}
-use Rattle.kinks_and_fingers.specs.Drops.{is_of_two}
+use Rattle.order_laws.specs.Orders.{IsReordered, listed_by}
+use Rattle.gluing_laws.specs.Arcs.{arc_by_place}
+use Rattle.kink_and_finger_laws.specs.DropCircles.{closing_at, through_at}
+use Rattle.kink_and_finger_laws.specs.Drops.{is_of_two}
 use Rattle.view_laws.specs.Views.{IsView, SeeAlike, View, joint_state}
 use Rattle.drop_laws.specs.DropSigns.{AreBigonSigns, AreKinkSigns}
 use Rattle.drop_laws.specs.DroppedFirst.{two_first, view_but, view_left}

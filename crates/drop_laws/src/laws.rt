@@ -2,17 +2,17 @@
 
 ghost use Rattle.std.specs.Prelude.{◌≡◌, ◌<◌, ℕ, ℤ, [], ◌∷◌, List, map, Ok, IsTrue};
 ghost use Rattle.kh_types.specs.Acceptance.{accepted};
-ghost use Rattle.cell_complexes.specs.Cells.{dimension_at};
-ghost use Rattle.cell_complexes.specs.Cubes.{cube_of};
+ghost use Rattle.cell_laws.specs.Cells.{dimension_at};
+ghost use Rattle.cell_laws.specs.Cubes.{cube_of};
 ghost use Rattle.diagram_moves.specs.Moved.{moved};
 ghost use Rattle.diagram_moves.specs.declared.change.Move.TheVariants.{FingerDrop, KinkDrop};
 ghost use Rattle.kh_types.specs.Code.{Code, place_of};
 ghost use Rattle.kh_types.specs.Residues.{HasInverses};
 ghost use Rattle.kh_types.specs.WorkedCodes.{curl, over_circle, two_curls};
-ghost use Rattle.kinks_and_fingers.specs.WorkedDrops.{curl_fingered, curl_kinked};
-ghost use Rattle.gluing.specs.Arcs.{arc_by_place};
-ghost use Rattle.kinks_and_fingers.specs.Dropping.{HasBigonAt, HasKinkAt};
-ghost use Rattle.kinks_and_fingers.specs.Drops.{is_of_two, without_finger, without_kink};
+ghost use Rattle.kink_and_finger_laws.specs.WorkedDrops.{curl_fingered, curl_kinked};
+ghost use Rattle.gluing_laws.specs.Arcs.{arc_by_place};
+ghost use Rattle.kink_and_finger_laws.specs.Dropping.{HasBigonAt, HasKinkAt};
+ghost use Rattle.kink_and_finger_laws.specs.Drops.{is_of_two, without_finger, without_kink};
 ghost use Rattle.orient_arcs.specs.Renumbered.{renumber};
 ghost use Rattle.std.specs.Prelude.{nat_eq};
 ghost use Rattle.drop_laws.specs.DropSigns.{AreBigonSigns, AreKinkSigns};

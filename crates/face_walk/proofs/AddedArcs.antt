@@ -22,14 +22,14 @@ use Rattle.face_walk.proofs.OpenFaces.{face_back, crossing-below, IsPermutation-
 
 -- an arc can be added between two open darts
 
-at_first : (partner : ℕ → ℕ) (dart other : ℕ) → with_arc partner dart other dart ≡ other
-at_first partner dart other = grind (arith, nat_tests)
+pub arc-first : (partner : ℕ → ℕ) (dart other : ℕ) → with_arc partner dart other dart ≡ other
+arc-first partner dart other = grind (arith, nat_tests)
 
-at_second : (partner : ℕ → ℕ) (dart other : ℕ) → dart ≢ other → with_arc partner dart other other ≡ dart
-at_second partner dart other apart = grind (arith, nat_tests)
+pub arc-second : (partner : ℕ → ℕ) (dart other : ℕ) → other ≢ dart → with_arc partner dart other other ≡ dart
+arc-second partner dart other apart = grind (arith, nat_tests)
 
-elsewhere : (partner : ℕ → ℕ) (dart other x : ℕ) → x ≢ dart → x ≢ other → with_arc partner dart other x ≡ partner x
-elsewhere partner dart other x not_dart not_other = grind (arith, nat_tests)
+pub arc-other : (partner : ℕ → ℕ) (dart other x : ℕ) → x ≢ dart → x ≢ other → with_arc partner dart other x ≡ partner x
+arc-other partner dart other x not_dart not_other = grind (arith, nat_tests)
 
 pub HasArcMore-with_arc : (m : ℕ) (partner : ℕ → ℕ) (dart other : ℕ) → dart < m → other < m → dart ≢ other
     → partner dart ≡ dart → partner other ≡ other → HasArcMore m partner (with_arc partner dart other) dart other

@@ -9,6 +9,7 @@ use Rattle.kh_types.specs.Acceptance.{accepted}
 use Rattle.kh_types.specs.Code.{Code}
 use Rattle.kh_types.specs.Faces.{face_count}
 use Rattle.kh_types.proofs.RangeCounts.{count_by-one_more}
+use Rattle.kh_types.proofs.ListSums.{sum_by-plus}
 use Rattle.face_walk.specs.FaceNumbers.{face_length}
 use Rattle.face_walk.specs.Numbered.{face_numbers}
 use Rattle.face_walk.proofs.FaceLemmas.{face_length-counted, face_numbers-below, length-face_numbers}
@@ -16,11 +17,6 @@ use Rattle.face_walk.proofs.FaceLemmas.{face_length-counted, face_numbers-below,
 sum_by-zero : (a k : ℕ) → sum_by (λ i. 0) (range_with_len a k) ≡ 0
 sum_by-zero a zero = refl
 sum_by-zero a (suc k) = sum_by-cons (λ (i : ℕ). 0) a (range_with_len (a + 1) k) ∙ omega (arith, sum_by-zero (a + 1) k)
-
-sum_by-plus : (f g : ℕ → ℕ) (xs : List ℕ) → sum_by (λ x. f x + g x) xs ≡ sum_by f xs + sum_by g xs
-sum_by-plus f g [] = refl
-sum_by-plus f g (x ∷ xs) =
-    omega (arith, sum_by-cons (λ y. f y + g y) x xs, sum_by-cons f x xs, sum_by-cons g x xs, sum_by-plus f g xs)
 
 -- a number below k stands once among the numbers below k
 count-once : (k x : ℕ) → x < k → count_by (λ i. nat_eq x i) (range_with_len 0 k) ≡ 1

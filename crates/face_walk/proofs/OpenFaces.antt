@@ -23,7 +23,7 @@ face_back partner place = partner (turned_back place)
 turned_back-turned : (place : ℕ) → turned_back (turned place) ≡ place
 turned_back-turned place = omega arith
 
-turned-turned_back : (place : ℕ) → turned (turned_back place) ≡ place
+pub turned-turned_back : (place : ℕ) → turned (turned_back place) ≡ place
 turned-turned_back place = omega arith
 
 turned_back-below : (n place : ℕ) → place < 4 * n → turned_back place < 4 * n

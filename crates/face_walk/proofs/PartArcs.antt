@@ -101,7 +101,7 @@ pub IsPlanar-part : (n : ℕ) (part whole : ℕ → ℕ) → IsPairing (4 * n) p
 IsPlanar-part n part whole pairing whole_pairing is_part planar = grind (arith, nat_tests, IsNoNearer-whole, planar-bound)
 
 -- a part with one more arc of the whole is a part
-IsPart-more : (m : ℕ) (part after whole : ℕ → ℕ) (dart other : ℕ) → IsPairing m whole → IsPart m part whole
+pub IsPart-more : (m : ℕ) (part after whole : ℕ → ℕ) (dart other : ℕ) → IsPairing m whole → IsPart m part whole
     → HasArcMore m part after dart other → whole dart ≡ other → IsPart m after whole
 IsPart-more m part after whole dart other whole_pairing is_part more is_arc = grind (arith, nat_tests)
 

@@ -1,5 +1,5 @@
 -- Crossings with some of their arcs, given by a partner function of the places of their darts, in which a dart without an arc is
--- its own partner; and arcs that are added. All of it is this project's rule.
+-- its own partner; and arcs that are added.
 use Rattle.std.specs.Prelude.{◌≡◌, ◌≢◌, ℕ, ◌⊎◌, ◌+◌, ◌*◌, ◌/◌, ◌<◌, nat_eq, Bool, if◌then◌else◌}
 use Rattle.std.specs.List.{count_by, range_with_len}
 use Rattle.kh_types.specs.Classes.{class_count}

@@ -1,4 +1,4 @@
--- Classes numbered from 0. The numbers are this project's rule.
+-- Classes numbered from 0.
 use Rattle.std.specs.Prelude.{ℕ, List, length, map, nat_eq, slice_index}
 use Rattle.std.specs.List.{filter, position_or_len, range_with_len}
 use Rattle.kh_types.specs.Classes.{is_least}

@@ -1,4 +1,4 @@
--- The numbers of faces and pieces. All of them are this project's rule.
+-- The numbers of faces and pieces.
 use Rattle.std.specs.Prelude.{ℕ, List, nat_eq}
 use Rattle.std.specs.List.{count_by}
 use Rattle.kh_types.specs.Code.{place_of}

@@ -15,7 +15,7 @@ use arrayvec::ArrayVec;
 use kh_types::{CLASS_MEMBERS, Diagram, class_count, classes_of};
 
 /// The number of connected pieces, in which arcs run from crossing to crossing. Loops count for
-/// none. Source: this project's rule.
+/// none.
 pub fn pieces(diagram: &Diagram) -> u8
     ensures { result ≡ piece_count diagram.now.crossings }
 {
@@ -23,7 +23,7 @@ pub fn pieces(diagram: &Diagram) -> u8
 }
 
 /// The piece that a crossing is in; crossings are numbered from 1, and pieces from 0 by their least
-/// crossing. Source: this project's rule.
+/// crossing.
 pub fn piece_of(diagram: &Diagram, crossing: u8) -> u8
     requires { IsCrossing diagram.now.crossings crossing }
     ensures piece { result ≡ piece_number diagram.now.crossings crossing }

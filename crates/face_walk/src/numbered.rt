@@ -12,7 +12,7 @@ use std::marker::Model;
 
 /// The faces of a diagram, numbered from 0 by their least darts, crossing first, then slot. A face
 /// is a cycle of darts, each followed by the one before the other end of its arc; loops count for
-/// none. Contracts see them as the `Code` of the diagram. Source: this project's rule.
+/// none. Contracts see them as the `Code` of the diagram.
 #[derive(Debug, Drop)]
 pub struct Faces {
     pub(crate) diagram: Diagram,

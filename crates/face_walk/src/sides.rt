@@ -9,7 +9,7 @@ use crate::finding::faces;
 use kh_types::Diagram;
 
 /// The face at the left of an arc, 1 to twice the number of crossings: that of its tail, by which
-/// it leaves a crossing. Source: this project's rule.
+/// it leaves a crossing.
 pub fn left_of(diagram: &Diagram, arc: u8) -> u8
     requires { IsArc diagram.now.crossings arc }
     ensures face { result ≡ left_face diagram.now.crossings arc }
@@ -19,7 +19,7 @@ pub fn left_of(diagram: &Diagram, arc: u8) -> u8
 }
 
 /// The face at the right of an arc, 1 to twice the number of crossings: that of its head, by which
-/// it enters a crossing. Source: this project's rule.
+/// it enters a crossing.
 pub fn right_of(diagram: &Diagram, arc: u8) -> u8
     requires { IsArc diagram.now.crossings arc }
     ensures face { result ≡ right_face diagram.now.crossings arc }

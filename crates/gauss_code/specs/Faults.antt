@@ -1,4 +1,4 @@
--- What is wrong with a text that the grammar has. The faults and their order are this project's rule.
+-- What is wrong with a text that the grammar has.
 use Rattle.std.specs.Prelude.{ℕ, ◌+◌, ◌&&◌, List, [], length, nat_eq, nat_lt, not, Bool, Option, Some, None, option_map, is_none, if◌then◌else◌, ℤ, slice_index, unwrap_or}
 use Rattle.std.specs.Option.{option_or}
 use Rattle.kh_types.specs.declared.limits.TheConstants.{CROSSINGS, LOOPS}

@@ -1,4 +1,4 @@
--- What the reading of a text comes to: a code, or why there is none. The order is this project's rule.
+-- What the reading of a text comes to: a code, or why there is none.
 use Rattle.std.specs.Prelude.{◌≡◌, ◌⊎◌, ℕ, List, Result, Ok, Err, Some, None}
 use Rattle.kh_types.specs.Code.{Code}
 use Rattle.kh_lex.specs.declared.stop.LexStop.TheVariants as lexical

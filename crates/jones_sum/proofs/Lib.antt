@@ -2,8 +2,5 @@ pub mod CoefficientLemmas
 pub mod CircleLemmas
 pub mod StateSumLemmas
 pub mod TermLemmas
+pub mod TermTexts
 pub mod KindLemmas
-pub mod TableLemmas
-pub mod DegreeRows
-pub mod BlockTables
-pub mod EulerLemmas

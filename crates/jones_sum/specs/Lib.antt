@@ -1,5 +1,3 @@
 pub mod Coefficients
 pub mod Kinds
-pub mod Tables
-pub mod DegreeRows
-pub mod WorkedTables
+pub mod Terms

@@ -33,6 +33,13 @@ impl Model for Laurent {
 }
 
 impl Laurent {
+    /// The polynomial with these coefficients, ascending by exponent.
+    pub fn of_coefficients(coefficients: [i128; COEFFICIENTS]) -> Laurent
+        ensures { result ≡ coefficients }
+    {
+        Laurent { coefficients }
+    }
+
     /// The coefficient of an exponent.
     #[tactic(auto, using(crate::proofs::CoefficientLemmas::exponents))]
     pub fn coefficient(&self, exponent: i16) -> i128
@@ -43,8 +50,8 @@ impl Laurent {
     }
 }
 
-/// The place of an exponent's coefficient.
-pub(crate) fn place_of(exponent: i16) -> usize
+/// The place of an exponent's coefficient, counted from 0.
+pub fn place_of(exponent: i16) -> usize
     requires low { neg_ℤ (pos EXPONENT) ≤ℤ exponent }
     requires high { exponent ≤ℤ pos EXPONENT }
     ensures place { exponent +ℤ pos EXPONENT ≡ pos result }

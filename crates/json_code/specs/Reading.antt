@@ -1,4 +1,4 @@
--- What a JSON text reads as. The form of these texts is this project's rule.
+-- What a JSON text reads as.
 use Rattle.std.specs.Prelude.{◌≡◌, ◌≢◌, ℕ, ◌+◌, ◌<◌, ◌≤◌, ◌⊎◌, List, ◌∷◌, ◌++◌, length, map, All, Some, Result, Ok, Err, slice_get}
 use Rattle.kh_types.specs.Code.{Code}
 use Rattle.kh_types.specs.RawCodes.{arc_named}

@@ -1,4 +1,4 @@
--- Counts of faults, and what they show. All of it is this project's rule.
+-- Counts of faults, and what they show.
 use Rattle.std.specs.Prelude.{ℕ, ◌+◌, ◌-◌, ◌^◌, ◌≤◌, ◌≡◌, min, Result, OnErr, OnOk, MatchResult}
 
 -- the number after n, in a count that stays at the last value of u64 once it reaches it

@@ -1,4 +1,4 @@
--- What becomes of the bytes that a writer holds where only a prefix of some bytes may have been written. It is this project's rule.
+-- What becomes of the bytes that a writer holds where only a prefix of some bytes may have been written.
 use Rattle.std.specs.Prelude.{ℕ, List, take}
 use Rattle.std.specs.declared.option.Option.{Option}
 use Rattle.std.specs.Io.KnownBytes.{Appends}

@@ -1,4 +1,4 @@
--- Sinks in memory as plain data. All of it is this project's rule.
+-- Sinks in memory as plain data.
 use Rattle.std.specs.Prelude.{ℕ, ◌≤◌, ◌-◌, List, [], ◌++◌, length, min}
 use Rattle.kh_io.specs.Faults.{next_count}
 

@@ -1,4 +1,4 @@
--- Sources in memory as plain data. All of it is this project's rule.
+-- Sources in memory as plain data.
 use Rattle.std.specs.Prelude.{ℕ, List, drop, length, min, Contains}
 use Rattle.kh_io.specs.Faults.{next_count}
 

@@ -1,4 +1,4 @@
--- Readers and writers of std with a count of their faults. It is this project's rule.
+-- Readers and writers of std with a count of their faults.
 use Rattle.std.specs.Prelude.{ℕ}
 
 -- a reader or a writer, and how often it has failed

@@ -1,5 +1,5 @@
-//! Bytes in and out: where they come from, where they go, and a count of faults that shows each
-//! failure.
+//! Sources and sinks of bytes, reading to the end and writing whole, and a count of faults that
+//! shows each failure.
 #![tactic(auto)]
 
 mod counts;

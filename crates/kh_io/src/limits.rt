@@ -1,4 +1,4 @@
-//! The sizes within which bytes are read. It is this project's rule.
+//! The sizes within which bytes are read.
 
 /// The most bytes of one read.
 pub const READ_BYTES: usize = 4_096;

@@ -1,5 +1,5 @@
--- What it is that tokens cut a text, and that a stop is the first fault of a text. The rules are this project's own.
--- A text may be the rest of another one; `place` is where its first byte stands there, counted from 0.
+-- What it is that tokens cut a text, and that a stop is the first fault of a text. A text may be the rest of another one; `place` is where
+-- its first byte stands there, counted from 0.
 use Rattle.std.specs.Prelude.{◌≡◌, ℕ, ◌+◌, ◌<◌, ◌≤◌, ◌==◌, ◌||◌, Bool, false, if◌then◌else◌, IsTrue, IsFalse, List, [], ◌∷◌, ◌++◌, length, codes, ℤ, pos, neg_ℤ, nat_abs}
 use Rattle.std.specs.Char.{is_ascii_alphabetic, is_ascii_digit}
 use Rattle.std.specs.List.{list_all}

@@ -1,4 +1,4 @@
--- The words of a line: what gaps separate (this project's rule).
+-- The words of a line: what gaps separate.
 use Rattle.std.specs.Prelude.{◌≡◌, ℕ, ◌<◌, ◌==◌, ◌||◌, Bool, true, false, filter, IsTrue, IsFalse, not, List, [], ◌∷◌, ◌++◌, length}
 use Rattle.std.specs.List.{list_all, list_any}
 use Rattle.kh_lex.specs.Sections.{sections_of}

@@ -1,4 +1,4 @@
--- The lines of a text: it is cut at line feeds (this project's rule).
+-- The lines of a text: it is cut at line feeds.
 use Rattle.std.specs.Prelude.{◌≡◌, ℕ, ◌==◌, Bool, IsFalse, List, [], ◌∷◌, ◌++◌, codes}
 use Rattle.std.specs.List.{AllByRecursion, flat_map, list_any}
 use Rattle.kh_lex.specs.Sections.{sections_of}

@@ -7,12 +7,12 @@ mod tests;
 
 ghost use Rattle.std.specs.Prelude.{◌≡◌, IfErr, IfOk, IsErr};
 ghost use Rattle.std.specs.Process.{exit_status};
-ghost use Rattle.kh_replies.specs.Statuses.{status_number};
-ghost use Rattle.kh_replies.specs.Told.{seen};
+ghost use Rattle.kh_runs.specs.Statuses.{status_number};
+ghost use Rattle.kh_runs.specs.Told.{seen};
 ghost use Rattle.kh_work.specs.Runs.{IsProgramRun, KeepsHeadline};
 
 use kh_io::{StdSink, StdSource};
-use kh_replies::words_of;
+use kh_runs::words_of;
 use kh_types::Words;
 use kh_work::{Status, run_given};
 use std::alloc::Global;

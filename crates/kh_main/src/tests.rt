@@ -7,7 +7,7 @@ mod system;
 
 use crate::exit_of;
 use kh_io::{MemSink, MemSource};
-use kh_replies::words_of;
+use kh_runs::words_of;
 use kh_types::Words;
 use kh_work::{Status, run, run_alone};
 use std::process::{Abort, ExitCode};

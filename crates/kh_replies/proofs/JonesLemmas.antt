@@ -5,7 +5,7 @@ use Rattle.kh_types.specs.Code.{Code}
 use Rattle.kh_types.specs.StateSum.{polynomial_text, state_sum}
 use Rattle.jones_sum.specs.Coefficients.{coefficient_in, coefficients_of}
 use Rattle.jones_sum.proofs.CoefficientLemmas.{polynomial_text-coefficients_of}
-use Rattle.kh_replies.specs.Jones.{jones_line}
+use Rattle.kh_runs.specs.Homology.{jones_line}
 
 -- the text of a polynomial with these coefficients is the line
 pub line_of_sum : (code : Code) (polynomial : List ℤ) (text : List ℕ) → polynomial ≡ coefficients_of (state_sum code)

@@ -1,10 +1,2 @@
-pub mod PartLemmas
-pub mod TextReadings
-pub mod TextFaults
-pub mod ReadCodes
-pub mod DiagramReadings
 pub mod JonesLemmas
-pub mod ReplyStatuses
 pub mod UnionReplies
-pub mod SourceAnswers
-pub mod RunLemmas

@@ -1,4 +1,4 @@
--- The reply of the command `check` to a diagram. All of it is this project's rule.
+-- The reply of the command `check` to a diagram.
 use Rattle.std.specs.Prelude.{ℕ, List, ◌++◌, codes, length}
 use Rattle.std.specs.Fmt.{decimal}
 use Rattle.kh_types.specs.Code.{Code}
@@ -6,8 +6,8 @@ use Rattle.kh_types.specs.Components.{component_count}
 use Rattle.kh_types.specs.Directions.{plus_count, minus_count}
 use Rattle.kh_types.specs.Faces.{piece_count, face_count}
 use Rattle.kh_replies.specs.declared.check.Counts.{Counts}
-use Rattle.kh_replies.specs.declared.status.Status.TheVariants.{Done}
-use Rattle.kh_replies.specs.Replies.{Reply, reply_of}
+use Rattle.kh_runs.specs.declared.status.Status.TheVariants.{Done}
+use Rattle.kh_runs.specs.Replies.{Reply, reply_of}
 
 -- how many crossings a diagram has, how many of them are positive and how many negative, how many components, connected pieces
 -- and faces it has, each without the crossingless loops, and how many such loops

@@ -1,12 +1,12 @@
--- The reply of the command `convert` to a diagram. All of it is this project's rule.
+-- The reply of the command `convert` to a diagram.
 use Rattle.std.specs.Prelude.{ℕ, List, ◌++◌, codes}
 use Rattle.kh_types.specs.Code.{Code}
 use Rattle.pd_code.specs.Printing.{pd_text}
 use Rattle.gauss_code.specs.Printing.{gauss_text}
 use Rattle.word_line.specs.declared.command.Form.{Form}
 use Rattle.word_line.specs.declared.command.Form.TheVariants.{Pd, Gauss}
-use Rattle.kh_replies.specs.declared.status.Status.TheVariants.{Done}
-use Rattle.kh_replies.specs.Replies.{Reply, reply_of}
+use Rattle.kh_runs.specs.declared.status.Status.TheVariants.{Done}
+use Rattle.kh_runs.specs.Replies.{Reply, reply_of}
 
 -- the text of the diagram in a form
 abbrev pub text_in : Form → Code → List ℕ

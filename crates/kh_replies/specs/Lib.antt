@@ -1,16 +1,7 @@
-pub mod Statuses
-pub mod Replies
-pub mod Refusals
-pub mod Parts
-pub mod Inputs
-pub mod InputStops
-pub mod DiagramReplies
-pub mod LimitedReplies
+pub mod Limits
 pub mod Jones
 pub mod Convert
 pub mod Draw
 pub mod Turns
 pub mod Union
 pub mod Check
-pub mod Told
-pub mod Runs

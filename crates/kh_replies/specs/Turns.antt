@@ -1,9 +1,9 @@
--- The replies of the commands `mirror` and `reverse` to a diagram. All of it is this project's rule.
+-- The replies of the commands `mirror` and `reverse` to a diagram.
 use Rattle.kh_types.specs.Code.{Code}
 use Rattle.link_algebra.specs.Mirrors.{mirror_of, reversal_of}
 use Rattle.word_line.specs.declared.command.Form.TheVariants.{Pd}
 use Rattle.kh_replies.specs.Convert.{convert_reply}
-use Rattle.kh_replies.specs.Replies.{Reply}
+use Rattle.kh_runs.specs.Replies.{Reply}
 
 -- the mirror of the diagram as a planar diagram text
 abbrev pub mirror_reply : Code → Reply

@@ -3,14 +3,13 @@
 ghost use Rattle.std.specs.Prelude.{◌≡◌, IfOk, string_bytes};
 ghost use Rattle.kh_replies.specs.Check.{check_reply, counts_line, diagram_counts};
 
-use crate::reply::{Reply, reply_with};
-use crate::status::Status;
 use face_walk::{faces, pieces};
+use kh_runs::{Reply, Status, reply_with};
 use kh_types::{Diagram, NoMemory};
 use orient_arcs::components;
 use std::alloc::Global;
 
-/// How many things of each kind a diagram has. Source: this project's rule.
+/// How many things of each kind a diagram has.
 #[derive(Clone, Copy)]
 pub struct Counts {
     /// All crossings.
@@ -29,7 +28,7 @@ pub struct Counts {
     pub loops: u8,
 }
 
-/// The line that a diagram is accepted, with its counts. Source: this project's rule.
+/// The line that a diagram is accepted, with its counts.
 pub fn reply_to_check(alloc: Global, diagram: &Diagram) -> Result<Reply, NoMemory>
     ensures { IfOk result (λ reply. reply ≡ check_reply diagram.now) }
 {

@@ -3,15 +3,14 @@
 ghost use Rattle.std.specs.Prelude.{◌≡◌, IfOk};
 ghost use Rattle.kh_replies.specs.Convert.{convert_reply, text_in};
 
-use crate::reply::{Reply, reply_made};
-use crate::status::Status;
 use gauss_code::print_gauss;
+use kh_runs::{Reply, Status, reply_made};
 use kh_types::{Diagram, NoMemory};
 use pd_code::print_pd;
 use std::alloc::Global;
 use word_line::Form;
 
-/// The text of a diagram in a form, and a line feed. Source: this project's rule.
+/// The text of a diagram in a form, and a line feed.
 pub fn reply_to_convert(alloc: Global, form: Form, diagram: &Diagram) -> Result<Reply, NoMemory>
     ensures { IfOk result (λ reply. reply ≡ convert_reply form diagram.now) }
 {

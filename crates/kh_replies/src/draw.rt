@@ -3,13 +3,12 @@
 ghost use Rattle.std.specs.Prelude.{◌≡◌, IfOk};
 ghost use Rattle.kh_replies.specs.Draw.{draw_reply};
 
-use crate::reply::{Reply, reply_made};
-use crate::status::Status;
+use kh_runs::{Reply, Status, reply_made};
 use kh_types::{Diagram, NoMemory};
 use morse_drawing::{print_slices, slices};
 use std::alloc::Global;
 
-/// The text of the drawing of a diagram. Source: this project's rule.
+/// The text of the drawing of a diagram.
 pub fn reply_to_draw(alloc: Global, diagram: &Diagram) -> Result<Reply, NoMemory>
     ensures { IfOk result (λ reply. reply ≡ draw_reply diagram.now) }
 {

@@ -1,15 +1,14 @@
 //! The command `jones`: the unnormalised Jones polynomial.
 
 ghost use Rattle.std.specs.Prelude.{◌≡◌, IfOk};
-ghost use Rattle.kh_replies.specs.Jones.{jones_line, jones_reply};
+ghost use Rattle.kh_runs.specs.Homology.{jones_line};
+ghost use Rattle.kh_replies.specs.Jones.{jones_reply};
 
-use crate::reply::{Reply, reply_made};
-use crate::status::Status;
 use circle_smoothing::CountedDiagram;
-use jones_sum::state_sum;
+use jones_sum::{print_jones, state_sum};
+use kh_runs::{Reply, Status, reply_made};
 use kh_types::{Diagram, NoMemory};
 use std::alloc::Global;
-use table_text::print_jones;
 
 /// The Jones line of a diagram. Source: Bar-Natan 2002, section 2; the text is this project's rule.
 pub fn reply_to_jones(alloc: Global, diagram: &Diagram) -> Result<Reply, NoMemory>
@@ -21,8 +20,7 @@ pub fn reply_to_jones(alloc: Global, diagram: &Diagram) -> Result<Reply, NoMemor
     ))
 }
 
-/// The text of this line, with its line feed, of a diagram with its states counted. Source: this
-/// project's rule.
+/// The text of this line, with its line feed, of a diagram with its states counted.
 pub fn jones_line(alloc: Global, counted: &CountedDiagram) -> Result<Vec<u8>, NoMemory>
     ensures { IfOk result (λ text. text.items ≡ jones_line counted.now) }
 {

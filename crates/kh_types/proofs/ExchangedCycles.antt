@@ -18,15 +18,6 @@ exchange-below n f other x y below exchange z z_below = grind (arith, nat_tests)
 abbrev pub exchange_back : (ℕ → ℕ) → (ℕ → ℕ) → ℕ → ℕ → ℕ → ℕ
 exchange_back f back x y z = cond (nat_eq z (f x)) y (cond (nat_eq z (f y)) x (back z))
 
-chosen-first : (a b z u v w : ℕ) → z ≡ a → cond (nat_eq z a) u (cond (nat_eq z b) v w) ≡ u
-chosen-first a b z u v w same = grind (arith, nat_tests)
-
-chosen-second : (a b z u v w : ℕ) → z ≢ a → z ≡ b → cond (nat_eq z a) u (cond (nat_eq z b) v w) ≡ v
-chosen-second a b z u v w other same = grind (arith, nat_tests)
-
-chosen-third : (a b z u v w : ℕ) → z ≢ a → z ≢ b → cond (nat_eq z a) u (cond (nat_eq z b) v w) ≡ w
-chosen-third a b z u v w not_a not_b = grind (arith, nat_tests)
-
 -- what has two images exchanged is a permutation too
 pub IsPermutation-exchange : (n : ℕ) (f back other : ℕ → ℕ) (x y : ℕ) → IsPermutation n f back → IsExchange n f other x y
     → IsPermutation n other (exchange_back f back x y)

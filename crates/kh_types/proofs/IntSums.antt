@@ -9,7 +9,7 @@ use Rattle.std.proofs.lemmas.Simd.{map-map}
 use Rattle.kh_types.specs.StateSum.{int_sum}
 use Rattle.kh_types.specs.Table.{IsWithin, from_minus}
 use Rattle.kh_types.proofs.QuantumDegrees.{map-from_minus_agree, place-IsWithin}
-use Rattle.kh_types.proofs.Ranges.{range_around}
+use Rattle.kh_types.proofs.Ranges.{map-range_agree, range_around}
 
 pub int_sum-append : (xs ys : List ℤ) → int_sum (xs ++ ys) ≡ int_sum xs +ℤ int_sum ys
 int_sum-append [] ys = omega (arith, ints)
@@ -17,6 +17,10 @@ int_sum-append (x ∷ xs) ys = ap (λ (s : ℤ). x +ℤ s) (int_sum-append xs ys
 
 pub int_sum-alike : {X : Type 0} (f g : X → ℤ) → ((x : X) → f x ≡ g x) → (xs : List X) → int_sum (map f xs) ≡ int_sum (map g xs)
 int_sum-alike {X} f g same xs = ap (λ (h : X → ℤ). int_sum (map h xs)) (fun_ext same)
+
+pub int_sum-range_agree : (f g : ℕ → ℤ) (a n : ℕ) → ((x : ℕ) → a ≤ x → x < a + n → f x ≡ g x)
+    → int_sum (map f (range_with_len a n)) ≡ int_sum (map g (range_with_len a n))
+int_sum-range_agree f g a n same = ap int_sum (map-range_agree f g a n same)
 
 pub int_sum-add : {X : Type 0} (f g : X → ℤ) (xs : List X)
     → int_sum (map (λ x. f x +ℤ g x) xs) ≡ int_sum (map f xs) +ℤ int_sum (map g xs)

@@ -61,3 +61,6 @@ pub mod AlternatingSums
 pub mod LabelDegrees
 pub mod FilteredLists
 pub mod RowSums
+pub mod Tests
+pub mod Searches
+pub mod JointNumbers

@@ -2,7 +2,7 @@
 --
 -- What std does not have: facts about all elements of a list by recursion, elements of lists that are made of others, searches, counts, and
 -- lists of which one has an element more (`HasMore`), as the names of classes do before a pair is joined.
-use Rattle.std.proofs.Common.{◌≡◌, ◌≢◌, ℕ, zero, suc, ◌+◌, ◌-◌, ◌<◌, ◌≤◌, ◌∙◌, List, [], ◌∷◌, ◌++◌, length, map, get_or, refl, sym, ap, arith, Bool, true, false, cond, not, unwrap_or, ◌⊎◌}
+use Rattle.std.proofs.Common.{◌≡◌, ◌≢◌, ℕ, zero, suc, ◌+◌, ◌-◌, ◌<◌, ◌≤◌, ◌∙◌, List, [], ◌∷◌, ◌++◌, length, map, get_or, refl, sym, ap, ap₂, arith, Bool, true, false, cond, not, unwrap_or, ◌⊎◌}
 use Rattle.std.specs.Prelude.{None}
 use Rattle.std.specs.List.{All, AllByRecursion, Contains, filter, flat_map, find, count_by, range_with_len, enumerate_from, position, position_or_len, remove}
 use Rattle.std.proofs.lemmas.List.{length-append, length-map, get_or-map, take-map, drop-map, map-append}
@@ -63,6 +63,28 @@ Contains-range n k below = (k, omega (arith, below, length-range_with_len 0 n), 
 
 pub range-contains : (n k : ℕ) → Contains (range_with_len 0 n) k → k < n
 range-contains n k has = grind (arith, nat_tests, length-range_with_len, get_or-range_with_len)
+
+-- the members of a range
+pub record IsInRange (a n x : ℕ) : Type 0 where
+  pub above : a ≤ x
+  pub below : x < a + n
+
+pub range-within : (a n x : ℕ) → Contains (range_with_len a n) x → IsInRange a n x
+range-within a n x (k, below, is) =
+    let size = length-range_with_len a n in
+    let within : k < n = omega (arith, below, size) in
+    let at : a + k ≡ x = sym (get_or-range_with_len a n k x within) ∙ is in
+    record { above = omega (arith, at); below = omega (arith, at, within) }
+
+pub within-range : (a n x : ℕ) → a ≤ x → x < a + n → Contains (range_with_len a n) x
+within-range a n x above below =
+    let size = length-range_with_len a n in
+    (x - a, omega (arith, above, below, size), get_or-range_with_len a n (x - a) x (omega (arith, above, below)) ∙ omega (arith, above))
+
+-- tests that agree on a list pass the same of its elements
+pub filter-on : (p q : ℕ → Bool) (xs : List ℕ) → AllByRecursion (λ x. p x ≡ q x) xs → filter p xs ≡ filter q xs
+filter-on p q [] alike = refl
+filter-on p q (x ∷ xs) alike = ap₂ (λ (b : Bool) (ys : List ℕ). cond b (x ∷ ys) ys) alike.0 (filter-on p q xs alike.1)
 
 -- tests that agree on a range pass the same of its numbers
 

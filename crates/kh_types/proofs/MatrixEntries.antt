@@ -70,7 +70,7 @@ matrix-with_entries p n entry rows is entries below = grind (arith, nat_tests, l
 pub entry-past_columns : (rows : List (List ℕ)) (i j : ℕ) → length (slice_index_or rows i []) ≤ j → entry_in rows i j ≡ 0
 entry-past_columns rows i j past = get_or_past (slice_index_or rows i []) j 0 past
 
-if_zero : (b : Bool) (x : ℕ) → x ≡ 0 → (if b then 0 else x) ≡ 0
+pub if_zero : (b : Bool) (x : ℕ) → x ≡ 0 → (if b then 0 else x) ≡ 0
 if_zero b x is_zero = grind (arith, nat_tests)
 
 if_below : (b : Bool) (x p : ℕ) → 0 < p → x < p → (if b then 0 else x) < p

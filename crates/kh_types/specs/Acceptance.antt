@@ -1,4 +1,4 @@
--- The nine rules of acceptance, each as the first fault against it. All of them are this project's rules.
+-- The nine rules of acceptance, each as the first fault against it.
 use Rattle.std.specs.Prelude.{ℕ, ◌+◌, List, [], ◌∷◌, nat_eq, nat_lt, Bool, not, ◌&&◌, ◌||◌, Option, Some, None, is_none, if◌then◌else◌}
 use Rattle.std.specs.List.{list_any, range_with_len}
 use Rattle.std.specs.Option.{option_or}

@@ -31,7 +31,6 @@ pub record IsDirected (crossings : List (List ℕ)) : Type 0 where
       → arcs_in (components_of crossings) (component_of (components_of crossings) (arc_in (slots_of crossings later) 0)) ≢ 2
 
 -- an accepted code: a directed code with a checkerboard choice, with n + 2k faces, and with few enough components and loops
--- (this project's rule)
 pub record IsAccepted (code : Code) : Type 0 where
   pub directed : IsDirected code.crossings
   pub checkerboard : IsCheckerboard code.crossings

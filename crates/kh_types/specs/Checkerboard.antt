@@ -31,7 +31,7 @@ solves_up_to crossings arc choice = list_all (solves_at crossings choice) (range
 abbrev pub has_choice : List (List ℕ) → ℕ → Bool
 has_choice crossings arc = list_any (solves_up_to crossings arc) (range_with_len 0 (2 ^ length crossings))
 
--- the checkerboard condition: some choice solves the equations of all arcs (this project's rule)
+-- the checkerboard condition: some choice solves the equations of all arcs
 pub record IsCheckerboard (crossings : List (List ℕ)) : Type 0 where
   pub choice : ℕ
   pub below : choice < 2 ^ length crossings

@@ -11,7 +11,7 @@ pub record IsName (code : Code) (name : ℕ) : Type 0 where
   pub within : name ≤ arc_count code.crossings + code.loops
 
 -- the number of a circle, which is given by its least arc, or by the loop: its place among the circles, which stand in the order
--- of their least arcs, and the loops after them (this project's rule)
+-- of their least arcs, and the loops after them
 abbrev pub number_of : Code → ℕ → ℕ → ℕ
 number_of code state circle = position_or_len (nat_eq circle) (circle_names code state)
 

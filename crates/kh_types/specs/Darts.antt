@@ -58,8 +58,7 @@ abbrev pub turned : ℕ → ℕ
 turned place = 4 * (place / 4) + (place % 4 + 3) % 4
 
 -- the dart that follows in a face, by places, for a partner function of places: from the other end of the arc on to the slot
--- before it, round the crossing; a dart without an arc is its own partner (this project's rule: a face lies to the left of each
--- arc that leaves along it)
+-- before it, round the crossing; a dart without an arc is its own partner (a face lies to the left of each arc that leaves along it)
 abbrev pub face_step : (ℕ → ℕ) → ℕ → ℕ
 face_step partner place = turned (partner place)
 

@@ -4,7 +4,7 @@ use Rattle.kh_types.specs.Code.{Code}
 use Rattle.kh_types.specs.declared.limits.TheConstants.{GREATEST_ARC}
 use Rattle.kh_types.specs.declared.code.RawCode.TheInside.{Inside}
 
--- the arc that a number of a text names; 0, which is no arc, for a number above the greatest (this project's rule)
+-- the arc that a number of a text names; 0, which is no arc, for a number above the greatest
 abbrev pub arc_named : ℕ → ℕ
 arc_named n = if nat_le n GREATEST_ARC then n else 0
 

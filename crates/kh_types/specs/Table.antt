@@ -59,6 +59,6 @@ abbrev pub row_text : Row → List ℕ
 row_text row =
     codes "j " ++ (signed_decimal row.j ++ (codes " i " ++ (signed_decimal row.i ++ (codes " dim " ++ (decimal row.dim ++ codes "\n")))))
 
--- the text of a table: the line of its version, that of its field, then the lines of its rows (this project's rule)
+-- the text of a table: the line of its version, that of its field, then the lines of its rows
 abbrev pub table_text : Table → List ℕ
 table_text homology = codes "table 2\nfield " ++ (decimal homology.field ++ (codes "\n" ++ flat_map row_text homology.rows))

@@ -18,7 +18,7 @@ pub struct FaceCount {
 
 /// The faces of a code. Loops count for none. Where each of the arcs 1 to 2n stands exactly twice,
 /// a face is a cycle of darts, each followed by the one before the other end of its arc; of any
-/// other code the numbers mean nothing. Source: this project's rule.
+/// other code the numbers mean nothing.
 pub fn count_faces(raw: &RawCode) -> FaceCount
     ensures faces { result.faces ≡ face_count raw.now.crossings }
     ensures wanted { result.wanted ≡ planar_face_count raw.now.crossings }

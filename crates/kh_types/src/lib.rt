@@ -1,5 +1,6 @@
-//! The data that all crates share, codes, diagrams and words, and in `specs/` the definitions on
-//! which every contract stands.
+//! What all crates share: codes, diagrams, words and the named limits, and in `specs/` the
+//! definitions of knots and homology on which every contract stands; general lemmas on lists, sums,
+//! classes and matrices.
 #![tactic(auto)]
 
 mod acceptance;

@@ -1,4 +1,4 @@
-//! The sizes within which the program works. All of them are this project's rule.
+//! The sizes within which the program works.
 
 /// The most crossings of a diagram.
 pub const CROSSINGS: usize = 20;

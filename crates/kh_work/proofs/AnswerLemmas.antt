@@ -19,15 +19,16 @@ use Rattle.word_line.specs.declared.command.Task.TheVariants as tasks
 use Rattle.word_line.specs.declared.command.Command.{Command}
 use Rattle.word_line.specs.Commands.{IsCommand, IsUsage}
 use Rattle.word_line.proofs.Readings.{IsCommand-one}
-use Rattle.kh_replies.specs.declared.status.Status.TheVariants.{Done}
+use Rattle.kh_runs.specs.declared.status.Status.TheVariants.{Done}
 use Rattle.kh_work.specs.ByteLimits.{byte_limit}
-use Rattle.kh_replies.specs.Replies.{Reply, reply_of}
-use Rattle.kh_replies.specs.LimitedReplies.{IsLimitedReply}
-use Rattle.kh_replies.specs.Refusals.{usage, too_large_number, too_many_bytes}
-use Rattle.kh_replies.specs.Parts.{code_part, part_behind}
-use Rattle.kh_replies.specs.Inputs.{IsCodeRead}
-use Rattle.kh_replies.specs.Jones.{jones_line}
-use Rattle.kh_work.specs.Homology.{homology_reply, homology_text}
+use Rattle.kh_runs.specs.Replies.{Reply, reply_of}
+use Rattle.kh_runs.specs.LimitedReplies.{IsLimitedReply}
+use Rattle.kh_runs.specs.Refusals.{usage, too_many_bytes}
+use Rattle.kh_replies.specs.Limits.{too_large_number}
+use Rattle.kh_inputs.specs.Parts.{code_part, part_behind}
+use Rattle.kh_inputs.specs.Inputs.{IsCodeRead}
+use Rattle.kh_runs.specs.Homology.{jones_line, homology_text}
+use Rattle.kh_work.specs.Homology.{homology_reply}
 use Rattle.kh_work.specs.Schedule.{answer_lines, events_of, schedule_reply, schedule_text}
 use Rattle.commit_core.specs.Answering.{answers}
 use Rattle.kh_types.specs.declared.limits.TheConstants.{WORKERS}
@@ -40,7 +41,7 @@ use Rattle.undo_stack.specs.declared.edit_line.EditLine.{EditLine}
 use Rattle.kh_work.specs.Edit.{edit_reply, edits_in, outcome_reply}
 use Rattle.braid_maker.specs.Closures.{code_of_number}
 use Rattle.braid_maker.specs.declared.limits.TheConstants.{NUMBERS}
-use Rattle.jones_sum.specs.Tables.{total_of}
+use Rattle.homology_tables.specs.Tables.{total_of}
 use Rattle.kh_work.specs.Bench.{bench_counts, bench_lines, bench_reply, bench_text}
 use Rattle.kh_work.specs.declared.order.Order.{Order}
 use Rattle.kh_work.specs.declared.order.Order.TheVariants.{Bench}
@@ -50,8 +51,9 @@ use Rattle.kh_work.specs.declared.draft.Draft.{Draft}
 use Rattle.kh_work.specs.Drafts.{reply_in}
 use Rattle.kh_work.specs.Runs.{IsBlindAnswer}
 use Rattle.kh_work.specs.Told.{AnswersOrder, AnswersWords}
-use Rattle.kh_replies.specs.Told.{IsReadOut}
-use Rattle.kh_replies.proofs.SourceAnswers.{AnswersSource-long, AnswersSource-other}
+use Rattle.kh_runs.specs.Told.{IsReadOut}
+use Rattle.kh_inputs.proofs.DiagramReadings.{first_fault-accepted}
+use Rattle.kh_runs.proofs.SourceAnswers.{AnswersSource-long, AnswersSource-other}
 use Rattle.kh_work.proofs.ReplyLemmas.{IsInputReply-few, cond-false, cond-true, less-false, less-true}
 
 -- more bytes than an order reads are answered by the line of its limit
@@ -99,15 +101,7 @@ IsReadOut-command result words command order before after meant is read limit re
     let same : reads.command ≡ command = IsCommand-one words reads.command command reads.meant meant in
     read limit (ap byte_limit (is ∙ sym (ap order_of same)) ∙ reads.limited)
 
--- no fault, by its test
-none-from_test : (fault : Option CodeFault) → IsTrue (is_none fault) → fault ≡ None
-none-from_test None none = refl
-none-from_test (Some fault) none = absurd (cc)
-
-pub first_fault-accepted : (code : Code) → IsTrue (accepted code) → first_fault code ≡ None
-unfolding accepted
-first_fault-accepted code is_accepted = none-from_test (first_fault code) is_accepted
-
+-- the table and the Jones line, where the cube has few enough generators
 homology_reply-table : (field : ℕ) (code : Code) → generator_count code ≤ GENERATORS
     → reply_of Done (table_text (table field code) ++ jones_line code) ≡ homology_reply field code
 unfolding homology_text

@@ -20,19 +20,19 @@ use Rattle.kh_types.proofs.AcceptedLemmas.{IsAccepted-is}
 use Rattle.kh_types.proofs.QuantumDegrees.{generators_at-within, within_or_not}
 use Rattle.circle_smoothing.specs.GeneratorCounts.{generator_count}
 use Rattle.circle_smoothing.specs.declared.limits.TheConstants.{GENERATORS}
-use Rattle.jones_sum.proofs.TableLemmas.{IsTable-table}
+use Rattle.homology_tables.proofs.TableLemmas.{IsTable-table}
 use Rattle.union_laws.specs.Loops.{with_loops}
 use Rattle.union_laws.proofs.Loops.{dimension-loops, fewer-loops}
-use Rattle.union_laws.proofs.Unions.{inverses-small_prime}
 use Rattle.reduced_cube.specs.Reduced.{is_reduced, reduced_dimension, reduced_table}
 use Rattle.reduced_cube.proofs.ReducedSums.{reduced-outside}
 use Rattle.mark_laws.proofs.TwoElements.{dimension-twice}
 use Rattle.kh_work.proofs.BareCodes.{generator_count-loops}
 use Rattle.kh_types.proofs.Lists.{All-flat_map, Contains-filter, Contains-flat_map, Contains-map}
 use Rattle.kh_types.proofs.RowSums.{row_by, rows_by}
-use Rattle.jones_sum.specs.DegreeRows.{rows_with}
-use Rattle.jones_sum.specs.Tables.{IsTable, dim_at, is_at}
+use Rattle.homology_tables.specs.DegreeRows.{rows_with}
+use Rattle.homology_tables.specs.Tables.{IsTable, dim_at, is_at}
 use Rattle.kh_work.specs.Circles.{beside_circle, table_with}
+use Rattle.link_algebra.proofs.TurnedCodes.{small_prime-inverses}
 
 -- the table of some dimensions
 abbrev pub table_by : ℕ → ℕ → (ℤ → ℤ → ℕ) → Table
@@ -126,7 +126,7 @@ module _ (p : ℕ) (code : Code) (small : IsSmallPrime p) (is : IsTrue (accepted
   pub beside_circle-loop : (k : ℕ) → k < code.loops
       → beside_circle (length code.crossings) (table p (with_loops code k)) ≡ table p (with_loops code (k + 1))
   beside_circle-loop k less =
-      let field = inverses-small_prime p small in
+      let field = small_prime-inverses p small in
       let now = with_loops code k in
       let now_is = fewer-loops code k is (omega (arith, less)) in
       let next_is = fewer-loops code (suc k) is (omega (arith, less)) in

@@ -24,25 +24,29 @@ use Rattle.undo_stack.specs.declared.stop.ScriptStop.{ScriptStop}
 use Rattle.word_line.specs.Commands.{IsCommand, IsUsage}
 use Rattle.word_line.specs.declared.command.Command.{Command}
 use Rattle.word_line.specs.declared.command.Task.TheVariants as tasks
-use Rattle.kh_replies.specs.Inputs.{IsCodeRead, IsDiagramRead}
-use Rattle.kh_replies.specs.Parts.{code_part, part_behind}
-use Rattle.kh_replies.specs.Refusals.{IsFaultRefusal, too_many_bytes, too_many_generators, usage}
-use Rattle.kh_replies.specs.Replies.{Reply, reply_of}
-use Rattle.kh_replies.specs.declared.status.Status.TheVariants.{Done}
+use Rattle.kh_inputs.specs.Inputs.{IsCodeRead, IsDiagramRead}
+use Rattle.kh_inputs.specs.Parts.{code_part, part_behind}
+use Rattle.kh_inputs.specs.CodeRefusals.{IsFaultRefusal}
+use Rattle.kh_runs.specs.Refusals.{too_many_bytes, usage}
+use Rattle.kh_replies.specs.Limits.{too_many_generators}
+use Rattle.kh_runs.specs.Replies.{Reply, reply_of}
+use Rattle.kh_runs.specs.declared.status.Status.TheVariants.{Done}
 use Rattle.kh_work.specs.declared.order.Order.{Order}
 use Rattle.kh_work.specs.declared.order.Order.TheVariants as orders
 use Rattle.kh_work.specs.declared.order.CodeOrder.{CodeOrder}
 use Rattle.kh_work.specs.declared.order.CodeOrder.TheVariants.{Reduced}
 use Rattle.kh_work.specs.declared.order.ScriptOrder.{ScriptOrder}
 use Rattle.kh_work.specs.Orders.{order_of}
-use Rattle.kh_replies.specs.LimitedReplies.{IsLimitedReply}
+use Rattle.kh_runs.specs.LimitedReplies.{IsLimitedReply}
 use Rattle.kh_work.specs.Answer.{IsAnswer, IsOrderReply}
 use Rattle.kh_work.specs.ByteLimits.{byte_limit}
 use Rattle.kh_work.specs.Edit.{IsEditedReply}
-use Rattle.kh_work.specs.Homology.{homology_reply, homology_text}
+use Rattle.kh_work.specs.Homology.{homology_reply}
+use Rattle.kh_runs.specs.Homology.{homology_text}
 use Rattle.kh_work.specs.Schedule.{IsScriptReply, schedule_reply, schedule_text}
 use Rattle.kh_work.specs.Verify.{IsVerdictReply}
-use Rattle.kh_work.proofs.AnswerLemmas.{answer-order, answer-task, first_fault-accepted}
+use Rattle.kh_work.proofs.AnswerLemmas.{answer-order, answer-task}
+use Rattle.kh_inputs.proofs.DiagramReadings.{first_fault-accepted}
 use Rattle.kh_work.proofs.ReducedLemmas.{order-reduced, reduced_reply-large}
 use Rattle.kh_work.proofs.ReplyLemmas.{cond-true, less-true}
 

@@ -8,14 +8,14 @@ use Rattle.circle_smoothing.specs.GeneratorCounts.{generator_count}
 use Rattle.circle_smoothing.specs.declared.limits.TheConstants.{GENERATORS}
 use Rattle.cancel_log.proofs.LogsExist.{log-some}
 use Rattle.word_line.specs.Values.{IsFieldSize}
-use Rattle.kh_replies.specs.DiagramReplies.{IsDiagramReply, IsOutcomeReply}
-use Rattle.kh_replies.specs.Inputs.{IsDiagramRead}
-use Rattle.kh_replies.specs.Refusals.{too_many_generators}
-use Rattle.kh_replies.specs.Replies.{Reply, reply_of}
-use Rattle.kh_replies.specs.declared.status.Status.TheVariants.{Done}
-use Rattle.kh_replies.proofs.DiagramReadings.{IsDiagramRead-one, IsDiagramRead-some}
-use Rattle.kh_replies.proofs.ReadCodes.{four_slots-read}
-use Rattle.kh_replies.proofs.TextFaults.{few_crossings-read, few_loops-read}
+use Rattle.kh_inputs.specs.DiagramReplies.{IsDiagramReply, IsOutcomeReply}
+use Rattle.kh_inputs.specs.Inputs.{IsDiagramRead}
+use Rattle.kh_replies.specs.Limits.{too_many_generators}
+use Rattle.kh_runs.specs.Replies.{Reply, reply_of}
+use Rattle.kh_runs.specs.declared.status.Status.TheVariants.{Done}
+use Rattle.kh_inputs.proofs.DiagramReadings.{IsDiagramRead-one, IsDiagramRead-some}
+use Rattle.kh_inputs.proofs.ReadCodes.{four_slots-read}
+use Rattle.kh_inputs.proofs.TextFaults.{few_crossings-read, few_loops-read}
 use Rattle.kh_work.specs.Certify.{IsCertifyReply}
 
 -- a code without a fault is accepted

@@ -11,8 +11,8 @@ use Rattle.kh_types.specs.Table.{Row, Table, from_minus}
 use Rattle.kh_types.specs.declared.limits.TheConstants.{EXPONENT}
 use Rattle.kh_types.proofs.Ranges.{map_from_zero}
 use Rattle.circle_smoothing.specs.declared.limits.TheConstants.{GENERATORS}
-use Rattle.jones_sum.specs.DegreeRows.{rows_with}
-use Rattle.jones_sum.specs.Tables.{IsRow, dim_at}
+use Rattle.homology_tables.specs.DegreeRows.{rows_with}
+use Rattle.homology_tables.specs.Tables.{IsRow, dim_at}
 use Rattle.kh_work.specs.Circles.{beside_circle, dim_of, dims_beside, dims_of, rows_of}
 
 -- what passes two tests is found by the one among what passes the other

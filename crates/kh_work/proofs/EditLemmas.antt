@@ -14,9 +14,9 @@ use Rattle.undo_stack.specs.declared.stop.ScriptStop.{ScriptStop}
 use Rattle.undo_stack.specs.declared.stop.ScriptStop.TheVariants as stops
 use Rattle.undo_stack.proofs.EditReadings.{IsEdit-edit_of, IsEdit-one}
 use Rattle.undo_stack.proofs.EditedParts.{AreDone, AreDone-end, AreDone-line, AreDone-refused}
-use Rattle.kh_replies.specs.declared.status.Status.TheVariants.{Done, MoveRefused}
-use Rattle.kh_replies.specs.Replies.{Reply, reply_of}
-use Rattle.kh_replies.specs.Refusals.{refused_line, too_many_lines}
+use Rattle.kh_runs.specs.declared.status.Status.TheVariants.{Done, MoveRefused}
+use Rattle.kh_runs.specs.Replies.{Reply, reply_of}
+use Rattle.kh_runs.specs.Refusals.{refused_line, too_many_lines}
 use Rattle.kh_work.specs.Edit.{IsEditReply, IsEditedReply, diagram_line, diagram_lines, edit_reply, edits_in, line_number_at, outcome_reply, refusal_line}
 
 -- what a script was read as is answered once

@@ -7,77 +7,43 @@ use Rattle.kh_types.specs.Code.{Code}
 use Rattle.kh_types.specs.StateSum.{euler, polynomial_text, state_sum}
 use Rattle.kh_types.specs.Table.{table, table_text}
 use Rattle.kh_types.specs.declared.limits.TheConstants.{CROSSINGS}
-use Rattle.prime_field.specs.Residues.{IsField}
-use Rattle.prime_field.specs.SmallFields.{field-two, field-three, field-five, field-seven}
 use Rattle.jones_sum.proofs.CoefficientLemmas.{polynomial_text-agree}
-use Rattle.shared_block.proofs.TableSums.{euler-table}
+use Rattle.euler_laws.proofs.TableSums.{sum-table}
 use Rattle.word_line.specs.declared.command.Command.{Command}
 use Rattle.word_line.specs.declared.command.Task.TheVariants.{Homology}
 use Rattle.word_line.specs.Commands.{IsCommand}
 use Rattle.word_line.specs.Values.{IsFieldSize}
 use Rattle.word_line.proofs.Readings.{IsCommand-sizes}
-use Rattle.kh_replies.specs.declared.status.Status.{Status}
-use Rattle.kh_replies.specs.declared.status.Status.TheVariants.{Done}
+use Rattle.kh_runs.specs.declared.status.Status.{Status}
+use Rattle.kh_runs.specs.declared.status.Status.TheVariants.{Done}
 use Rattle.kh_work.specs.Answer.{IsAnswer}
-use Rattle.kh_replies.specs.Jones.{jones_line}
-use Rattle.kh_replies.specs.Replies.{Reply, reply_of}
-use Rattle.kh_replies.proofs.TextFaults.{few_crossings-read}
-use Rattle.kh_replies.specs.Told.{Gives, Seen}
-use Rattle.kh_replies.proofs.RunLemmas.{whole-undisturbed}
-use Rattle.kh_replies.proofs.SourceAnswers.{AnswersSource-known}
-use Rattle.kh_work.specs.Runs.{IsProgramRun, IsAcceptedText, HasWrittenHomology, KeepsHeadline, request_of}
+use Rattle.kh_runs.specs.Homology.{homology_text, jones_line}
+use Rattle.kh_runs.specs.Replies.{Reply, reply_of}
+use Rattle.kh_inputs.proofs.TextFaults.{few_crossings-read}
+use Rattle.kh_runs.specs.Told.{Gives, Seen}
+use Rattle.kh_runs.proofs.RunLemmas.{whole-undisturbed}
+use Rattle.kh_runs.proofs.WrittenHomology.{written-headline}
+use Rattle.kh_runs.proofs.SourceAnswers.{AnswersSource-known}
+use Rattle.kh_work.specs.Runs.{IsProgramRun, IsAcceptedText, KeepsHeadline, request_of}
 use Rattle.kh_work.proofs.AnswerLemmas.{IsAnswer-table}
 use Rattle.kh_work.proofs.OneAnswer.{HaveOneReply-task, IsAnswer-one}
 
--- the numbers of elements of the fields make fields
-pub field-sized : (size : ℕ) → IsFieldSize size → IsField size
-field-sized size (inl is) = subst IsField (sym is) field-two
-field-sized size (inr (inl is)) = subst IsField (sym is) field-three
-field-sized size (inr (inr (inl is))) = subst IsField (sym is) field-five
-field-sized size (inr (inr (inr is))) = subst IsField (sym is) field-seven
-
--- the state sum is the graded Euler characteristic of the table
-pub sum-table : (field : ℕ) (code : Code) → IsFieldSize field → IsTrue (accepted code) → length code.crossings ≤ CROSSINGS → (exponent : ℤ)
-    → state_sum code exponent ≡ euler (table field code) exponent
-sum-table field code is_field is_accepted few exponent =
-    sym (euler-table field code exponent (field-sized field is_field) is_accepted few)
-
--- and so is the Jones line
+-- the Jones line of the state sum is that of the Euler characteristic
 pub jones_line-euler : (field : ℕ) (code : Code) → IsFieldSize field → IsTrue (accepted code) → length code.crossings ≤ CROSSINGS
     → jones_line code ≡ polynomial_text (euler (table field code))
 unfolding jones_line
 jones_line-euler field code is_field is_accepted few =
     polynomial_text-agree (state_sum code) (euler (table field code)) (λ exponent within. sum-table field code is_field is_accepted few exponent)
 
--- the text of the table and the Jones line
-abbrev pub headline_text : ℕ → Code → List ℕ
-headline_text field code = table_text (table field code) ++ polynomial_text (state_sum code)
-
-jones_line-sum : (field : ℕ) (code : Code)
-    → reply_of Done (table_text (table field code) ++ jones_line code) ≡ reply_of Done (headline_text field code)
-unfolding jones_line
-jones_line-sum field code = refl
-
 -- the answer to such a text is the table and the Jones line
 headline-answer : (words : List (List ℕ)) (bytes : List ℕ) (command : Command) (code : Code) (reply : Reply)
     → IsCommand words command → command.task ≡ Homology → IsAcceptedText bytes code → IsAnswer words bytes reply
-    → reply ≡ reply_of Done (headline_text command.field code)
+    → reply ≡ reply_of Done (homology_text command.field code)
+unfolding homology_text
 headline-answer words bytes command code reply is_command is_homology text is_answer =
     IsAnswer-one words bytes reply (reply_of Done (table_text (table command.field code) ++ jones_line code))
     (HaveOneReply-task words command Homology is_command is_homology (λ same. cc)) is_answer
     (IsAnswer-table words bytes command code is_command is_homology text.diagram.few_bytes text.diagram.read text.diagram.is_accepted text.few_generators)
-    ∙ jones_line-sum command.field code
-
--- what a run has written is this text
-pub written-headline : (status : Status) (before after : Option (List ℕ)) (field : ℕ) (code : Code) (reply : Reply)
-    → IsFieldSize field → IsTrue (accepted code) → length code.crossings ≤ CROSSINGS → reply ≡ reply_of Done (headline_text field code)
-    → Gives reply status before after → HasWrittenHomology field code status before after
-written-headline status before after field code reply is_field is_accepted few is_reply gives =
-    record {
-      status = gives.status ∙ ap (λ (r : Reply). r.status) is_reply;
-      written = subst (λ (text : List ℕ). Appends before after text) (ap (λ (r : Reply). r.text) is_reply) gives.written;
-      sum = sum-table field code is_field is_accepted few;
-    }
 
 pub headline-run : (words : List (List ℕ)) (source_before source_after sink_before sink_after : Seen)
     (same_source same_sink : Type 0) (status : Status)
@@ -88,6 +54,7 @@ headline-run words source_before source_after sink_before sink_after same_source
     let whole = whole-undisturbed (request_of words) source_before source_after sink_before sink_after same_source same_sink status is_run undisturbed in
     let told = is_run.answered whole in
     let answer = AnswersSource-known (IsAnswer words) source_before.bytes bytes told.0 is_bytes told.1 in
-    written-headline status sink_before.bytes sink_after.bytes command.field code told.0 (IsCommand-sizes words command is_command).0
-    text.diagram.is_accepted (few_crossings-read bytes code text.diagram.read)
+    written-headline status sink_before.bytes sink_after.bytes command.field code told.0
+    (sum-table command.field code (IsCommand-sizes words command is_command).0 text.diagram.is_accepted
+    (few_crossings-read bytes code text.diagram.read))
     (headline-answer words bytes command code told.0 is_command is_homology text answer) told.2

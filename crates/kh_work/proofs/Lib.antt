@@ -1,6 +1,8 @@
 pub mod AnswerLemmas
 pub mod ReducedLemmas
 pub mod ReplyLemmas
+pub mod UnionReadings
+pub mod PrintedReadings
 pub mod ScheduleLemmas
 pub mod EditLemmas
 pub mod CertifyReplies

@@ -17,19 +17,19 @@ use Rattle.word_line.specs.declared.command.Task.TheVariants as tasks
 use Rattle.word_line.specs.declared.command.Command.{Command}
 use Rattle.word_line.specs.Commands.{IsCommand}
 use Rattle.word_line.proofs.Readings.{IsCommand-one}
-use Rattle.kh_replies.specs.declared.status.Status.TheVariants.{CodeRefused, Done, Limit}
-use Rattle.kh_replies.specs.Inputs.{IsCodeRead}
-use Rattle.kh_replies.specs.Refusals.{too_many_bytes}
-use Rattle.kh_replies.specs.Replies.{Reply, reply_of}
-use Rattle.kh_replies.specs.DiagramReplies.{IsDiagramReply, IsOutcomeReply}
-use Rattle.kh_replies.proofs.DiagramReadings.{IsDiagramRead-one}
-use Rattle.kh_replies.specs.LimitedReplies.{IsLimitedReply}
+use Rattle.kh_runs.specs.declared.status.Status.TheVariants.{CodeRefused, Done, Limit}
+use Rattle.kh_inputs.specs.Inputs.{IsCodeRead}
+use Rattle.kh_runs.specs.Refusals.{too_many_bytes}
+use Rattle.kh_runs.specs.Replies.{Reply, reply_of}
+use Rattle.kh_inputs.specs.DiagramReplies.{IsDiagramReply, IsOutcomeReply}
+use Rattle.kh_inputs.proofs.DiagramReadings.{IsDiagramRead-one, first_fault-accepted}
+use Rattle.kh_runs.specs.LimitedReplies.{IsLimitedReply}
 use Rattle.kh_work.specs.Answer.{IsAnswer, IsCodeReply, IsCommandReply, IsInputReply}
 use Rattle.kh_work.specs.Orders.{order_for}
 use Rattle.kh_work.specs.declared.order.CodeOrder.TheVariants.{Certify}
 use Rattle.kh_work.specs.Certify.{IsCertifyReply, IsCertificate}
 use Rattle.kh_work.specs.Verify.{IsVerdictReply, IsVerifyReply, verified_text}
-use Rattle.kh_work.proofs.AnswerLemmas.{answer-task, first_fault-accepted}
+use Rattle.kh_work.proofs.AnswerLemmas.{answer-task}
 
 -- words that mean a command are answered by a reply of it, and by nothing else
 answered-command : (words : List (List ℕ)) (bytes : List ℕ) (command : Command) (reply : Reply) → IsCommand words command

@@ -23,24 +23,25 @@ use Rattle.word_line.specs.Values.{IsFieldSize}
 use Rattle.word_line.proofs.Readings.{IsCommand-decided, IsCommand-one, IsCommand-sizes}
 use Rattle.kh_work.specs.ByteLimits.{byte_limit}
 use Rattle.kh_work.proofs.VerifyLemmas.{IsVerifyReply-one, IsVerifyReply-some}
-use Rattle.kh_replies.specs.Replies.{Reply}
-use Rattle.kh_replies.specs.declared.status.Status.{Status}
-use Rattle.kh_replies.specs.declared.status.Status.TheVariants as statuses
-use Rattle.kh_replies.specs.declared.status.Status.TheVariants.{Done}
-use Rattle.kh_replies.specs.Refusals.{usage, too_many_bytes, too_many_lines, refused_line}
-use Rattle.kh_replies.specs.Parts.{code_part, part_behind}
-use Rattle.kh_replies.proofs.DiagramReadings.{IsDiagramReply-some, IsDiagramReply-one}
-use Rattle.kh_replies.proofs.UnionReplies.{IsUnionReply-one, IsUnionReply-some}
+use Rattle.kh_runs.specs.Replies.{Reply}
+use Rattle.kh_runs.specs.declared.status.Status.{Status}
+use Rattle.kh_runs.specs.declared.status.Status.TheVariants as statuses
+use Rattle.kh_runs.specs.declared.status.Status.TheVariants.{Done}
+use Rattle.kh_runs.specs.Refusals.{usage, too_many_bytes, too_many_lines, refused_line}
+use Rattle.kh_inputs.specs.Parts.{code_part, part_behind}
+use Rattle.kh_inputs.proofs.DiagramReadings.{IsDiagramReply-some, IsDiagramReply-one}
+use Rattle.kh_work.proofs.UnionReadings.{IsUnionReply-one, IsUnionReply-some}
 use Rattle.kh_work.specs.Schedule.{schedule_reply, IsScriptReply, IsScheduleReply}
 use Rattle.kh_work.specs.Bench.{bench_reply}
 use Rattle.kh_work.proofs.CertifyReplies.{IsCertified-one, IsCertified-some}
-use Rattle.kh_replies.specs.Union.{IsUnionReply}
+use Rattle.kh_work.specs.Union.{IsUnionReply}
 use Rattle.kh_work.specs.declared.order.Order.{Order}
 use Rattle.kh_work.specs.declared.order.Order.TheVariants as orders
 use Rattle.kh_work.specs.declared.order.CodeOrder.TheVariants.{Certify}
 use Rattle.kh_work.specs.declared.order.ScriptOrder.TheVariants.{Edit, Schedule}
 use Rattle.kh_work.specs.Orders.{order_for, order_of}
-use Rattle.kh_replies.specs.LimitedReplies.{IsLimitedReply}
+use Rattle.kh_runs.specs.LimitedReplies.{IsLimitedReply}
+use Rattle.kh_runs.proofs.LimitedAnswers.{IsLimitedReply-one, IsLimitedReply-some}
 use Rattle.kh_work.specs.Answer.{HaveOneReply, IsAnswer, IsCodeReply, IsCommandReply, IsOrderReply, IsScriptedReply}
 
 -- what a script was read as is answered once
@@ -120,27 +121,7 @@ IsOrderReply-one orders.Pair bytes a b fixed =
 IsOrderReply-one orders.Log bytes a b fixed = IsVerifyReply-one bytes a b
 IsOrderReply-one (orders.Bench field workers number) bytes a b fixed = λ is_a is_b. is_a ∙ sym is_b
 
--- within a limit or beyond it
-
-IsLimitedReply-size : (limit : ℕ) (bytes : List ℕ) (Answers : Reply → Type 0) → ((reply : Reply) × Answers reply) → (long : Bool)
-    → nat_lt limit (length bytes) ≡ long → (reply : Reply) × IsLimitedReply (Some limit) bytes Answers reply
-IsLimitedReply-size limit bytes Answers some true is_long =
-    let many : limit < length bytes = grind (arith, common_steps) in (too_many_bytes limit, inl (many, refl))
-IsLimitedReply-size limit bytes Answers some false is_long =
-    let few : length bytes ≤ limit = grind (arith, common_steps) in (some.0, inr (few, some.1))
-
-pub IsLimitedReply-some : (limit : Option ℕ) (bytes : List ℕ) (Answers : Reply → Type 0) → ((reply : Reply) × Answers reply)
-    → (reply : Reply) × IsLimitedReply limit bytes Answers reply
-IsLimitedReply-some None bytes Answers some = some
-IsLimitedReply-some (Some limit) bytes Answers some = IsLimitedReply-size limit bytes Answers some (nat_lt limit (length bytes)) refl
-
-pub IsLimitedReply-one : (limit : Option ℕ) (bytes : List ℕ) (Answers : Reply → Type 0) (a b : Reply) → (Answers a → Answers b → a ≡ b)
-    → IsLimitedReply limit bytes Answers a → IsLimitedReply limit bytes Answers b → a ≡ b
-IsLimitedReply-one None bytes Answers a b one is_a is_b = one is_a is_b
-IsLimitedReply-one (Some limit) bytes Answers a b one (inl is_a) (inl is_b) = is_a.1 ∙ sym is_b.1
-IsLimitedReply-one (Some limit) bytes Answers a b one (inl is_a) (inr is_b) = absurd (omega (arith, is_a.0, is_b.0))
-IsLimitedReply-one (Some limit) bytes Answers a b one (inr is_a) (inl is_b) = absurd (omega (arith, is_a.0, is_b.0))
-IsLimitedReply-one (Some limit) bytes Answers a b one (inr is_a) (inr is_b) = one is_a.1 is_b.1
+-- commands
 
 IsCommandReply-some : (command : Command) (bytes : List ℕ) → IsFieldSize command.field → (reply : Reply) × IsCommandReply command bytes reply
 IsCommandReply-some command bytes sized =

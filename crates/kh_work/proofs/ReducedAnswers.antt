@@ -11,16 +11,17 @@ use Rattle.reduced_cube.specs.Reduced.{is_mark, reduced_table}
 use Rattle.word_line.specs.declared.command.Command.{Command}
 use Rattle.word_line.specs.declared.command.Task.TheVariants as tasks
 use Rattle.word_line.specs.Commands.{IsCommand}
-use Rattle.kh_replies.specs.declared.status.Status.TheVariants.{Done}
-use Rattle.kh_replies.specs.Inputs.{IsCodeRead}
-use Rattle.kh_replies.specs.Jones.{jones_line}
-use Rattle.kh_replies.specs.Refusals.{refused_mark}
-use Rattle.kh_replies.specs.Replies.{reply_of}
+use Rattle.kh_runs.specs.declared.status.Status.TheVariants.{Done}
+use Rattle.kh_inputs.specs.Inputs.{IsCodeRead}
+use Rattle.kh_runs.specs.Homology.{jones_line}
+use Rattle.kh_runs.specs.Refusals.{refused_mark}
+use Rattle.kh_runs.specs.Replies.{reply_of}
 use Rattle.kh_work.specs.Answer.{IsAnswer}
 use Rattle.kh_work.specs.Reduced.{mark_line}
 use Rattle.kh_work.specs.declared.order.Order.TheVariants as orders
 use Rattle.kh_work.specs.declared.order.CodeOrder.TheVariants.{Reduced}
-use Rattle.kh_work.proofs.AnswerLemmas.{answer-order, first_fault-accepted}
+use Rattle.kh_work.proofs.AnswerLemmas.{answer-order}
+use Rattle.kh_inputs.proofs.DiagramReadings.{first_fault-accepted}
 use Rattle.kh_work.proofs.ReducedLemmas.{order-reduced, reduced_reply-text, reduced_reply-unmarked}
 use Rattle.kh_work.proofs.ReplyLemmas.{less-false}
 

@@ -15,18 +15,18 @@ use Rattle.word_line.specs.declared.command.Task.TheVariants.{Reduced}
 use Rattle.word_line.specs.Commands.{IsCommand}
 use Rattle.word_line.specs.Values.{IsFieldSize}
 use Rattle.word_line.proofs.Readings.{IsCommand-sizes}
-use Rattle.kh_replies.specs.declared.status.Status.{Status}
-use Rattle.kh_replies.specs.declared.status.Status.TheVariants.{Done}
-use Rattle.kh_replies.specs.Jones.{jones_line}
-use Rattle.kh_replies.specs.Replies.{Reply, reply_of}
-use Rattle.kh_replies.proofs.TextFaults.{few_crossings-read}
+use Rattle.kh_runs.specs.declared.status.Status.{Status}
+use Rattle.kh_runs.specs.declared.status.Status.TheVariants.{Done}
+use Rattle.kh_runs.specs.Homology.{jones_line}
+use Rattle.kh_runs.specs.Replies.{Reply, reply_of}
+use Rattle.kh_inputs.proofs.TextFaults.{few_crossings-read}
 use Rattle.kh_work.specs.Answer.{IsAnswer}
 use Rattle.kh_work.specs.Reduced.{mark_line}
-use Rattle.kh_replies.specs.Told.{Gives, Seen}
-use Rattle.kh_replies.proofs.RunLemmas.{whole-undisturbed}
-use Rattle.kh_replies.proofs.SourceAnswers.{AnswersSource-known}
+use Rattle.kh_runs.specs.Told.{Gives, Seen}
+use Rattle.kh_runs.proofs.RunLemmas.{whole-undisturbed}
+use Rattle.kh_runs.proofs.SourceAnswers.{AnswersSource-known}
 use Rattle.kh_work.specs.Runs.{IsProgramRun, IsAcceptedText, HasWrittenReduced, KeepsReduced, request_of}
-use Rattle.kh_work.proofs.Headlines.{field-sized}
+use Rattle.prime_field.specs.SmallFields.{field-small_prime}
 use Rattle.kh_work.proofs.OneAnswer.{HaveOneReply-task, IsAnswer-one}
 use Rattle.kh_work.proofs.ReducedAnswers.{IsAnswer-reduced}
 
@@ -61,7 +61,7 @@ written-reduced status before after field mark code reply is_field is_accepted f
     record {
       status = gives.status ∙ ap (λ (r : Reply). r.status) is_reply;
       written = subst (λ (text : List ℕ). Appends before after text) (ap (λ (r : Reply). r.text) is_reply) gives.written;
-      sum = λ exponent. euler-product field code mark exponent (field-sized field is_field) is_accepted few
+      sum = λ exponent. euler-product field code mark exponent (field-small_prime field is_field) is_accepted few
           (IsName-mark code mark marked);
     }
 

@@ -9,10 +9,11 @@ use Rattle.reduced_cube.specs.Reduced.{is_mark, reduced_table}
 use Rattle.word_line.specs.declared.command.Command.{Command}
 use Rattle.word_line.specs.declared.command.Task.{Task}
 use Rattle.word_line.specs.declared.command.Task.TheVariants as tasks
-use Rattle.kh_replies.specs.declared.status.Status.TheVariants.{Done}
-use Rattle.kh_replies.specs.Jones.{jones_line}
-use Rattle.kh_replies.specs.Replies.{Reply, reply_of}
-use Rattle.kh_replies.specs.Refusals.{refused_mark, too_many_generators}
+use Rattle.kh_runs.specs.declared.status.Status.TheVariants.{Done}
+use Rattle.kh_runs.specs.Homology.{jones_line}
+use Rattle.kh_runs.specs.Replies.{Reply, reply_of}
+use Rattle.kh_runs.specs.Refusals.{refused_mark}
+use Rattle.kh_replies.specs.Limits.{too_many_generators}
 use Rattle.kh_work.specs.declared.order.Order.TheVariants as orders
 use Rattle.kh_work.specs.declared.order.CodeOrder.TheVariants.{Reduced}
 use Rattle.kh_work.specs.Orders.{order_for, order_of}

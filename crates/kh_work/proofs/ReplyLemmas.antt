@@ -4,8 +4,8 @@ use Rattle.std.specs.Prelude.{Option}
 use Rattle.std.proofs.lemmas.Grind.{common_steps}
 use Rattle.kh_types.specs.Code.{Code}
 use Rattle.kh_types.specs.Table.{Table, table}
-use Rattle.jones_sum.specs.Tables.{total_of}
-use Rattle.kh_replies.specs.Jones.{jones_line}
+use Rattle.homology_tables.specs.Tables.{total_of}
+use Rattle.kh_runs.specs.Homology.{jones_line}
 use Rattle.undo_stack.specs.declared.schedule.ScheduleLine.{ScheduleLine}
 use Rattle.undo_stack.specs.EditRuns.{edited}
 use Rattle.undo_stack.specs.Histories.{opening_history}
@@ -15,23 +15,24 @@ use Rattle.undo_stack.specs.declared.stop.ScriptStop.{ScriptStop}
 use Rattle.undo_stack.specs.declared.stop.ScriptStop.TheVariants as stops
 use Rattle.circle_smoothing.specs.GeneratorCounts.{generator_count}
 use Rattle.circle_smoothing.specs.declared.limits.TheConstants.{GENERATORS}
-use Rattle.kh_replies.specs.declared.status.Status.TheVariants.{Done}
-use Rattle.kh_replies.specs.Statuses.{IsReplyStatus}
+use Rattle.kh_runs.specs.declared.status.Status.TheVariants.{Done}
+use Rattle.kh_runs.specs.Statuses.{IsReplyStatus}
 use Rattle.braid_maker.specs.Closures.{code_of_number}
 use Rattle.braid_maker.specs.declared.limits.TheConstants.{NUMBERS}
 use Rattle.kh_work.specs.ByteLimits.{byte_limit}
-use Rattle.kh_replies.specs.Replies.{Reply, reply_of}
-use Rattle.kh_replies.specs.Refusals.{too_large_number, too_many_generators}
-use Rattle.kh_replies.specs.Inputs.{IsDiagramRead}
-use Rattle.kh_replies.specs.DiagramReplies.{IsDiagramReply}
-use Rattle.kh_replies.proofs.ReplyStatuses.{diagram_reply-status, status-of}
+use Rattle.kh_runs.specs.Replies.{Reply, reply_of}
+use Rattle.kh_replies.specs.Limits.{too_large_number, too_many_generators}
+use Rattle.kh_inputs.specs.Inputs.{IsDiagramRead}
+use Rattle.kh_inputs.specs.DiagramReplies.{IsDiagramReply}
+use Rattle.kh_inputs.proofs.ReplyStatuses.{diagram_reply-status}
+use Rattle.kh_runs.proofs.StatusLemmas.{status-of}
 use Rattle.kh_work.specs.Schedule.{IsScriptReply, schedule_reply, schedule_text}
 use Rattle.kh_work.specs.Edit.{IsEditedReply, edit_reply, edit_status, edits_in}
 use Rattle.kh_work.specs.Bench.{bench_counts, bench_lines, bench_reply, bench_text}
 use Rattle.kh_work.specs.declared.order.Order.{Order}
 use Rattle.kh_work.specs.declared.order.ScriptOrder.{ScriptOrder}
 use Rattle.kh_work.specs.declared.order.ScriptOrder.TheVariants.{Edit, Schedule}
-use Rattle.kh_replies.specs.LimitedReplies.{IsLimitedReply}
+use Rattle.kh_runs.specs.LimitedReplies.{IsLimitedReply}
 use Rattle.kh_work.specs.Answer.{IsInputReply, IsOrderReply, IsScriptedReply}
 
 -- a diagram that is read is answered, and a refusal is its own answer

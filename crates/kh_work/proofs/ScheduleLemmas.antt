@@ -12,8 +12,7 @@ use Rattle.kh_types.specs.Code.{Code}
 use Rattle.kh_types.specs.Table.{Table, table, table_text}
 use Rattle.commit_core.specs.declared.answer.Answer.{Answer}
 use Rattle.commit_core.specs.Answering.{answers}
-use Rattle.kh_replies.specs.Jones.{jones_line}
-use Rattle.kh_work.specs.Homology.{homology_text}
+use Rattle.kh_runs.specs.Homology.{jones_line, homology_text}
 use Rattle.kh_work.specs.Schedule.{answer_lines, event_of, events_of, schedule_text}
 
 -- the worker of an event is one that there is

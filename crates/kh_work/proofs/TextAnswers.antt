@@ -13,13 +13,15 @@ use Rattle.word_line.specs.declared.command.Task.TheVariants.{Check, Convert}
 use Rattle.word_line.specs.Commands.{IsCommand}
 use Rattle.kh_replies.specs.Check.{check_reply}
 use Rattle.kh_replies.specs.Convert.{convert_reply}
-use Rattle.kh_replies.specs.declared.status.Status.TheVariants.{Done}
-use Rattle.kh_replies.specs.Inputs.{IsCodeRead}
-use Rattle.kh_replies.specs.Replies.{Reply, reply_of}
-use Rattle.kh_replies.proofs.ReadCodes.{IsCodeRead-printed, four_slots-read}
-use Rattle.kh_replies.proofs.TextFaults.{few_crossings-read, few_loops-read}
+use Rattle.kh_runs.specs.declared.status.Status.TheVariants.{Done}
+use Rattle.kh_inputs.specs.Inputs.{IsCodeRead}
+use Rattle.kh_runs.specs.Replies.{Reply, reply_of}
+use Rattle.kh_work.proofs.PrintedReadings.{IsCodeRead-printed}
+use Rattle.kh_inputs.proofs.ReadCodes.{four_slots-read}
+use Rattle.kh_inputs.proofs.TextFaults.{few_crossings-read, few_loops-read}
 use Rattle.kh_work.specs.Answer.{IsAnswer}
-use Rattle.kh_work.proofs.AnswerLemmas.{answer-task, first_fault-accepted}
+use Rattle.kh_work.proofs.AnswerLemmas.{answer-task}
+use Rattle.kh_inputs.proofs.DiagramReadings.{first_fault-accepted}
 use Rattle.kh_work.proofs.OneAnswer.{HaveOneReply-task, IsAnswer-one}
 
 pub IsAnswer-counts : (words : List (List ℕ)) (bytes : List ℕ) (command : Command) (code : Code) → IsCommand words command

@@ -12,13 +12,14 @@ use Rattle.pd_code.specs.Printing.{pd_text}
 use Rattle.word_line.specs.declared.command.Command.{Command}
 use Rattle.word_line.specs.declared.command.Task.TheVariants.{Draw, Mirror, Reverse, Union}
 use Rattle.word_line.specs.Commands.{IsCommand}
-use Rattle.kh_replies.specs.declared.status.Status.TheVariants.{Done}
-use Rattle.kh_replies.specs.Inputs.{IsCodeRead, IsDiagramRead}
-use Rattle.kh_replies.specs.Parts.{code_part, part_behind}
-use Rattle.kh_replies.specs.Replies.{Reply, reply_of}
+use Rattle.kh_runs.specs.declared.status.Status.TheVariants.{Done}
+use Rattle.kh_inputs.specs.Inputs.{IsCodeRead, IsDiagramRead}
+use Rattle.kh_inputs.specs.Parts.{code_part, part_behind}
+use Rattle.kh_runs.specs.Replies.{Reply, reply_of}
 use Rattle.kh_replies.specs.Union.{union_reply}
 use Rattle.kh_work.specs.Answer.{IsAnswer}
-use Rattle.kh_work.proofs.AnswerLemmas.{answer-task, first_fault-accepted}
+use Rattle.kh_work.proofs.AnswerLemmas.{answer-task}
+use Rattle.kh_inputs.proofs.DiagramReadings.{first_fault-accepted}
 use Rattle.kh_work.proofs.ReplyLemmas.{cond-false, less-false}
 
 pub IsAnswer-drawing : (words : List (List ℕ)) (bytes : List ℕ) (command : Command) (code : Code) → IsCommand words command

@@ -7,9 +7,10 @@ use Rattle.cancel_log.specs.declared.stop.LogStop.{LogStop}
 use Rattle.cancel_log.specs.declared.stop.LogStop.TheVariants.{Line, SizeLimit, NoMemory}
 use Rattle.cancel_log.proofs.WholeLogs.{verdict-lines}
 use Rattle.cancel_log.proofs.OneVerdict.{IsVerdict-one, IsVerdict-some}
-use Rattle.kh_replies.specs.Replies.{Reply, reply_of}
-use Rattle.kh_replies.specs.Refusals.{refused_log_line, too_many_generators}
-use Rattle.kh_replies.specs.declared.status.Status.TheVariants.{Done}
+use Rattle.kh_runs.specs.Replies.{Reply, reply_of}
+use Rattle.kh_runs.specs.Refusals.{refused_log_line}
+use Rattle.kh_replies.specs.Limits.{too_many_generators}
+use Rattle.kh_runs.specs.declared.status.Status.TheVariants.{Done}
 use Rattle.kh_work.specs.Verify.{IsVerdictReply, IsVerifyReply, cause_word, verified_text}
 
 -- what a log comes to is answered once

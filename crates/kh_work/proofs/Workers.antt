@@ -8,8 +8,8 @@ use Rattle.word_line.specs.Commands.{IsCommand}
 use Rattle.word_line.proofs.Readings.{IsCommand-one}
 use Rattle.kh_types.specs.declared.limits.TheConstants.{INPUT_BYTES}
 use Rattle.kh_work.specs.Orders.{order_for}
-use Rattle.kh_replies.specs.Replies.{Reply}
-use Rattle.kh_replies.specs.LimitedReplies.{IsLimitedReply}
+use Rattle.kh_runs.specs.Replies.{Reply}
+use Rattle.kh_runs.specs.LimitedReplies.{IsLimitedReply}
 use Rattle.kh_work.specs.Answer.{IsAnswer, IsCommandReply, IsInputReply, IsOrderReply}
 
 -- the command with another number of workers

@@ -1,22 +1,21 @@
 -- What a run answers: a relation between words, the bytes of an input, and a reply. A law says that words and bytes have exactly one
 -- reply, unless the words mean `certify`: an input that this does not refuse is answered by any log of its diagram that can be verified.
--- All of it is this project's rule.
 use Rattle.std.specs.Prelude.{◌≡◌, ◌≢◌, ◌⊎◌, ℕ, List, Some, None}
 use Rattle.kh_types.specs.Code.{Code}
 use Rattle.word_line.specs.declared.command.Task.TheVariants as tasks
 use Rattle.word_line.specs.declared.command.Command.{Command}
 use Rattle.word_line.specs.Commands.{IsCommand, IsUsage}
-use Rattle.kh_replies.specs.Replies.{Reply}
-use Rattle.kh_replies.specs.Refusals.{usage}
-use Rattle.kh_replies.specs.LimitedReplies.{IsLimitedReply}
-use Rattle.kh_replies.specs.Parts.{code_part, part_behind}
-use Rattle.kh_replies.specs.DiagramReplies.{IsDiagramReply}
+use Rattle.kh_runs.specs.Replies.{Reply}
+use Rattle.kh_runs.specs.Refusals.{usage}
+use Rattle.kh_runs.specs.LimitedReplies.{IsLimitedReply}
+use Rattle.kh_inputs.specs.Parts.{code_part, part_behind}
+use Rattle.kh_inputs.specs.DiagramReplies.{IsDiagramReply}
 use Rattle.kh_replies.specs.Convert.{convert_reply}
 use Rattle.kh_replies.specs.Check.{check_reply}
 use Rattle.kh_replies.specs.Draw.{draw_reply}
 use Rattle.kh_replies.specs.Jones.{jones_reply}
 use Rattle.kh_replies.specs.Turns.{mirror_reply, reverse_reply}
-use Rattle.kh_replies.specs.Union.{IsUnionReply}
+use Rattle.kh_work.specs.Union.{IsUnionReply}
 use Rattle.kh_work.specs.ByteLimits.{byte_limit}
 use Rattle.kh_work.specs.Certify.{IsCertifyReply}
 use Rattle.kh_work.specs.Homology.{homology_reply}

@@ -1,16 +1,16 @@
--- The reply of the command `bench` to a number. All of it is this project's rule.
+-- The reply of the command `bench` to a number.
 use Rattle.std.specs.Prelude.{ℕ, List, ◌++◌, codes, length, nat_lt, if◌then◌else◌}
 use Rattle.std.specs.Fmt.{decimal}
 use Rattle.kh_types.specs.Code.{Code}
 use Rattle.kh_types.specs.Table.{table}
 use Rattle.circle_smoothing.specs.GeneratorCounts.{generator_count}
-use Rattle.jones_sum.specs.Tables.{total_of}
+use Rattle.homology_tables.specs.Tables.{total_of}
 use Rattle.braid_maker.specs.Closures.{code_of_number}
 use Rattle.braid_maker.specs.declared.limits.TheConstants.{NUMBERS}
-use Rattle.kh_replies.specs.declared.status.Status.TheVariants.{Done}
-use Rattle.kh_replies.specs.Replies.{Reply, reply_of}
-use Rattle.kh_replies.specs.Refusals.{too_large_number}
-use Rattle.kh_replies.specs.Jones.{jones_line}
+use Rattle.kh_runs.specs.declared.status.Status.TheVariants.{Done}
+use Rattle.kh_runs.specs.Replies.{Reply, reply_of}
+use Rattle.kh_replies.specs.Limits.{too_large_number}
+use Rattle.kh_runs.specs.Homology.{jones_line}
 use Rattle.kh_work.specs.declared.commands.bench.BenchCounts.{BenchCounts}
 
 -- a number, how many crossings, loops and generators a diagram has, and a dimension

@@ -1,4 +1,4 @@
--- How many bytes an order reads. All of it is this project's rule.
+-- How many bytes an order reads.
 use Rattle.std.specs.Prelude.{ℕ, ◌≤◌, List, length, IfSome, Option, None, Some}
 use Rattle.kh_types.specs.declared.limits.TheConstants.{INPUT_BYTES}
 use Rattle.cancel_log.specs.declared.limits.TheConstants.{LOG_BYTES}

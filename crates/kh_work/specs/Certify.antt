@@ -6,9 +6,9 @@ use Rattle.circle_smoothing.specs.GeneratorCounts.{generator_count}
 use Rattle.circle_smoothing.specs.declared.limits.TheConstants.{GENERATORS}
 use Rattle.cancel_log.specs.Verdicts.{IsLog}
 use Rattle.cancel_log.specs.declared.limits.TheConstants.{LOG_BYTES}
-use Rattle.kh_replies.specs.declared.status.Status.TheVariants.{Done}
-use Rattle.kh_replies.specs.Replies.{Reply}
-use Rattle.kh_replies.specs.Refusals.{too_many_generators}
+use Rattle.kh_runs.specs.declared.status.Status.TheVariants.{Done}
+use Rattle.kh_runs.specs.Replies.{Reply}
+use Rattle.kh_replies.specs.Limits.{too_many_generators}
 
 -- a reply is a log of a diagram over the field of so many elements, short enough to be verified
 pub record IsCertificate (field : ℕ) (code : Code) (reply : Reply) : Type 0 where

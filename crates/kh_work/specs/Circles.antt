@@ -6,8 +6,8 @@ use Rattle.std.specs.Ordering.{int_eq}
 use Rattle.kh_types.specs.Code.{Code}
 use Rattle.kh_types.specs.Table.{Row, Table, from_minus, table}
 use Rattle.kh_types.specs.declared.limits.TheConstants.{EXPONENT}
-use Rattle.jones_sum.specs.DegreeRows.{rows_with}
-use Rattle.jones_sum.specs.Tables.{dim_at}
+use Rattle.homology_tables.specs.DegreeRows.{rows_with}
+use Rattle.homology_tables.specs.Tables.{dim_at}
 use Rattle.union_laws.specs.Loops.{with_loops}
 
 -- the rows of a quantum degree

@@ -1,10 +1,10 @@
--- Drafts of replies: what a reply is to be made of, where its homology table is still to be made. All of it is this project's rule.
+-- Drafts of replies: what a reply is to be made of, where its homology table is still to be made.
 use Rattle.kh_work.specs.declared.draft.Draft.{Draft}
 use Rattle.kh_work.specs.declared.draft.Draft.TheVariants.{Bench, Made, Table}
-use Rattle.kh_replies.specs.declared.status.Status.TheVariants.{Done}
+use Rattle.kh_runs.specs.declared.status.Status.TheVariants.{Done}
 use Rattle.word_line.specs.Values.{AreWorkers}
-use Rattle.kh_replies.specs.Replies.{Reply, reply_of}
-use Rattle.kh_work.specs.Homology.{homology_text}
+use Rattle.kh_runs.specs.Replies.{Reply, reply_of}
+use Rattle.kh_runs.specs.Homology.{homology_text}
 use Rattle.kh_work.specs.Bench.{bench_text}
 
 -- the reply that a draft is of

@@ -1,5 +1,5 @@
 -- The reply of the command `edit` to a diagram and a script: the diagram after each line that is done, and the reason where a line is
--- refused. All of it is this project's rule.
+-- refused.
 use Rattle.std.specs.Prelude.{◌≡◌, ℕ, ◌+◌, List, [], ◌++◌, codes, get_or, map, Option, None, Some, Result, Ok, Err}
 use Rattle.std.specs.Fmt.{decimal}
 use Rattle.std.specs.List.{flat_map, range_with_len}
@@ -17,10 +17,10 @@ use Rattle.undo_stack.specs.declared.edit_run.EditFault.TheVariants.{Change, Not
 use Rattle.undo_stack.specs.declared.limits.TheConstants.{SCRIPT_LINES}
 use Rattle.undo_stack.specs.declared.stop.ScriptStop.{ScriptStop}
 use Rattle.undo_stack.specs.declared.stop.ScriptStop.TheVariants as stops
-use Rattle.kh_replies.specs.declared.status.Status.{Status}
-use Rattle.kh_replies.specs.declared.status.Status.TheVariants.{Done, MoveRefused}
-use Rattle.kh_replies.specs.Replies.{Reply, reply_of}
-use Rattle.kh_replies.specs.Refusals.{refused_line, too_many_lines}
+use Rattle.kh_runs.specs.declared.status.Status.{Status}
+use Rattle.kh_runs.specs.declared.status.Status.TheVariants.{Done, MoveRefused}
+use Rattle.kh_runs.specs.Replies.{Reply, reply_of}
+use Rattle.kh_runs.specs.Refusals.{refused_line, too_many_lines}
 
 -- why a move is not made, in words
 abbrev pub move_refusal : MoveFault → List ℕ

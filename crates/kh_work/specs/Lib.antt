@@ -1,5 +1,6 @@
 pub mod Homology
 pub mod Reduced
+pub mod Union
 pub mod Schedule
 pub mod Edit
 pub mod Bench

@@ -1,4 +1,4 @@
--- What a command orders: what is to be done, with all that it needs. All of it is this project's rule.
+-- What a command orders: what is to be done, with all that it needs.
 use Rattle.std.specs.Prelude.{unwrap_or}
 use Rattle.word_line.specs.declared.command.Command.{Command}
 use Rattle.word_line.specs.declared.command.Task.{Task}

@@ -6,10 +6,11 @@ use Rattle.kh_types.specs.Table.{table_text}
 use Rattle.circle_smoothing.specs.GeneratorCounts.{generator_count}
 use Rattle.circle_smoothing.specs.declared.limits.TheConstants.{GENERATORS}
 use Rattle.reduced_cube.specs.Reduced.{is_mark, reduced_table}
-use Rattle.kh_replies.specs.declared.status.Status.TheVariants.{Done}
-use Rattle.kh_replies.specs.Replies.{Reply, reply_of}
-use Rattle.kh_replies.specs.Refusals.{refused_mark, too_many_generators}
-use Rattle.kh_replies.specs.Jones.{jones_line}
+use Rattle.kh_runs.specs.declared.status.Status.TheVariants.{Done}
+use Rattle.kh_runs.specs.Replies.{Reply, reply_of}
+use Rattle.kh_runs.specs.Refusals.{refused_mark}
+use Rattle.kh_replies.specs.Limits.{too_many_generators}
+use Rattle.kh_runs.specs.Homology.{jones_line}
 
 -- the line of a mark
 abbrev pub mark_line : ℕ → List ℕ

@@ -1,4 +1,4 @@
--- The promises of a run of `kh`. All of it is this project's rule.
+-- The promises of a run of `kh`.
 use Rattle.std.specs.Prelude.{◌≡◌, ℕ, ℤ, pos, ◌+ℤ◌, ◌-ℤ◌, ◌≤◌, List, ◌++◌, Some, true}
 use Rattle.std.specs.declared.option.Option.{Option}
 use Rattle.std.specs.Io.KnownBytes.{Appends}
@@ -11,12 +11,13 @@ use Rattle.reduced_cube.specs.Reduced.{is_mark, reduced_table}
 use Rattle.word_line.specs.declared.command.Command.{Command}
 use Rattle.word_line.specs.declared.command.Task.TheVariants.{Homology, Reduced}
 use Rattle.word_line.specs.Commands.{IsCommand, IsUsage}
-use Rattle.kh_replies.specs.declared.status.Status.{Status}
-use Rattle.kh_replies.specs.declared.status.Status.TheVariants.{Done}
-use Rattle.kh_replies.specs.Inputs.{IsDiagramText}
-use Rattle.kh_replies.specs.Replies.{Reply}
-use Rattle.kh_replies.specs.Runs.{IsBlind, IsRun, Request}
-use Rattle.kh_replies.specs.Told.{IsUndisturbed, Seen}
+use Rattle.kh_runs.specs.declared.status.Status.{Status}
+use Rattle.kh_runs.specs.declared.status.Status.TheVariants.{Done}
+use Rattle.kh_inputs.specs.Inputs.{IsDiagramText}
+use Rattle.kh_runs.specs.Homology.{HasWrittenHomology}
+use Rattle.kh_runs.specs.Replies.{Reply}
+use Rattle.kh_runs.specs.Runs.{IsBlind, IsRun, Request}
+use Rattle.kh_runs.specs.Told.{IsUndisturbed, Seen}
 use Rattle.kh_work.specs.Answer.{IsAnswer, ReadsNothing, ReadsUpTo}
 use Rattle.kh_work.specs.Reduced.{mark_line}
 
@@ -37,13 +38,6 @@ request_of words = record {
 abbrev pub IsProgramRun : List (List ℕ) → Seen → Seen → Seen → Seen → Type 0 → Type 0 → Status → Type 0
 IsProgramRun words source_before source_after sink_before sink_after same_source same_sink status =
     IsRun (request_of words) source_before source_after sink_before sink_after same_source same_sink status
-
--- a run has ended as done, and a sink has gained the homology table of a code over the field of p elements and the Jones line of its
--- state sum, which is the graded Euler characteristic of that table, and nothing else
-pub record HasWrittenHomology (p : ℕ) (code : Code) (ended : Status) (before after : Option (List ℕ)) : Type 0 where
-  pub status : ended ≡ Done
-  pub written : Appends before after (table_text (table p code) ++ polynomial_text (state_sum code))
-  pub sum : (exponent : ℤ) → state_sum code exponent ≡ euler (table p code) exponent
 
 -- the bytes of an input are the text of the code of an accepted diagram within the limits
 pub record IsAcceptedText (bytes : List ℕ) (code : Code) : Type 0 where

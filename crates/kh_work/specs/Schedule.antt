@@ -1,5 +1,5 @@
 -- The reply of the command `schedule` to a diagram and a script: what the core answers to each line, and then the text of
--- `homology`. All of it is this project's rule.
+-- `homology`.
 use Rattle.std.specs.Prelude.{◌≡◌, ℕ, List, ◌++◌, codes, map, nat_lt, if◌then◌else◌, Result, Ok, Err}
 use Rattle.std.specs.Fmt.{decimal}
 use Rattle.std.specs.List.{flat_map, zip}
@@ -18,10 +18,11 @@ use Rattle.commit_core.specs.declared.event.Event.{Event}
 use Rattle.commit_core.specs.declared.event.Event.TheVariants as events
 use Rattle.commit_core.specs.declared.answer.Answer.{Answer}
 use Rattle.commit_core.specs.declared.answer.Answer.TheVariants.{Looked, Zero, Committed, Stale, Idle, Forgot, NoBlock}
-use Rattle.kh_replies.specs.declared.status.Status.TheVariants.{Done}
-use Rattle.kh_replies.specs.Replies.{Reply, reply_of}
-use Rattle.kh_replies.specs.Refusals.{refused_line, too_many_generators, too_many_lines}
-use Rattle.kh_work.specs.Homology.{homology_text}
+use Rattle.kh_runs.specs.declared.status.Status.TheVariants.{Done}
+use Rattle.kh_runs.specs.Replies.{Reply, reply_of}
+use Rattle.kh_runs.specs.Refusals.{refused_line, too_many_lines}
+use Rattle.kh_replies.specs.Limits.{too_many_generators}
+use Rattle.kh_runs.specs.Homology.{homology_text}
 
 -- what a line lets its worker do; a look has the hint 0
 abbrev pub event_of : ScheduleLine → Event

@@ -1,8 +1,8 @@
--- Which replies answer words and orders over a source, some of whose bytes may not be known. All of it is this project's rule.
+-- Which replies answer words and orders over a source, some of whose bytes may not be known.
 use Rattle.std.specs.Prelude.{ℕ, List}
 use Rattle.std.specs.declared.option.Option.{Option}
-use Rattle.kh_replies.specs.Replies.{Reply}
-use Rattle.kh_replies.specs.Runs.{AnswersSource}
+use Rattle.kh_runs.specs.Replies.{Reply}
+use Rattle.kh_runs.specs.Runs.{AnswersSource}
 use Rattle.kh_work.specs.Answer.{IsAnswer, IsInputReply}
 use Rattle.kh_work.specs.declared.order.Order.{Order}
 

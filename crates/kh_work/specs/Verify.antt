@@ -1,4 +1,4 @@
--- The reply of the command `verify` to the text of a log of cancellations. All of it is this project's rule.
+-- The reply of the command `verify` to the text of a log of cancellations.
 use Rattle.std.specs.Prelude.{◌≡◌, ℕ, List, ◌++◌, codes, Result, Ok, Err}
 use Rattle.kh_types.specs.Table.{Table, table_text}
 use Rattle.cancel_log.specs.Verdicts.{IsVerdict}
@@ -6,9 +6,10 @@ use Rattle.cancel_log.specs.declared.cause.LogCause.{LogCause}
 use Rattle.cancel_log.specs.declared.cause.LogCause.TheVariants as causes
 use Rattle.cancel_log.specs.declared.stop.LogStop.{LogStop}
 use Rattle.cancel_log.specs.declared.stop.LogStop.TheVariants.{Line, SizeLimit, NoMemory}
-use Rattle.kh_replies.specs.declared.status.Status.TheVariants.{Done}
-use Rattle.kh_replies.specs.Replies.{Reply, reply_of}
-use Rattle.kh_replies.specs.Refusals.{refused_log_line, too_many_generators}
+use Rattle.kh_runs.specs.declared.status.Status.TheVariants.{Done}
+use Rattle.kh_runs.specs.Replies.{Reply, reply_of}
+use Rattle.kh_runs.specs.Refusals.{refused_log_line}
+use Rattle.kh_replies.specs.Limits.{too_many_generators}
 
 -- the word of a cause
 abbrev pub cause_word : LogCause → List ℕ

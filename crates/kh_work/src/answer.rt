@@ -2,10 +2,10 @@
 
 ghost use Rattle.std.specs.Prelude.{◌≡◌, ◌≢◌, ◌≤◌, ℕ, length, IfOk, None, OnOk, Some, Err};
 ghost use Rattle.kh_io.specs.Faults.{Rose};
-ghost use Rattle.kh_replies.specs.Statuses.{IsReplyStatus, IsWhole};
-ghost use Rattle.kh_replies.specs.DiagramReplies.{IsDiagramReply};
-ghost use Rattle.kh_replies.specs.Told.{IsReadOut, IsTaken};
-ghost use Rattle.kh_replies.specs.Union.{IsUnionReply};
+ghost use Rattle.kh_runs.specs.Statuses.{IsReplyStatus, IsWhole};
+ghost use Rattle.kh_inputs.specs.DiagramReplies.{IsDiagramReply};
+ghost use Rattle.kh_runs.specs.Told.{IsReadOut, IsTaken};
+ghost use Rattle.kh_work.specs.Union.{IsUnionReply};
 ghost use Rattle.kh_work.specs.Answer.{IsBlindReply, IsCodeReply, IsInputReply, IsScriptedReply, ReadsNothing, ReadsUpTo};
 ghost use Rattle.kh_work.specs.ByteLimits.{AreWithin, byte_limit};
 ghost use Rattle.kh_work.specs.Drafts.{AwaitsWorkers, reply_in};
@@ -18,22 +18,23 @@ ghost use Rattle.word_line.specs.Commands.{IsUsage};
 use crate::byte_limits::byte_limit;
 use crate::commands::{
     draft_of_bench, draft_of_homology, reply_to_certify, reply_to_edit, reply_to_reduced,
-    reply_to_schedule, reply_to_verify,
+    reply_to_schedule, reply_to_union, reply_to_verify,
 };
 use crate::draft::Draft;
 use crate::order::{CodeOrder, Order, ScriptOrder, order_of};
+use kh_inputs::{InputStop, code_part, part_behind, read_diagram};
 use kh_io::Source;
 use kh_replies::{
-    Input, InputStop, Reply, ReplyStop, Status, code_part, part_behind, read_diagram, read_input,
     reply_to_check, reply_to_convert, reply_to_draw, reply_to_jones, reply_to_mirror,
-    reply_to_reverse, reply_to_union, usage,
+    reply_to_reverse,
 };
+use kh_runs::{Input, Reply, ReplyStop, Status, read_input, usage};
 use kh_types::{Diagram, NoMemory, Words};
 use std::alloc::Global;
 use word_line::{WordStop, read_words};
 
 /// A draft of the reply to words and a source, which is read where the words mean a command that
-/// reads. Source: this project's rule.
+/// reads.
 pub fn draft_to<S: Source>(alloc: Global, words: &Words, source: &mut S) -> Result<Draft, ReplyStop>
     ensures answered { IfOk result (λ draft.
         AnswersWords words.now (S.left source.old) (reply_in draft)) }

@@ -7,8 +7,7 @@ use crate::order::Order;
 use cancel_log::LOG_BYTES;
 use kh_types::INPUT_BYTES;
 
-/// The most bytes of what is read; none is for an order that reads nothing. Source: this project's
-/// rule.
+/// The most bytes of what is read; none is for an order that reads nothing.
 pub fn byte_limit(order: Order) -> Option<u32>
     ensures { result ≡ byte_limit order }
 {

@@ -5,8 +5,8 @@ ghost use Rattle.std.specs.List.{All, find};
 ghost use Rattle.std.specs.Ordering.{int_eq};
 ghost use Rattle.circle_smoothing.specs.GeneratorCounts.{generator_count};
 ghost use Rattle.circle_smoothing.specs.declared.limits.TheConstants.{GENERATORS};
-ghost use Rattle.jones_sum.specs.DegreeRows.{row_with, rows_with};
-ghost use Rattle.jones_sum.specs.Tables.{IsRow, IsTable};
+ghost use Rattle.homology_tables.specs.DegreeRows.{row_with, rows_with};
+ghost use Rattle.homology_tables.specs.Tables.{IsRow, IsTable};
 ghost use Rattle.kh_types.specs.CircleNumbers.{IsName};
 ghost use Rattle.kh_types.specs.Table.{table};
 ghost use Rattle.kh_types.specs.declared.limits.TheConstants.{CROSSINGS, EXPONENT};
@@ -14,7 +14,7 @@ ghost use Rattle.kh_work.specs.Circles.{beside_circle, dim_of, dims_beside, dims
 ghost use Rattle.reduced_cube.specs.Reduced.{reduced_table};
 ghost use Rattle.union_laws.specs.Loops.{with_loops};
 
-use jones_sum::{Row, Table, push_row, table_laws};
+use homology_tables::{Row, Table, push_row, table_laws};
 use kh_types::laws::diagrams::diagram_laws;
 use kh_types::{Diagram, EXPONENT, NoMemory};
 use prime_field::PrimeField;
@@ -113,7 +113,7 @@ fn rows_of(alloc: Global, rows: &[Row], j: i16) -> Result<Vec<Row>, NoMemory>
 }
 
 /// Adds the rows of a quantum degree whose dimensions are the sums of those at two others.
-#[tactic(auto, using(jones_sum::proofs::DegreeRows::steps))]
+#[tactic(auto, using(homology_tables::proofs::DegreeRows::steps))]
 fn push_sums(
     rows: &mut Vec<Row>,
     lower: &[Row],
@@ -134,7 +134,7 @@ fn push_sums(
 }
 
 /// The row of a homological degree, counted from the least, with the sum of two dimensions.
-#[tactic(auto, using(jones_sum::proofs::DegreeRows::rows, crate::proofs::CircleRows::few_rows))]
+#[tactic(auto, using(homology_tables::proofs::DegreeRows::rows, crate::proofs::CircleRows::few_rows))]
 fn row_of(lower: &[Row], upper: &[Row], j: i16, reach: u8, k: u8) -> Row
     requires reach { reach ≤ CROSSINGS }
     requires degree { k < 2 * reach + 1 }

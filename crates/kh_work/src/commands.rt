@@ -1,4 +1,4 @@
-//! The commands that need the cube or the editor, each from a diagram to its reply.
+//! The commands that need the cube, the editor or a second code, each from a diagram to its reply.
 
 mod bench;
 mod certify;
@@ -7,6 +7,7 @@ mod edit_refusals;
 mod homology;
 mod reduced;
 mod schedule;
+mod union;
 mod verify;
 
 pub use bench::{draft_of_bench, reply_with_dimension};
@@ -15,4 +16,5 @@ pub use edit::reply_to_edit;
 pub use homology::{draft_of_homology, reply_with_table, text_with_table};
 pub use reduced::reply_to_reduced;
 pub use schedule::reply_to_schedule;
+pub use union::reply_to_union;
 pub use verify::reply_to_verify;

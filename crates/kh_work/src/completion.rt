@@ -6,15 +6,15 @@ ghost use Rattle.kh_work.specs.Drafts.{AwaitsWorkers, reply_in};
 use crate::commands::{reply_with_dimension, reply_with_table};
 use crate::draft::Draft;
 use crate::tables::{table_alone, table_by};
-use kh_replies::Reply;
+use kh_runs::Reply;
 use kh_types::NoMemory;
 use std::alloc::Global;
 use std::sync::Wait;
 use std::thread::Threads;
 use worker_pool::Gate;
 
-/// The reply of a draft, with no other thread. Source: this project's rule.
-#[tactic(auto, unfolding(crate::specs::Homology::homology_text))]
+/// The reply of a draft, with no other thread.
+#[tactic(auto, unfolding(kh_runs::specs::Homology::homology_text))]
 pub fn completed_alone(alloc: Global, draft: Draft) -> Result<Reply, NoMemory>
     ensures { IfOk result (λ reply. reply ≡ reply_in draft) }
 {
@@ -36,9 +36,8 @@ pub fn completed_alone(alloc: Global, draft: Draft) -> Result<Reply, NoMemory>
     }
 }
 
-/// The reply of a draft, with as many workers as it asks for, which call a gate. Source: this
-/// project's rule.
-#[tactic(auto, unfolding(crate::specs::Homology::homology_text))]
+/// The reply of a draft, with as many workers as it asks for, which call a gate.
+#[tactic(auto, unfolding(kh_runs::specs::Homology::homology_text))]
 pub fn completed_by<R: Threads + Wait + Sync, G: Gate + Sync>(
     rt: &R,
     alloc: Global,

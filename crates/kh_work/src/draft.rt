@@ -1,10 +1,10 @@
 //! Drafts of replies.
 
 use cube_signs::SmallDiagram;
-use kh_replies::Reply;
+use kh_runs::Reply;
 use prime_field::FieldSize;
 
-/// A reply, or what it is to be made of. Source: this project's rule.
+/// A reply, or what it is to be made of.
 #[derive(Drop)]
 pub enum Draft {
     /// The reply is made.

@@ -1,6 +1,7 @@
 //! Laws of the definitions: each is the contract of a function that does nothing.
 
 pub mod cases;
+pub mod printed;
 
 ghost use Rattle.std.specs.Prelude.{◌≡◌, ◌≢◌, ◌<◌, ◌≤◌, ◌++◌, ℕ, List, [], codes, length};
 ghost use Rattle.std.specs.Prelude.{Err, IsTrue, Ok, Some, false, true};
@@ -22,12 +23,12 @@ ghost use Rattle.kh_types.specs.declared.limits.TheConstants.{CROSSINGS, INPUT_B
 ghost use Rattle.word_line.specs.declared.command.Command.{Command};
 ghost use Rattle.word_line.specs.declared.command.Form.{Form};
 ghost use Rattle.word_line.specs.declared.command.Task.{Task};
-ghost use Rattle.kh_replies.specs.declared.status.Status.{Status};
-ghost use Rattle.kh_replies.specs.Replies.{Reply, reply_of};
-ghost use Rattle.kh_replies.specs.Inputs.{IsCodeRead, IsDiagramRead};
-ghost use Rattle.kh_replies.specs.Jones.{jones_line};
+ghost use Rattle.kh_runs.specs.declared.status.Status.{Status};
+ghost use Rattle.kh_runs.specs.Replies.{Reply, reply_of};
+ghost use Rattle.kh_inputs.specs.Inputs.{IsCodeRead, IsDiagramRead};
+ghost use Rattle.kh_runs.specs.Homology.{jones_line};
 ghost use Rattle.kh_replies.specs.Union.{union_reply};
-ghost use Rattle.kh_replies.specs.Parts.{code_part, part_behind};
+ghost use Rattle.kh_inputs.specs.Parts.{code_part, part_behind};
 ghost use Rattle.word_line.specs.Commands.{IsCommand};
 ghost use Rattle.word_line.specs.Values.{IsFieldSize};
 ghost use Rattle.kh_work.specs.Schedule.{answer_lines, events_of};
@@ -36,8 +37,9 @@ ghost use Rattle.kh_work.specs.Edit.{edits_in, outcome_reply};
 ghost use Rattle.kh_work.specs.Answer.{HaveOneReply, IsAnswer};
 ghost use Rattle.kh_work.specs.Certify.{IsCertificate};
 ghost use Rattle.kh_work.specs.Bench.{bench_counts, bench_lines};
-ghost use Rattle.kh_replies.specs.Refusals.{refused_mark, too_large_number};
-ghost use Rattle.jones_sum.specs.Tables.{total_of};
+ghost use Rattle.kh_runs.specs.Refusals.{refused_mark};
+ghost use Rattle.kh_replies.specs.Limits.{too_large_number};
+ghost use Rattle.homology_tables.specs.Tables.{total_of};
 ghost use Rattle.braid_maker.specs.Closures.{code_of_number};
 ghost use Rattle.braid_maker.specs.declared.limits.TheConstants.{NUMBERS};
 ghost use Rattle.kh_types.specs.declared.limits.TheConstants.{WORKERS};

@@ -1,5 +1,5 @@
-//! The one call that does all that the program does: from words and bytes to a status and the bytes
-//! to write.
+//! What a command orders, the replies that need a cube or the editor, and the one call that does
+//! all that the program does: from words and bytes to a status and the bytes to write.
 #![tactic(auto)]
 
 mod answer;
@@ -13,7 +13,7 @@ mod order;
 mod tables;
 mod top;
 
-pub use kh_replies::Status;
+pub use kh_runs::Status;
 pub use laws::{
     accepted_diagrams_are_answered_by_their_counts,
     accepted_diagrams_are_answered_by_their_drawing, accepted_diagrams_are_answered_by_their_edit,

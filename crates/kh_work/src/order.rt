@@ -7,7 +7,7 @@ ghost use Rattle.word_line.specs.Values.{AreWorkers};
 use prime_field::FieldSize;
 use word_line::{Command, Form, Task};
 
-/// What is to be done, by what is read for it, with all that it needs. Source: this project's rule.
+/// What is to be done, by what is read for it, with all that it needs.
 #[derive(Clone, Copy)]
 pub enum Order {
     /// A code is read, and this is written of its diagram.
@@ -29,7 +29,7 @@ pub enum Order {
     },
 }
 
-/// What is written of a diagram. Source: this project's rule.
+/// What is written of a diagram.
 #[derive(Clone, Copy)]
 pub enum CodeOrder {
     /// The homology table, and the Jones polynomial.
@@ -52,7 +52,7 @@ pub enum CodeOrder {
     Reverse,
 }
 
-/// What is written of a diagram and a script. Source: this project's rule.
+/// What is written of a diagram and a script.
 #[derive(Clone, Copy)]
 pub enum ScriptOrder {
     /// The diagram after each line.
@@ -62,7 +62,7 @@ pub enum ScriptOrder {
 }
 
 /// What a command orders. Where it lacks the number or the mark that its task needs 0 stands for
-/// it, but no words mean such a command. Source: this project's rule.
+/// it, but no words mean such a command.
 pub fn order_of(command: Command) -> Order
     ensures order { result ≡ order_of command }
     ensures workers { AreWorkers command.workers → HasWorkers result }

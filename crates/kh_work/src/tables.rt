@@ -8,15 +8,16 @@ ghost use Rattle.word_line.specs.Values.{AreWorkers};
 use crate::circles::{beside_loops, of_reduced};
 use circle_smoothing::CountedDiagram;
 use cube_signs::SmallDiagram;
-use jones_sum::Table;
+use homology_tables::Table;
 use kh_types::laws::diagrams::diagram_laws;
 use kh_types::{Diagram, NoMemory, RawCode};
 use prime_field::{FieldSize, PrimeField, over_field};
 use reduced_cube::{ReducedStop, reduced_table};
+use shared_block::small_table;
 use std::alloc::Global;
 use std::sync::Wait;
 use std::thread::Threads;
-use worker_pool::{Gate, cancel_small, cancel_small_alone};
+use worker_pool::{Gate, cancel_small};
 
 /// The homology table of a diagram over the field of so many elements, made on the caller's thread.
 /// Loops are put beside the table of the crossings. Source: Bar-Natan 2002, section 3.
@@ -45,7 +46,7 @@ fn cubed_alone<F: PrimeField>(alloc: Global, small: &SmallDiagram) -> Result<Tab
     if F::P == 2 && small.counted().diagram().count() > 0 {
         reduced_alone::<F>(alloc, small)
     } else {
-        Ok(cancel_small_alone::<F>(alloc, small)?.table)
+        small_table::<F>(alloc, small)
     }
 }
 

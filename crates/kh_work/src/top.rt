@@ -1,14 +1,14 @@
 //! The top calls: they read, answer and write.
 
 ghost use Rattle.std.specs.Prelude.{◌≡◌, IfErr, IfOk, IsErr};
-ghost use Rattle.kh_replies.specs.Runs.{IsReplied};
-ghost use Rattle.kh_replies.specs.Told.{seen};
+ghost use Rattle.kh_runs.specs.Runs.{IsReplied};
+ghost use Rattle.kh_runs.specs.Told.{seen};
 ghost use Rattle.kh_work.specs.Runs.{IsProgramRun, KeepsHeadline, KeepsReduced, request_of};
 
 use crate::answer::draft_to;
 use crate::completion::{completed_alone, completed_by};
 use kh_io::{Sink, Source};
-use kh_replies::{Reply, ReplyStop, Status, written};
+use kh_runs::{Reply, ReplyStop, Status, written};
 use kh_types::Words;
 use std::alloc::Global;
 use std::sync::Wait;
@@ -18,7 +18,7 @@ use worker_pool::Gate;
 /// Does all that the program does: takes the words after the program's name, reads the source to
 /// its end where they mean a command that reads, makes the whole answer, and writes it. Answers how
 /// the run ended. `homology` and `bench` alone start threads and may wait, where they have more
-/// workers than one, which then call the gate in each of their turns. Source: this project's rule.
+/// workers than one, which then call the gate in each of their turns.
 pub fn run<R: Threads + Wait + Sync, S: Source, K: Sink, G: Gate + Sync>(
     rt: &R,
     alloc: Global,
@@ -43,7 +43,7 @@ pub fn run<R: Threads + Wait + Sync, S: Source, K: Sink, G: Gate + Sync>(
 }
 
 /// Does the same with the words that a system has given; where it has given none, ends with the
-/// status that stands for that, and neither reads nor writes. Source: this project's rule.
+/// status that stands for that, and neither reads nor writes.
 pub fn run_given<R: Threads + Wait + Sync, S: Source, K: Sink, G: Gate + Sync>(
     rt: &R,
     alloc: Global,
@@ -73,7 +73,6 @@ pub fn run_given<R: Threads + Wait + Sync, S: Source, K: Sink, G: Gate + Sync>(
 }
 
 /// Does the same on the caller's thread, whatever the number of workers, and waits for nobody.
-/// Source: this project's rule.
 pub fn run_alone<S: Source, K: Sink>(
     alloc: Global,
     words: &Words,

@@ -6,8 +6,8 @@ use Rattle.std.specs.List.{list_all, range_with_len}
 use Rattle.kh_types.specs.Residues.{HasInverses}
 use Rattle.kh_types.proofs.RangeCounts.{list_all-at}
 use Rattle.kh_types.proofs.Residues.{same-equal}
-use Rattle.cell_complexes.specs.Cells.{dimension_at}
-use Rattle.cell_complexes.specs.Layers.{Layers, cells_of}
+use Rattle.cell_laws.specs.Cells.{dimension_at}
+use Rattle.cell_laws.specs.Layers.{Layers, cells_of}
 use Rattle.layer_laws.specs.Cuts.{IsCut, IsLikeOne, IsNothing, IsTimes, is_step}
 use Rattle.layer_laws.specs.Slid.{kind_of_bigon}
 use Rattle.layer_laws.proofs.PairTests.{pairs-from, same-if}

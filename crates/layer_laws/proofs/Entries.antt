@@ -11,10 +11,10 @@ use Rattle.kh_types.specs.Residues.{HasInverses, Same}
 use Rattle.kh_types.proofs.Lists.{range-contains}
 use Rattle.kh_types.proofs.ListSums.{sum_by-single}
 use Rattle.kh_types.proofs.Residues.{same-equal, same-mul, same-scaled}
-use Rattle.cell_complexes.specs.Layers.{IsTimesIdentity, Layer, Layers, inner_left, layer_coefficient, layer_of, layers_left}
-use Rattle.cell_complexes.proofs.Members.{sum_by-nothing, sum_by-same}
+use Rattle.cell_laws.specs.Layers.{IsTimesIdentity, Layer, Layers, inner_left, layer_coefficient, layer_of, layers_left}
+use Rattle.cell_laws.proofs.Members.{sum_by-nothing, sum_by-same}
 use Rattle.layer_laws.specs.Cuts.{IsNothing, IsTimes, same_label}
-use Rattle.cell_complexes.proofs.LayerCells.{inside-state}
+use Rattle.cell_laws.proofs.LayerCells.{inside-state}
 use Rattle.layer_laws.proofs.Signs.{equal-below, less-nothing, less-something, nothing-times, times-nothing}
 
 same_label-itself : (state label : ℕ) → same_label state label label ≡ 1

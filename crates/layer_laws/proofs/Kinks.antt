@@ -3,10 +3,10 @@
 use Rattle.std.proofs.Common.{◌≡◌, ℕ, inl, inr, ◌%◌, ◌<◌, ◌∙◌, ℤ, List, [], ◌∷◌, refl, sym, subst, arith}
 use Rattle.std.specs.List.{Contains}
 use Rattle.kh_types.specs.Residues.{HasInverses}
-use Rattle.cell_complexes.specs.Alike.{AreListed}
-use Rattle.cell_complexes.specs.Cells.{dimension_at}
-use Rattle.cell_complexes.specs.Layers.{IsTimesIdentity, Layers, cells_of, layers_left}
-use Rattle.cell_complexes.proofs.LayerCells.{complex-layers, dimension-layers}
+use Rattle.cell_laws.specs.Alike.{AreListed}
+use Rattle.cell_laws.specs.Cells.{dimension_at}
+use Rattle.cell_laws.specs.Layers.{IsTimesIdentity, Layers, cells_of, layers_left}
+use Rattle.cell_laws.proofs.LayerCells.{complex-layers, dimension-layers}
 use Rattle.layer_laws.specs.Cuts.{IsCut, IsLikeOne, IsNothing, cut_objects, ones_before, step_sign}
 use Rattle.layer_laws.proofs.Entries.{nothing-kept, times-identity}
 use Rattle.layer_laws.proofs.Reorderings.{gone-from, listed-reordered}

@@ -6,8 +6,8 @@ use Rattle.std.proofs.lemmas.Bool.{and_parts, eq-eqb, eqb-true, ltb-true, not-tr
 use Rattle.kh_types.proofs.RangeCounts.{list_all-at}
 use Rattle.layer_laws.specs.Cuts.{cut_objects, is_step}
 use Rattle.layer_laws.specs.Slid.{is_left, left_objects}
-use Rattle.layer_laws.proofs.Reorderings.{is_in, is_reordered}
-use Rattle.layer_laws.proofs.TwoPairs.{ArePairs, at_odds, behind_first, is_alone}
+use Rattle.layer_laws.proofs.Reorderings.{is_in, is_reordered, at_odds}
+use Rattle.layer_laws.proofs.TwoPairs.{ArePairs, behind_first, is_alone}
 
 abbrev pub is_alone_left : ℕ → ℕ → ℕ → ℕ → ℕ → ℕ → Bool
 is_alone_left k closing above below x y =

@@ -4,15 +4,15 @@ use Rattle.std.specs.List.{Contains, flat_map, range_with_len}
 use Rattle.std.proofs.lemmas.Bool.{cases_eq}
 use Rattle.kh_types.specs.Residues.{HasInverses, Same}
 use Rattle.kh_types.proofs.Residues.{same-equal}
-use Rattle.cell_complexes.specs.Alike.{AreAlike, AreListed}
-use Rattle.cell_complexes.specs.Cells.{AreComplex, dimension_at}
-use Rattle.cell_complexes.specs.Layers.{Layer, Layers, cells_of, layer_coefficient, layer_of, object_cells}
-use Rattle.cell_complexes.proofs.AlikeCells.{dimension-alike}
-use Rattle.cell_complexes.proofs.Listings.{listed-flat, listed-named}
-use Rattle.cell_complexes.proofs.NoDoubles.{flat_map-range, map-flat_map, map-map}
+use Rattle.cell_laws.specs.Alike.{AreAlike, AreListed}
+use Rattle.cell_laws.specs.Cells.{AreComplex, dimension_at}
+use Rattle.cell_laws.specs.Layers.{Layer, Layers, cells_of, layer_coefficient, layer_of, object_cells}
+use Rattle.cell_laws.proofs.AlikeCells.{dimension-alike}
+use Rattle.cell_laws.proofs.Listings.{listed-flat, listed-named}
+use Rattle.cell_laws.proofs.NoDoubles.{flat_map-range, map-flat_map, map-map}
 use Rattle.layer_laws.specs.Renamed.{AreRenamed}
 use Rattle.layer_laws.proofs.LayerFacts.{IsCellIn, between-states, cell-in}
-use Rattle.cell_complexes.proofs.LayerCells.{inside-state, nowhere}
+use Rattle.cell_laws.proofs.LayerCells.{inside-state, nowhere}
 
 module _ (p : ℕ) (to : ℕ → ℕ) (sign : ℕ → ℕ → ℕ) (first second : Layers) (are : AreRenamed p to sign first second) where
   abbrev pub renamed : Layer → Layer

@@ -5,8 +5,8 @@ use Rattle.kh_types.specs.Rank.{inverse, minus_mod}
 use Rattle.kh_types.specs.Residues.{HasInverses, Same}
 use Rattle.kh_types.proofs.Reduced.{minus_mod-added}
 use Rattle.kh_types.proofs.Residues.{same-equal, same-inverse, same-minus, same-mul, same-rest, same-scaled}
-use Rattle.cube_squares.proofs.Signs.{same_parity, signs-product}
-use Rattle.cell_complexes.specs.Signs.{sign_of_power}
+use Rattle.square_laws.proofs.Signs.{same_parity, signs-product}
+use Rattle.cell_laws.specs.Signs.{sign_of_power}
 
 pub less-nothing : (p x s : ℕ) → 0 < p → Same p s 0 → Same p (minus_mod p x s) x
 less-nothing p x s positive none = same-rest p s (minus_mod p x s) x none (minus_mod-added p x s positive)

@@ -3,14 +3,14 @@ use Rattle.std.proofs.Common.{◌≡◌, ◌≢◌, ℕ, inl, inr, ◌+◌, ◌*
 use Rattle.std.specs.List.{Contains}
 use Rattle.kh_types.specs.Residues.{HasInverses, Same}
 use Rattle.kh_types.proofs.Residues.{same-equal, same-mul}
-use Rattle.cube_squares.proofs.TouchedCircles.{one_in}
-use Rattle.cell_complexes.specs.Alike.{AreListed}
-use Rattle.cell_complexes.specs.Cells.{AreComplex, dimension_at}
-use Rattle.cell_complexes.specs.Layers.{Layers, cells_of, layer_of}
-use Rattle.cell_complexes.proofs.Listings.{listed-named}
+use Rattle.square_laws.proofs.TouchedCircles.{one_in}
+use Rattle.cell_laws.specs.Alike.{AreListed}
+use Rattle.cell_laws.specs.Cells.{AreComplex, dimension_at}
+use Rattle.cell_laws.specs.Layers.{Layers, cells_of, layer_of}
+use Rattle.cell_laws.proofs.Listings.{listed-named}
 use Rattle.layer_laws.specs.Renamed.{AreRenamed}
 use Rattle.layer_laws.specs.Cuts.{IsLikeOne, IsNothing}
-use Rattle.cell_complexes.specs.Signs.{sign_of_power}
+use Rattle.cell_laws.specs.Signs.{sign_of_power}
 use Rattle.layer_laws.proofs.RenamedLayers.{dimension-renamed}
 use Rattle.layer_laws.proofs.Signs.{sign-parity, sign-squared, sign-sum, times-nothing}
 

@@ -3,7 +3,7 @@
 use Rattle.std.proofs.Common.{◌≡◌, ℕ, ◌+◌, ◌-◌, ◌%◌, ◌<◌, List, [], ◌∷◌, map, refl, arith, Bool, true, false, not, ◌&&◌, ◌||◌}
 use Rattle.std.specs.Prelude.{nat_eq, nat_lt, slice_index, if◌then◌else◌}
 use Rattle.std.specs.List.{list_all, range_with_len}
-use Rattle.std.proofs.lemmas.Bool.{and_parts, eqb-true, ltb-true, or_right}
+use Rattle.std.proofs.lemmas.Bool.{and_parts, eqb-true, ltb-true, or_right, and_from}
 use Rattle.kh_types.specs.Bits.{one_if, ones}
 use Rattle.kh_types.proofs.RangeCounts.{list_all-at}
 use Rattle.layer_laws.specs.Cuts.{is_step}
@@ -155,10 +155,6 @@ same_test false false same = refl
 same_test true false same = absurd (omega (arith, same))
 same_test false true same = absurd (omega (arith, same))
 
-both : (a b : Bool) → a ≡ true → b ≡ true → (a && b) ≡ true
-both true b is other = other
-both false b is other = is
-
 pub signed-is : (o x y : ℕ) → 0 < o → o < 7 → x < 8 → y < 8 → is_last o x ≡ true → is_last o y ≡ true → IsSigned o x y
 signed-is o x y above below x_within y_within x_last y_last =
     let joined = joined_at o x y in
@@ -172,7 +168,7 @@ signed-is o x y above below x_within y_within x_last y_last =
     (at (λ o. list_all (λ x. list_all (is_signed o x) (range_with_len 0 8)) (range_with_len 0 8)) o all-signed above below)
     (omega arith) (omega (arith, x_within)))
     (omega arith) (omega (arith, y_within)))
-    (both (is_last o x) (is_last o y) x_last y_last) in
+    (and_from (is_last o x) (is_last o y) x_last y_last) in
     let parts = and_parts (nat_eq (one_if joined) (one_if joined_other)) (not joined || nat_eq (sum % 2) 0) all in
     record {
       joined = same_test joined joined_other (eqb-true (one_if joined) (one_if joined_other) parts.0);

@@ -8,14 +8,14 @@ use Rattle.kh_types.specs.Bits.{ones}
 use Rattle.kh_types.specs.Residues.{HasInverses, Same}
 use Rattle.kh_types.proofs.Lists.{range-contains}
 use Rattle.kh_types.proofs.Residues.{same-equal, same-mul, same-scaled}
-use Rattle.cell_complexes.specs.Alike.{AreListed}
-use Rattle.cell_complexes.specs.Cells.{dimension_at}
-use Rattle.cell_complexes.specs.Layers.{Layers, cells_of}
-use Rattle.cell_complexes.proofs.Listings.{listed-later, listed-named}
-use Rattle.cell_complexes.proofs.Members.{Contains-kept}
+use Rattle.cell_laws.specs.Alike.{AreListed}
+use Rattle.cell_laws.specs.Cells.{dimension_at}
+use Rattle.cell_laws.specs.Layers.{Layers, cells_of}
+use Rattle.cell_laws.proofs.Listings.{listed-later, listed-named}
+use Rattle.cell_laws.proofs.Members.{Contains-kept}
 use Rattle.layer_laws.specs.Renamed.{AreRenamed}
 use Rattle.layer_laws.specs.Cuts.{IsCut}
-use Rattle.cell_complexes.specs.Signs.{sign_of_power}
+use Rattle.cell_laws.specs.Signs.{sign_of_power}
 use Rattle.layer_laws.specs.Slid.{AreFiveLeft, IsMeasured, above_of, below_of, is_near, kind_after, kind_before, left_number}
 use Rattle.layer_laws.proofs.RenamedLayers.{dimension-renamed}
 use Rattle.layer_laws.proofs.Reorderings.{listed-reordered}

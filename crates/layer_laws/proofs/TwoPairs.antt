@@ -5,16 +5,16 @@ use Rattle.std.specs.Prelude.{nat_eq, if◌then◌else◌}
 use Rattle.std.proofs.lemmas.Bool.{and_cases, and_parts, eq-eqb}
 use Rattle.kh_types.specs.Rank.{inverse}
 use Rattle.kh_types.specs.Residues.{HasInverses}
-use Rattle.cell_complexes.specs.Alike.{AreListed}
-use Rattle.cell_complexes.specs.Cells.{AreComplex, dimension_at}
-use Rattle.cell_complexes.specs.Layers.{IsTimesIdentity, Layers, cells_of, layers_left}
-use Rattle.cell_complexes.proofs.LayerCells.{complex-layers, dimension-layers}
-use Rattle.cell_complexes.proofs.Listings.{listed-same}
+use Rattle.cell_laws.specs.Alike.{AreListed}
+use Rattle.cell_laws.specs.Cells.{AreComplex, dimension_at}
+use Rattle.cell_laws.specs.Layers.{IsTimesIdentity, Layers, cells_of, layers_left}
+use Rattle.cell_laws.proofs.LayerCells.{complex-layers, dimension-layers}
+use Rattle.cell_laws.proofs.Listings.{listed-same}
 use Rattle.layer_laws.specs.Cuts.{IsCut, IsNothing, IsTimes, cut_objects, is_step, ones_before, same_label, step_sign}
-use Rattle.cell_complexes.specs.Signs.{sign_of_power}
+use Rattle.cell_laws.specs.Signs.{sign_of_power}
 use Rattle.layer_laws.specs.Slid.{goes_above, goes_below, is_left, left_number, left_objects}
 use Rattle.layer_laws.proofs.Entries.{nothing-kept, times-begins, times-ends, times-identity, times-kept, times-none, times-same}
-use Rattle.layer_laws.proofs.Reorderings.{gone-from, is_in, is_reordered, listed-reordered}
+use Rattle.layer_laws.proofs.Reorderings.{gone-from, is_in, is_reordered, listed-reordered, at_odds}
 use Rattle.layer_laws.proofs.Signs.{sign-squared, way-sign}
 
 -- no two of an edge, a way above and a way below lead from one state to another
@@ -47,9 +47,6 @@ pub record ArePairs (k closing above below : ℕ) (kind : ℕ → ℕ) : Type 0 
   pub no_second_head : is_in (closing + 2 ^ k) (left_objects k closing above below) ≡ false
   pub alone : (x y : ℕ) → x < 2 ^ k → y < 2 ^ k → is_left closing above below x ≡ true → is_left closing above below y ≡ true
       → is_alone k closing above below x y ≡ true
-
-pub at_odds : {A : Type 0} (b : Bool) → b ≡ true → b ≡ false → A
-at_odds b passes fails = let e : true ≡ false = sym passes ∙ fails in cc
 
 module _ (p k closing above below : ℕ) (kind : ℕ → ℕ) (count : ℕ → ℕ → ℕ) (saddle : ℕ → ℕ → ℕ → ℕ → ℕ → ℕ) (layers : Layers)
     (field : HasInverses p) (cut : IsCut p k closing kind count saddle layers) (are : ArePairs k closing above below kind) where

@@ -4,10 +4,10 @@ use Rattle.std.specs.Prelude.{◌≡◌, ◌≢◌, ℕ, ◌+◌, ◌-◌, ◌^�
 use Rattle.std.specs.List.{Contains, filter, range_with_len}
 use Rattle.kh_types.specs.Bits.{ones}
 use Rattle.kh_types.specs.Residues.{Same}
-use Rattle.cell_complexes.specs.Cells.{AreComplex, dimension_at}
-use Rattle.cell_complexes.specs.Layers.{Layers, cells_of, layer_of}
+use Rattle.cell_laws.specs.Cells.{AreComplex, dimension_at}
+use Rattle.cell_laws.specs.Layers.{Layers, cells_of, layer_of}
 use Rattle.layer_laws.specs.Cuts.{IsTimes, is_step, ones_before}
-use Rattle.cell_complexes.specs.Signs.{sign_of_power}
+use Rattle.cell_laws.specs.Signs.{sign_of_power}
 
 -- what is left when the circle's state with v+ goes with a state above it, and a state below it with the circle's state with v-
 abbrev pub is_left : ℕ → ℕ → ℕ → ℕ → Bool

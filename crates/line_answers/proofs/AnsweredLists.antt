@@ -5,7 +5,7 @@ use Rattle.std.proofs.lemmas.Bool.{and_parts}
 use Rattle.std.proofs.lemmas.List.{map-append, map_more, take-append-drop, take-append-le, take_min}
 use Rattle.std.specs.Io.KnownBytes.{Appends}
 use Rattle.kh_io.proofs.KnownBytes.{Appends-trans}
-use Rattle.kh_replies.specs.Replies.{Reply}
+use Rattle.kh_runs.specs.Replies.{Reply}
 use Rattle.line_answers.specs.Answered.{AreAllAnswered, AreAnswered, ArePartlyAnswered, IsPartWritten}
 use Rattle.line_answers.specs.Frames.{IsAnswerOrNone, IsAnswerTo, frame_of, no_memory}
 use Rattle.line_answers.specs.Questions.{NumberedLine, Question, question}

@@ -6,7 +6,7 @@ use Rattle.std.specs.List.{AllByRecursion, flat_map}
 use Rattle.std.specs.Io.KnownBytes.{Appends}
 use Rattle.kh_lex.specs.Lines.{HasNoLineFeed, with_feed}
 use Rattle.kh_lex.proofs.LineCuts.{CutsLines-lines_of}
-use Rattle.kh_replies.specs.Replies.{Reply}
+use Rattle.kh_runs.specs.Replies.{Reply}
 use Rattle.line_answers.specs.Frames.{AreFrames, IsAnswerOrNone, first_line}
 use Rattle.line_answers.specs.ListRuns.{EndsLines, WritesAnswers, WritesPrefix}
 use Rattle.line_answers.specs.Questions.{Question, asked_by, numbered, questions}

@@ -1,7 +1,7 @@
 -- Frames of questions, one behind the other.
 use Rattle.std.proofs.Common.{inr, ℕ, List, [], ◌∷◌, ◌++◌, refl, sym, ap, ◌∙◌, append_assoc, append-nil}
 use Rattle.std.specs.List.{AllByRecursion}
-use Rattle.kh_replies.specs.Replies.{Reply}
+use Rattle.kh_runs.specs.Replies.{Reply}
 use Rattle.line_answers.specs.Frames.{AreFrames, IsAnswerOrNone, frame_of, no_memory}
 use Rattle.line_answers.specs.Questions.{Question}
 

@@ -3,9 +3,9 @@ use Rattle.std.proofs.Common.{◌≡◌, inl, inr, ℕ, ◌+◌, ◌<◌, ◌≤
 use Rattle.std.specs.Prelude.{IfOk}
 use Rattle.std.proofs.lemmas.List.{length-take, take_all}
 use Rattle.kh_types.specs.declared.limits.TheConstants.{INPUT_BYTES}
-use Rattle.kh_replies.specs.LimitedReplies.{IsLimitedReply}
-use Rattle.kh_replies.specs.Refusals.{too_many_bytes}
-use Rattle.kh_replies.specs.Replies.{Reply}
+use Rattle.kh_runs.specs.LimitedReplies.{IsLimitedReply}
+use Rattle.kh_runs.specs.Refusals.{too_many_bytes}
+use Rattle.kh_runs.specs.Replies.{Reply}
 
 -- it is longer, and refused
 pub IsLimitedReply-long : (bytes line : List ℕ) (Answers : Reply → Type 0) → bytes ≡ take (INPUT_BYTES + 1) line → INPUT_BYTES < length bytes

@@ -8,9 +8,9 @@ use Rattle.std.specs.List.{flat_map}
 use Rattle.kh_io.specs.Faults.{Rose}
 use Rattle.kh_io.proofs.KnownBytes.{Appends-trans}
 use Rattle.kh_lex.specs.Lines.{CutsLines, last_line, with_feed}
-use Rattle.kh_replies.specs.Replies.{Reply}
-use Rattle.kh_replies.specs.Told.{Seen}
-use Rattle.kh_replies.specs.declared.status.Status.TheVariants as statuses
+use Rattle.kh_runs.specs.Replies.{Reply}
+use Rattle.kh_runs.specs.Told.{Seen}
+use Rattle.kh_runs.specs.declared.status.Status.TheVariants as statuses
 use Rattle.line_reader.specs.Advances.{IsLineTaken, IsSpent, IsStopped}
 use Rattle.line_reader.specs.Lines.{Kept}
 use Rattle.line_reader.specs.declared.reading.LineStop.{LineStop}

@@ -7,8 +7,8 @@ use Rattle.std.specs.List.{AllByRecursion, flat_map}
 use Rattle.std.specs.Io.KnownBytes.{Appends, Consumes}
 use Rattle.kh_io.proofs.KnownBytes.{Appends-trans, Consumes-trans}
 use Rattle.kh_lex.specs.Lines.{CutsLines, HasNoLineFeed, last_line, with_feed}
-use Rattle.kh_replies.specs.Replies.{Reply}
-use Rattle.kh_replies.specs.Told.{Seen}
+use Rattle.kh_runs.specs.Replies.{Reply}
+use Rattle.kh_runs.specs.Told.{Seen}
 use Rattle.line_reader.specs.Advances.{IsAdvanced}
 use Rattle.line_answers.specs.Frames.{AreFrames, IsAnswerOrNone, IsAnswerTo, first_line}
 use Rattle.line_answers.specs.Answered.{AreAllAnswered}

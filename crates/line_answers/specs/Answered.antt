@@ -1,7 +1,7 @@
--- What is written of the answers to questions. All of it is this project's rule.
+-- What is written of the answers to questions.
 use Rattle.std.specs.Prelude.{◌≡◌, ℕ, Bool, true, List, take, Option, Result, Ok, Err}
 use Rattle.std.specs.Io.KnownBytes.{Appends}
-use Rattle.kh_replies.specs.Replies.{Reply}
+use Rattle.kh_runs.specs.Replies.{Reply}
 use Rattle.line_answers.specs.declared.frame.FrameStop.{FrameStop}
 use Rattle.line_answers.specs.declared.frame.FrameStop.TheVariants.{NoMemory}
 use Rattle.line_answers.specs.Frames.{AreFrames, IsAnswerOrNone, IsAnswerTo}

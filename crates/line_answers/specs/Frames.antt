@@ -1,11 +1,11 @@
--- Replies in frames, so that a list of them is read in one way. All of it is this project's rule.
+-- Replies in frames, so that a list of them is read in one way.
 use Rattle.std.specs.Prelude.{◌≡◌, ◌⊎◌, ℕ, ◌^◌, ◌<◌, List, [], ◌∷◌, ◌++◌, length, codes, Some}
 use Rattle.std.specs.Fmt.{decimal}
 use Rattle.kh_types.specs.declared.limits.TheConstants.{INPUT_BYTES}
-use Rattle.kh_replies.specs.LimitedReplies.{IsLimitedReply}
-use Rattle.kh_replies.specs.Replies.{Reply, reply_of}
-use Rattle.kh_replies.specs.Statuses.{status_number}
-use Rattle.kh_replies.specs.declared.status.Status.TheVariants.{NoMemory}
+use Rattle.kh_runs.specs.LimitedReplies.{IsLimitedReply}
+use Rattle.kh_runs.specs.Replies.{Reply, reply_of}
+use Rattle.kh_runs.specs.Statuses.{status_number}
+use Rattle.kh_runs.specs.declared.status.Status.TheVariants.{NoMemory}
 use Rattle.line_answers.specs.Questions.{Question}
 
 -- the first line of what is written, with the version of the frames

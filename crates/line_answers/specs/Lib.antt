@@ -2,3 +2,4 @@ pub mod Questions
 pub mod Frames
 pub mod Answered
 pub mod ListRuns
+pub mod Scans

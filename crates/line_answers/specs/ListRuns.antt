@@ -1,4 +1,4 @@
--- What a run over a list of codes reads and writes. All of it is this project's rule.
+-- What a run over a list of codes reads and writes.
 use Rattle.std.specs.Prelude.{◌≡◌, ◌≢◌, ◌⊎◌, ℕ, ◌-◌, ◌^◌, ◌≤◌, Bool, true, false, List, [], ◌++◌, length, take, Option, Result, Ok, Err}
 use Rattle.std.specs.List.{AllByRecursion, flat_map}
 use Rattle.std.specs.Io.KnownBytes.{Appends, Consumes, IsAtEnd}
@@ -6,10 +6,10 @@ use Rattle.kh_io.specs.Faults.{Rose}
 use Rattle.kh_lex.specs.Lines.{CutsLines, HasNoLineFeed, with_feed}
 use Rattle.line_reader.specs.declared.reading.LineStop.{LineStop}
 use Rattle.line_reader.specs.declared.reading.LineStop.TheVariants as lines
-use Rattle.kh_replies.specs.Replies.{Reply}
-use Rattle.kh_replies.specs.Told.{Seen}
-use Rattle.kh_replies.specs.declared.status.Status.{Status}
-use Rattle.kh_replies.specs.declared.status.Status.TheVariants.{Done, Limit, ReadFault, WriteFault, NoMemory}
+use Rattle.kh_runs.specs.Replies.{Reply}
+use Rattle.kh_runs.specs.Told.{Seen}
+use Rattle.kh_runs.specs.declared.status.Status.{Status}
+use Rattle.kh_runs.specs.declared.status.Status.TheVariants.{Done, Limit, ReadFault, WriteFault, NoMemory}
 use Rattle.line_answers.specs.declared.frame.FrameStop.{FrameStop}
 use Rattle.line_answers.specs.declared.frame.FrameStop.TheVariants as frames
 use Rattle.line_answers.specs.declared.stop.ListStop.{ListStop}

@@ -1,4 +1,4 @@
--- What a list of codes asks: each line that is not blank, over each of some fields. All of it is this project's rule.
+-- What a list of codes asks: each line that is not blank, over each of some fields.
 use Rattle.std.specs.Prelude.{ℕ, ◌+◌, if◌then◌else◌, List, [], ◌∷◌, map}
 use Rattle.std.specs.List.{flat_map}
 use Rattle.line_reader.specs.Lines.{has_code}

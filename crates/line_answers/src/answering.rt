@@ -2,9 +2,9 @@
 
 ghost use Rattle.std.specs.Prelude.{◌≤◌, ℕ, List, length, IfOk};
 ghost use Rattle.kh_types.specs.declared.limits.TheConstants.{INPUT_BYTES};
-ghost use Rattle.kh_replies.specs.Replies.{Reply};
+ghost use Rattle.kh_runs.specs.Replies.{Reply};
 
-use kh_replies::Reply;
+use kh_runs::Reply;
 use kh_types::NoMemory;
 use prime_field::FieldSize;
 use std::alloc::Global;

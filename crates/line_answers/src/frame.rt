@@ -4,7 +4,7 @@ ghost use Rattle.std.specs.Prelude.{◌≡◌, ◌≢◌, ℕ, ◌+◌, List, []
 ghost use Rattle.std.specs.Io.KnownBytes.{Appends};
 ghost use Rattle.kh_io.specs.Faults.{Rose};
 ghost use Rattle.kh_types.specs.declared.limits.TheConstants.{INPUT_BYTES};
-ghost use Rattle.kh_replies.specs.LimitedReplies.{IsLimitedReply};
+ghost use Rattle.kh_runs.specs.LimitedReplies.{IsLimitedReply};
 ghost use Rattle.line_reader.specs.Lines.{kept};
 ghost use Rattle.line_answers.specs.Answered.{AreAnswered, IsPartWritten};
 ghost use Rattle.line_answers.specs.Frames.{frame};
@@ -12,7 +12,7 @@ ghost use Rattle.line_answers.specs.Questions.{numbered_line, question};
 
 use crate::answering::Answering;
 use kh_io::{Failed, Sink, write_all};
-use kh_replies::{Reply, Status, reply_made, too_many_bytes};
+use kh_runs::{Reply, Status, reply_made, too_many_bytes};
 use kh_types::{INPUT_BYTES, NoMemory};
 use line_reader::Line;
 use prime_field::{Elements, FieldSize};

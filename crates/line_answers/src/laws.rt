@@ -1,7 +1,7 @@
 //! Laws of frames: each is the contract of a function that does nothing.
 
 ghost use Rattle.std.specs.Prelude.{◌≡◌, ℕ, List, ◌++◌};
-ghost use Rattle.kh_replies.specs.Replies.{Reply};
+ghost use Rattle.kh_runs.specs.Replies.{Reply};
 ghost use Rattle.line_answers.specs.Frames.{IsSmallFrame, frame};
 
 /// A frame, whatever stands behind it, tells the number of its line, its field and its reply, and

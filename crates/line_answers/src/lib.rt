@@ -1,4 +1,5 @@
-//! A list of codes, one a line, answered line by line as it comes.
+//! A list of codes, one a line, answered line by line as it comes; and what a run of `kh-scan`
+//! answers.
 #![tactic(auto)]
 
 mod answering;

@@ -3,7 +3,7 @@
 ghost use Rattle.std.specs.Prelude.{◌≡◌, ◌≢◌, ℕ, List, map, Err};
 ghost use Rattle.kh_io.specs.Faults.{Rose};
 ghost use Rattle.line_reader.specs.Lines.{kept};
-ghost use Rattle.kh_replies.specs.Told.{seen};
+ghost use Rattle.kh_runs.specs.Told.{seen};
 ghost use Rattle.line_answers.specs.Answered.{AreAnswered};
 ghost use Rattle.line_answers.specs.ListRuns.{IsListRun, end_status, status_of};
 ghost use Rattle.line_answers.specs.Questions.{asked_by, numbered_line, question};
@@ -12,7 +12,7 @@ use crate::answering::Answering;
 use crate::frame::{Asked, FrameStop, answer};
 use crate::stop::ListStop;
 use kh_io::{Sink, Source, write_all};
-use kh_replies::Status;
+use kh_runs::Status;
 use line_reader::{Buffered, NextLine, next_line};
 use prime_field::FieldSize;
 use std::alloc::Global;
@@ -23,7 +23,6 @@ const FIRST_LINE: &str = "answers 1\n";
 /// Answers each line of a source that is not blank, over each of the fields, as soon as it has been
 /// read, and writes each reply in a frame behind a first line. Where memory is wanting for a reply,
 /// a frame says so, and it goes on. Answers how the run ended.
-/// Source: this project's rule.
 pub fn answer_list<A: Answering, S: Source, K: Sink>(
     alloc: Global,
     answering: &A,

@@ -5,7 +5,7 @@ ghost use Rattle.line_answers.specs.ListRuns.{stop_status};
 
 use crate::frame::FrameStop;
 use kh_io::Failed;
-use kh_replies::Status;
+use kh_runs::Status;
 use line_reader::LineStop;
 
 /// Why a list is not answered to its end.

@@ -1,4 +1,4 @@
--- How bytes are taken of a source through a buffer. All of it is this project's rule.
+-- How bytes are taken of a source through a buffer.
 use Rattle.std.specs.Prelude.{◌≡◌, ℕ, ◌-◌, ◌^◌, ◌≤◌, List, [], ◌∷◌, ◌++◌, length, codes, Option, None, Some}
 use Rattle.std.specs.Io.KnownBytes.{Consumes, IsAtEnd}
 use Rattle.kh_lex.specs.Lines.{HasNoLineFeed}

@@ -1,4 +1,4 @@
--- What is kept of a line. All of it is this project's rule.
+-- What is kept of a line.
 use Rattle.std.specs.Prelude.{ℕ, ◌+◌, Bool, not, List, take}
 use Rattle.std.specs.List.{list_any}
 use Rattle.kh_types.specs.declared.limits.TheConstants.{INPUT_BYTES}

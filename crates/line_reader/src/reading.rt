@@ -52,7 +52,7 @@ pub enum NextLine {
 }
 
 /// The next line of a source. Behind its line feed nothing is read, but that bytes which the source
-/// gives with it are buffered. A stop comes behind a part of a line. Source: this project's rule.
+/// gives with it are buffered. A stop comes behind a part of a line.
 pub fn next_line<S: Source>(
     alloc: Global,
     source: &mut S,

@@ -20,7 +20,7 @@ use Rattle.kh_types.specs.Rank.{rank}
 use Rattle.kh_types.specs.Table.{dimension}
 use Rattle.kh_types.specs.Residues.{HasInverses}
 use Rattle.plain_matrix.specs.Scaled.{IsScaled}
-use Rattle.cube_squares.proofs.Matrices.{entry-below, entry-column_past, entry-differential, entry-row_past, generator_number, length-differential, length-row}
+use Rattle.square_laws.proofs.Matrices.{entry-below, entry-column_past, entry-differential, entry-row_past, generator_number, length-differential, length-row}
 use Rattle.link_algebra.proofs.MirrorDegrees.{IsOpposite-star, has_degrees-opposite, length-opposite}
 use Rattle.link_algebra.proofs.MirrorSigns.{coefficient-star, star_sign}
 use Rattle.link_algebra.proofs.Renamings.{IsTurned}

@@ -11,7 +11,7 @@ use Rattle.kh_types.specs.Generators.{Generator, generator_of, generators, gener
 use Rattle.kh_types.proofs.Lists.{AllByRecursion-append, Contains-filter, Contains-flat_map, Contains-map, Contains-range}
 use Rattle.kh_types.proofs.ListSums.{sum_by-alike, sum_by-flat_map, sum_by-map, sum_by-some}
 use Rattle.kh_types.proofs.RangeImages.{all-map_range}
-use Rattle.cube_squares.proofs.Pairs.{IsStep, edge_or_zero}
+use Rattle.square_laws.proofs.Pairs.{IsStep, edge_or_zero}
 
 -- a generator of the cube: its state and its label are below their limits
 pub record IsGenerator (code : Code) (generator : Generator) : Type 0 where

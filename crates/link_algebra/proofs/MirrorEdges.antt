@@ -21,13 +21,13 @@ use Rattle.kh_types.specs.Code.{Code, IsCrossing, place_of}
 use Rattle.kh_types.specs.Differential.{label_of}
 use Rattle.kh_types.specs.Edges.{arc_at_slot}
 use Rattle.kh_types.specs.Generators.{Generator}
-use Rattle.cube_squares.proofs.EdgeMarks.{IsChange, IsSameOff, label_at, label_of-circle}
-use Rattle.cube_squares.proofs.Marks.{IsOff}
-use Rattle.cube_squares.proofs.Merges.{IsMerge, IsSwitch, circle_in, switch-edge}
-use Rattle.cube_squares.proofs.Pairs.{IsStep}
-use Rattle.cube_squares.proofs.SquareKinds.{ends-meet}
-use Rattle.cube_squares.proofs.TouchedCircles.{fits, fits-decides}
-use Rattle.cube_squares.specs.Squares.{circle_at_slot}
+use Rattle.square_laws.proofs.EdgeMarks.{IsChange, IsSameOff, label_at, label_of-circle}
+use Rattle.square_laws.proofs.Marks.{IsOff}
+use Rattle.square_laws.proofs.Merges.{IsMerge, IsSwitch, circle_in, switch-edge}
+use Rattle.square_laws.proofs.Pairs.{IsStep}
+use Rattle.square_laws.proofs.SquareKinds.{ends-meet}
+use Rattle.square_laws.proofs.TouchedCircles.{fits, fits-decides}
+use Rattle.square_laws.specs.Squares.{circle_at_slot}
 use Rattle.link_algebra.proofs.Flips.{flipped}
 use Rattle.link_algebra.proofs.MovedLabels.{IsName-back, name-here}
 use Rattle.link_algebra.proofs.Renamings.{IsTurned}

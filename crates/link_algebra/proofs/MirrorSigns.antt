@@ -17,9 +17,9 @@ use Rattle.kh_types.specs.Code.{Code, IsCrossing, place_of}
 use Rattle.kh_types.specs.Differential.{coefficient}
 use Rattle.kh_types.specs.Generators.{Generator}
 use Rattle.kh_types.specs.Residues.{Same}
-use Rattle.cube_squares.proofs.Pairs.{IsStep, coefficient-one}
-use Rattle.cube_squares.proofs.Signs.{ones-set_above, power_sign, same_parity, signs-product}
-use Rattle.cube_squares.proofs.TouchedCircles.{fits}
+use Rattle.square_laws.proofs.Pairs.{IsStep, coefficient-one}
+use Rattle.square_laws.proofs.Signs.{ones-set_above, power_sign, same_parity, signs-product}
+use Rattle.square_laws.proofs.TouchedCircles.{fits}
 use Rattle.link_algebra.proofs.Flips.{bit-flipped, flipped, ones-flipped}
 use Rattle.link_algebra.proofs.MirrorEdges.{AreMirrors, AreStars, AreStars-from, fits-star}
 use Rattle.link_algebra.proofs.Renamings.{IsTurned}

@@ -22,11 +22,11 @@ use Rattle.kh_types.specs.Circles.{circle_count}
 use Rattle.kh_types.specs.Code.{Code}
 use Rattle.kh_types.specs.Differential.{label_of}
 use Rattle.kh_types.specs.Generators.{generator_of}
-use Rattle.cube_squares.proofs.EdgeMarks.{IsMarked, label_of-circle, label_of-le}
-use Rattle.cube_squares.proofs.LabelNumbers.{label-exists}
-use Rattle.cube_squares.proofs.MarkedLabels.{IsMarked-marked_by, IsName-marked_by, marked_by, ones-marked}
-use Rattle.cube_squares.proofs.Marks.{hits, hits-cons, hits-sum}
-use Rattle.cube_squares.proofs.Merges.{circle_in}
+use Rattle.square_laws.proofs.EdgeMarks.{IsMarked, label_of-circle, label_of-le}
+use Rattle.square_laws.proofs.LabelNumbers.{label-exists}
+use Rattle.square_laws.proofs.MarkedLabels.{IsMarked-marked_by, IsName-marked_by, marked_by, ones-marked}
+use Rattle.square_laws.proofs.Marks.{hits, hits-cons, hits-sum}
+use Rattle.square_laws.proofs.Merges.{circle_in}
 use Rattle.link_algebra.proofs.Flips.{flipped, ones-flipped}
 use Rattle.link_algebra.proofs.TurnedCircles.{Corresponds, IsName-moved}
 

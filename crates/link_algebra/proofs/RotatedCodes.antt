@@ -30,7 +30,7 @@ use Rattle.kh_types.specs.Darts.{HasArcsTwice, IsDart, arc_of, dart_at, dart_pla
 use Rattle.kh_types.specs.Edges.{arc_at_slot}
 use Rattle.kh_types.specs.Faces.{face_count, face_pair, faces_of, piece_count, piece_pair, pieces_of}
 use Rattle.kh_types.specs.declared.dart.Dart.{Dart}
-use Rattle.cube_squares.proofs.LabelNumbers.{bit-number_from, number_from, number_from-below}
+use Rattle.square_laws.proofs.LabelNumbers.{bit-number_from, number_from, number_from-below}
 use Rattle.kh_types.proofs.CountedClasses.{at-respects, class_count-alike, respects-at}
 use Rattle.link_algebra.proofs.Renamings.{IsRenaming, IsRenaming-back, IsRotated}
 use Rattle.link_algebra.proofs.UnitedAccepted.{faces-below, pieces-below}

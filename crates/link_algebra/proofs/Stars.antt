@@ -8,7 +8,7 @@ use Rattle.kh_types.specs.Circles.{circle_count}
 use Rattle.kh_types.specs.Code.{Code}
 use Rattle.kh_types.specs.Differential.{label_of}
 use Rattle.kh_types.specs.Generators.{Generator, generator_of}
-use Rattle.cube_squares.proofs.Merges.{circle_in}
+use Rattle.square_laws.proofs.Merges.{circle_in}
 use Rattle.link_algebra.proofs.GeneratorLists.{IsGenerator}
 use Rattle.link_algebra.proofs.Flips.{bit-flipped, flipped, flipped-below, flipped-twice, ones-flipped}
 use Rattle.link_algebra.proofs.MovedLabels.{IsName-back, count-moved, label-moved, name-here, ones-moved}

@@ -22,9 +22,6 @@ signed keeps x = cond keeps x (neg_ℤ x)
 abbrev pub is_even : ℕ → Bool
 is_even n = nat_eq (n % 2) 0
 
-parity : (n : ℕ) → (n % 2 ≡ 0) ⊎ (n % 2 ≡ 1)
-parity n = grind (arith, nat_tests)
-
 pub signed_by-signed : (r m x : ℕ) → signed_by (pos r -ℤ pos m) x ≡ signed (is_even (r + m)) (pos x)
 signed_by-signed r m x = signed_by-less (pos r -ℤ pos m) r m x refl
 

@@ -19,7 +19,7 @@ use Rattle.kh_types.specs.Classes.{Respects}
 use Rattle.kh_types.specs.Code.{Code, IsCrossing, arc_count}
 use Rattle.kh_types.specs.Directions.{minus_count, plus_count}
 use Rattle.kh_types.specs.Edges.{arc_at_slot}
-use Rattle.cube_squares.proofs.Merges.{circle_in}
+use Rattle.square_laws.proofs.Merges.{circle_in}
 use Rattle.link_algebra.proofs.Flips.{bit-flipped, flipped, flipped-below, flipped-twice}
 use Rattle.link_algebra.proofs.Renamings.{IsRenaming, IsRenaming-back, IsTurned}
 

@@ -11,7 +11,7 @@ use Rattle.kh_types.specs.StateSum.{state_sum}
 use Rattle.kh_types.specs.Table.{dimension}
 use Rattle.kh_types.proofs.EdgeNames.{IsArc-slot}
 use Rattle.kh_types.proofs.Heads.{HasNoSingleArcs-accepted}
-use Rattle.gluing.specs.Alike.{AreAlike}
+use Rattle.gluing_laws.specs.Alike.{AreAlike}
 use Rattle.orient_arcs.proofs.AlikeCrossings.{AreAlike-renamed}
 use Rattle.link_algebra.specs.Mirrors.{mirror_of, reversal_of}
 use Rattle.link_algebra.proofs.MirrorParts.{mirror_turn}

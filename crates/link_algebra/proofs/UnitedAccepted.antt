@@ -30,8 +30,9 @@ use Rattle.kh_types.specs.Darts.{HasArcsTwice, first_dart, partner, partner_at, 
 use Rattle.kh_types.specs.Faces.{face_count, face_pair, piece_count, piece_pair}
 use Rattle.kh_types.specs.declared.dart.Dart.{Dart}
 use Rattle.kh_types.specs.declared.limits.TheConstants.{COMPONENTS}
+use Rattle.kh_types.proofs.JointNumbers.{bit-inside, bit-outside}
 use Rattle.link_algebra.proofs.ClassParts.{class_count-append_lists, classes-parts, length-classes, lifted_pairs}
-use Rattle.link_algebra.proofs.UnitedCircles.{HoldsNames-twice, bit-first, bit-second, length-both}
+use Rattle.link_algebra.proofs.UnitedCircles.{HoldsNames-twice, length-both}
 use Rattle.link_algebra.proofs.UnitedComponents.{IsPart, components-both, components-own, inner_components, length-components, passes-small}
 use Rattle.link_algebra.proofs.UnitedSigns.{part-arc}
 use Rattle.link_algebra.specs.Unions.{union_of}
@@ -240,7 +241,7 @@ IsCheckerboard-both first second are directed one two =
           solves-of 0 first.crossings whole a choice x are.one
           (IsColoured-checkerboard first.crossings one (HasArcsTwice-directed first.crossings are.first_is)) whole_twice whole_is
           (λ c is. (let f : 0 + c ≡ c = omega arith in ap (λ m. bit choice (place_of m)) f)
-          ∙ bit-first n a b (place_of c) (omega (arith, is.positive, is.within)))
+          ∙ bit-inside n a b (place_of c) (omega (arith, is.positive, is.within)))
           (each-crossing (λ c. (slot : ℕ) → slot < 4 → arc_in (slots_of whole c) slot ≡ x + 2 * 0 → IsOf 0 first.crossings c) first second
           (λ c is slot slot_below on. (c, is, refl))
           (λ c is slot slot_below on. absurd (omega (
@@ -254,7 +255,7 @@ IsCheckerboard-both first second are directed one two =
           solves-of n second.crossings whole b choice x are.two
           (IsColoured-checkerboard second.crossings two (HasArcsTwice-directed second.crossings are.second_is)) whole_twice whole_is
           (λ c is. (let f : n + c - 1 ≡ n + place_of c = omega (arith, is.positive) in ap (bit choice) f)
-          ∙ bit-second n a b (place_of c) one.below)
+          ∙ bit-outside n a b (place_of c) one.below)
           (each-crossing (λ c. (slot : ℕ) → slot < 4 → arc_in (slots_of whole c) slot ≡ x + 2 * n → IsOf n second.crossings c) first second
           (λ c is slot slot_below on. absurd (omega (
             arith,

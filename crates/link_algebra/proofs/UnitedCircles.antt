@@ -21,6 +21,7 @@ use Rattle.kh_types.specs.Darts.{HasArcsTwice}
 use Rattle.link_algebra.proofs.ClassParts.{class_count-append_lists, classes-parts, length-classes, lifted_pairs, sum_by-parts}
 use Rattle.link_algebra.specs.Unions.{raised_slots, union_of}
 use Rattle.kh_types.proofs.JoinedSlots.{smoothings_from}
+use Rattle.kh_types.proofs.JointNumbers.{bit-inside, bit-outside}
 
 -- the slots of crossings hold numbers above 0 and below another
 abbrev pub SlotsHold : ℕ → List ℕ → Type 0
@@ -145,19 +146,6 @@ lowered-below n pairs is below = grind (arith, nat_tests, below-lifted_pairs)
 abbrev pub state_of_both : Code → ℕ → ℕ → ℕ
 state_of_both first a b = a + 2 ^ length first.crossings * b
 
-pub bit-first : (n a b k : ℕ) → k < n → bit (a + 2 ^ n * b) k ≡ bit a k
-bit-first n a b k below =
-    let e : a + 2 ^ n * b ≡ b * 2 ^ n + a = omega arith in ap (λ s. bit s k) e ∙ bit_at_cat_low b n a k below
-
-pub bit-second : (n a b k : ℕ) → a < 2 ^ n → bit (a + 2 ^ n * b) (n + k) ≡ bit b k
-bit-second n a b k small =
-    let e : a + 2 ^ n * b ≡ b * 2 ^ n + a = omega arith in
-    let rest : n + k - n ≡ k = omega arith in
-    ap (λ s. bit s (n + k)) e ∙ bit_at_cat_high b n a (n + k) small (omega arith) ∙ ap (bit b) rest
-
-pub ones-both : (n m a b : ℕ) → a < 2 ^ n → ones (n + m) (a + 2 ^ n * b) ≡ ones n a + ones m b
-ones-both n m a b small = grind (arith, nat_tests, sum_by-parts, sum_by-range_alike, bit-first, bit-second)
-
 pub smoothings-both : (first second : Code) (a b : ℕ) → IsTrue (accepted second) → a < 2 ^ length first.crossings
     → smoothings_of (union_of first second).crossings (state_of_both first a b)
     ≡ smoothings_of first.crossings a ++ lifted_pairs (arc_count first.crossings + 1) (lowered (smoothings_of second.crossings b))
@@ -166,11 +154,11 @@ smoothings-both first second a b second_is small =
     let by = arc_count first.crossings in
     let s = state_of_both first a b in
     let e : 0 + n ≡ n + 0 = omega arith in
-    front s a 0 first.crossings (map (raised_slots by) second.crossings) (λ k from below. bit-first n a b k (omega (arith, below)))
+    front s a 0 first.crossings (map (raised_slots by) second.crossings) (λ k from below. bit-inside n a b k (omega (arith, below)))
     ∙ ap (λ ps. smoothings_of first.crossings a ++ ps)
     (ap (λ p. smoothings_from s p (map (raised_slots by) second.crossings)) e
     ∙ behind (raised_slots by) s b n (by + 1) 0 (arc_count second.crossings + 1) second.crossings
-    (AreMoved-raised by (arc_count second.crossings + 1)) (λ k from below. bit-second n a b k small)
+    (AreMoved-raised by (arc_count second.crossings + 1)) (λ k from below. bit-outside n a b k small)
     (HoldsNames-accepted second second_is))
 
 pub length-both : (first second : Code) → length (union_of first second).crossings ≡ length first.crossings + length second.crossings

@@ -13,9 +13,10 @@ use Rattle.kh_types.specs.Directions.{minus_count, plus_count}
 use Rattle.kh_types.specs.Generators.{one_count, states}
 use Rattle.kh_types.specs.StateSum.{state_sum, state_term, term_of}
 use Rattle.kh_types.specs.Table.{from_minus}
+use Rattle.kh_types.proofs.JointNumbers.{ones-joint}
 use Rattle.link_algebra.proofs.IntSums.{sum-alike, sum-blocks, sum-range_alike, sum-times, sum-times_right, sum-turned, sum_over}
 use Rattle.link_algebra.proofs.TermProducts.{Fits, terms-product}
-use Rattle.link_algebra.proofs.UnitedCircles.{circle_count-both, length-both, ones-both, state_of_both}
+use Rattle.link_algebra.proofs.UnitedCircles.{circle_count-both, length-both, state_of_both}
 use Rattle.link_algebra.specs.Unions.{product_coefficient, union_of}
 
 -- the signs of both
@@ -56,7 +57,7 @@ state_sum-united first second most e first_is second_is plus fits =
     ap₂ (λ p m. term_of p m e (one_count both (state_of_both first a b)) (circle_count both (state_of_both first a b))) plus minus
     ∙ ap₂ (λ r c. term_of (plus_count first.crossings + plus_count second.crossings)
     (minus_count first.crossings + minus_count second.crossings) e r c)
-    (ap (λ m. ones m (state_of_both first a b)) (length-both first second) ∙ ones-both n k a b small)
+    (ap (λ m. ones m (state_of_both first a b)) (length-both first second) ∙ ones-joint n a b k small)
     (circle_count-both first second a b first_is second_is small)
     ∙ sym (terms-product most (plus_count first.crossings) (minus_count first.crossings) (plus_count second.crossings)
     (minus_count second.crossings) e (one_count first a) (one_count second b) (circle_count first a) (circle_count second b)

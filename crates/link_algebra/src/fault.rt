@@ -1,7 +1,7 @@
 //! What refuses a union.
 
 /// What two diagrams have too many of, together, for a union that can be written and read;
-/// crossings come first. Source: this project's rule.
+/// crossings come first.
 #[derive(Clone, Copy, Debug, PartialEq, Eq)]
 pub enum UnionFault {
     /// They have `count` crossings, which are more than `CROSSINGS`.

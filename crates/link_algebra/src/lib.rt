@@ -1,4 +1,5 @@
-//! The mirror, the reversal and the disjoint union of diagrams.
+//! The mirror, the reversal and the disjoint union of diagrams, and what the first two do to
+//! homology.
 #![tactic(auto)]
 
 mod fault;

@@ -28,7 +28,7 @@ pub fn mirror(diagram: &Diagram) -> Diagram
 }
 
 /// The reversal of a diagram: every component goes the other way, and each crossing keeps its sign,
-/// so that the homology stays. Source: this project's rule.
+/// so that the homology stays.
 pub fn reverse(diagram: &Diagram) -> Diagram
     ensures code { result ≡ reversal_of diagram.now }
     ensures dimensions { (p : ℕ) → IsSmallPrime p → (i j : ℤ)

@@ -6,22 +6,23 @@ use Rattle.kh_types.specs.Code.{Code, IsArc}
 use Rattle.kh_types.specs.Directions.{plus_count}
 use Rattle.kh_types.specs.Residues.{HasInverses}
 use Rattle.kh_types.specs.Table.{dimension}
-use Rattle.gluing.specs.Codes.{IsRenumbered}
+use Rattle.gluing_laws.specs.Codes.{IsRenumbered}
 use Rattle.orient_arcs.specs.Renumbered.{renumber}
-use Rattle.kinks_and_fingers.specs.DropCircles.{through_at}
-use Rattle.kinks_and_fingers.specs.Dropping.{HasBigonAt, HasKinkAt}
-use Rattle.kinks_and_fingers.specs.Drops.{is_of_two, without_finger, without_kink}
-use Rattle.kinks_and_fingers.specs.FingerAdd.{fingered, head_number, opened}
-use Rattle.kinks_and_fingers.specs.KinkAdds.{raised, with_kink}
-use Rattle.kinks_and_fingers.specs.KinkCodes.{one_where}
-use Rattle.kinks_and_fingers.proofs.AddedSums.{AreAddedGone-finger, AreAddedGone-kink, HasBigonAt-fingered, HasKinkAt-kinked, first_slot, second_slot}
-use Rattle.kinks_and_fingers.proofs.FingeredCodes.{AreFingerable-accepted, IsAdded-finger, finger_sign, plus_count-fingered}
-use Rattle.kinks_and_fingers.proofs.KinkFaces.{accepted-kinked}
-use Rattle.kinks_and_fingers.proofs.KinkSlots.{inner_slot, last}
-use Rattle.kinks_and_fingers.proofs.KinkedCodes.{IsAdded-kink, IsKinkable-accepted, plus_count-kinked}
-use Rattle.kinks_and_fingers.proofs.MovableArcs.{AreFingerable}
-use Rattle.kinks_and_fingers.proofs.Opened.{low, lowered}
-use Rattle.kinks_and_fingers.proofs.Sound.{IsSound-finger, IsSound-kink}
+use Rattle.kink_and_finger_laws.specs.DropCircles.{through_at}
+use Rattle.kink_and_finger_laws.specs.Dropping.{HasBigonAt, HasKinkAt}
+use Rattle.kink_and_finger_laws.specs.Drops.{is_of_two, without_finger, without_kink}
+use Rattle.kink_and_finger_laws.specs.FingerAdd.{fingered, head_number, opened}
+use Rattle.kink_and_finger_laws.specs.KinkAdds.{raised, with_kink}
+use Rattle.kink_and_finger_laws.specs.KinkCodes.{one_where}
+use Rattle.kink_and_finger_laws.proofs.AddedSums.{AreAddedGone-finger, AreAddedGone-kink, HasBigonAt-fingered, HasKinkAt-kinked}
+use Rattle.kink_and_finger_laws.proofs.FingerSlots.{first_slot, second_slot}
+use Rattle.kink_and_finger_laws.proofs.FingeredCodes.{AreFingerable-accepted, IsAdded-finger, finger_sign, plus_count-fingered}
+use Rattle.kink_and_finger_laws.proofs.KinkFaces.{accepted-kinked}
+use Rattle.kink_and_finger_laws.proofs.KinkSlots.{inner_slot, last}
+use Rattle.kink_and_finger_laws.proofs.KinkedCodes.{IsAdded-kink, IsKinkable-accepted, plus_count-kinked}
+use Rattle.kink_and_finger_laws.proofs.MovableArcs.{AreFingerable}
+use Rattle.kink_and_finger_laws.proofs.Opened.{low, lowered}
+use Rattle.kink_and_finger_laws.proofs.Sound.{IsSound-finger, IsSound-kink}
 use Rattle.view_laws.proofs.Renumbered.{dimension-renumbered_code}
 use Rattle.drop_laws.specs.DropSigns.{AreBigonSigns, AreKinkSigns}
 use Rattle.drop_laws.proofs.BigonCuts.{IsBigonCut-dropped}

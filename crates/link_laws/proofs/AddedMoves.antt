@@ -6,24 +6,24 @@ use Rattle.std.specs.Option.{option_or}
 use Rattle.kh_types.specs.Acceptance.{accepted}
 use Rattle.kh_types.specs.Code.{Code, IsArc, place_of}
 use Rattle.kh_types.specs.Directions.{is_positive}
-use Rattle.gluing.specs.Codes.{IsRenumbered}
+use Rattle.gluing_laws.specs.Codes.{IsRenumbered}
 use Rattle.orient_arcs.specs.Renumbered.{renumber}
-use Rattle.kinks_and_fingers.specs.Dropping.{HasBigonAt, HasKinkAt}
-use Rattle.kinks_and_fingers.specs.Drops.{is_bigon, is_of_two, without_finger, without_kink}
-use Rattle.kinks_and_fingers.specs.FingerAdd.{differ, fingered, head_number, opened, with_finger}
-use Rattle.kinks_and_fingers.specs.KinkAdds.{raised, with_kink}
-use Rattle.kinks_and_fingers.specs.Pulls.{early, late}
-use Rattle.kinks_and_fingers.proofs.AddedCodes.{IsAdded}
-use Rattle.kinks_and_fingers.proofs.AddedSigns.{sign-old}
-use Rattle.kinks_and_fingers.proofs.AddedSums.{AreAddedGone-finger, AreAddedGone-kink, HasBigonAt-fingered, HasKinkAt-kinked, first_slot, second_slot}
-use Rattle.kinks_and_fingers.proofs.FingerSlots.{length-fingered}
-use Rattle.kinks_and_fingers.proofs.FingeredCodes.{AreFingerable-accepted, IsAdded-finger, finger_sign}
-use Rattle.kinks_and_fingers.proofs.KinkFaces.{accepted-kinked}
-use Rattle.kinks_and_fingers.proofs.KinkSlots.{inner_slot, last, length-kinked}
-use Rattle.kinks_and_fingers.proofs.KinkedCodes.{IsAdded-kink, IsKinkable-accepted}
-use Rattle.kinks_and_fingers.proofs.MovableArcs.{AreFingerable}
-use Rattle.kinks_and_fingers.proofs.Opened.{low, lowered}
-use Rattle.kinks_and_fingers.proofs.Sound.{IsSound-finger, IsSound-kink}
+use Rattle.kink_and_finger_laws.specs.Dropping.{HasBigonAt, HasKinkAt}
+use Rattle.kink_and_finger_laws.specs.Drops.{is_bigon, is_of_two, without_finger, without_kink}
+use Rattle.kink_and_finger_laws.specs.FingerAdd.{differ, fingered, head_number, opened, with_finger}
+use Rattle.kink_and_finger_laws.specs.KinkAdds.{raised, with_kink}
+use Rattle.kink_and_finger_laws.specs.Pulls.{early, late}
+use Rattle.kink_and_finger_laws.proofs.AddedCodes.{IsAdded}
+use Rattle.kink_and_finger_laws.proofs.AddedSigns.{sign-old}
+use Rattle.kink_and_finger_laws.proofs.AddedSums.{AreAddedGone-finger, AreAddedGone-kink, HasBigonAt-fingered, HasKinkAt-kinked}
+use Rattle.kink_and_finger_laws.proofs.FingerSlots.{first_slot, length-fingered, second_slot}
+use Rattle.kink_and_finger_laws.proofs.FingeredCodes.{AreFingerable-accepted, IsAdded-finger, finger_sign}
+use Rattle.kink_and_finger_laws.proofs.KinkFaces.{accepted-kinked}
+use Rattle.kink_and_finger_laws.proofs.KinkSlots.{inner_slot, last, length-kinked}
+use Rattle.kink_and_finger_laws.proofs.KinkedCodes.{IsAdded-kink, IsKinkable-accepted}
+use Rattle.kink_and_finger_laws.proofs.MovableArcs.{AreFingerable}
+use Rattle.kink_and_finger_laws.proofs.Opened.{low, lowered}
+use Rattle.kink_and_finger_laws.proofs.Sound.{IsSound-finger, IsSound-kink}
 use Rattle.diagram_moves.specs.declared.change.Move.{Move}
 use Rattle.diagram_moves.specs.declared.change.Side.{Side}
 use Rattle.diagram_moves.specs.declared.change.Move.TheVariants.{FingerAdd, FingerDrop, KinkAdd, KinkDrop, Slide}

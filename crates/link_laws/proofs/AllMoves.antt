@@ -5,8 +5,8 @@ use Rattle.kh_types.specs.Acceptance.{accepted}
 use Rattle.kh_types.specs.Code.{Code, place_of}
 use Rattle.kh_types.specs.Residues.{HasInverses}
 use Rattle.kh_types.specs.Table.{dimension}
-use Rattle.kinks_and_fingers.specs.FingerAdd.{differ, with_finger}
-use Rattle.kinks_and_fingers.specs.KinkAdds.{with_kink}
+use Rattle.kink_and_finger_laws.specs.FingerAdd.{differ, with_finger}
+use Rattle.kink_and_finger_laws.specs.KinkAdds.{with_kink}
 use Rattle.diagram_moves.specs.Moved.{is_left, moved}
 use Rattle.diagram_moves.specs.MoveFaults.{finger_add_fault, finger_place_fault, kink_add_fault, wrong_genus}
 use Rattle.diagram_moves.specs.declared.change.Move.{Move}

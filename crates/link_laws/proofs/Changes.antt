@@ -10,9 +10,9 @@ use Rattle.kh_types.specs.StateSum.{state_sum, sum_with}
 use Rattle.kh_types.specs.Table.{dimension}
 use Rattle.kh_types.proofs.AcceptedLemmas.{HasArcsTwice-accepted}
 use Rattle.kh_types.proofs.RangeCounts.{count_by-alike}
-use Rattle.gluing.proofs.Renumbered.{sum_with-renumbered}
-use Rattle.slides.proofs.SlidTriangle.{HoldsArcs-twice}
-use Rattle.cell_complexes.proofs.Orders.{dimension-same_signs}
+use Rattle.gluing_laws.proofs.Renumbered.{sum_with-renumbered}
+use Rattle.slide_laws.proofs.SlidTriangle.{HoldsArcs-twice}
+use Rattle.order_laws.proofs.Orders.{dimension-same_signs}
 use Rattle.diagram_moves.specs.Moved.{moved}
 use Rattle.diagram_moves.specs.declared.change.Move.{Move}
 use Rattle.diagram_moves.specs.declared.change.Move.TheVariants.{FingerDrop, KinkDrop, Slide}

@@ -8,11 +8,11 @@ use Rattle.std.proofs.lemmas.Nat.{pow_pos}
 use Rattle.kh_types.specs.Bits.{ones}
 use Rattle.kh_types.specs.Code.{Code}
 use Rattle.kh_types.proofs.Residues.{same-equal}
-use Rattle.cell_complexes.specs.Cells.{AreComplex}
-use Rattle.cell_complexes.specs.Layers.{IsTimesIdentity, Layers, cells_of}
-use Rattle.cell_complexes.proofs.NoDoubles.{flat_map-range}
+use Rattle.cell_laws.specs.Cells.{AreComplex}
+use Rattle.cell_laws.specs.Layers.{IsTimesIdentity, Layers, cells_of}
+use Rattle.cell_laws.proofs.NoDoubles.{flat_map-range}
 use Rattle.layer_laws.specs.Cuts.{IsCut, IsNothing, IsTimes, cut_objects, is_step, same_label, step_sign}
-use Rattle.cell_complexes.specs.Signs.{sign_of_power}
+use Rattle.cell_laws.specs.Signs.{sign_of_power}
 use Rattle.view_laws.specs.Partitions.{AgreeOn, saddle_number, seen_count}
 use Rattle.view_laws.specs.Views.{HasCircles, IsInnerStep, SeeAlike, View, joint_state, together}
 use Rattle.view_laws.specs.ViewLayers.{closed_of, inside_of, object_of, objects_at, outer_count, relation_of, seen_at, view_layers, view_objects}

@@ -10,10 +10,10 @@ use Rattle.kh_types.specs.Code.{Code}
 use Rattle.kh_types.specs.Directions.{minus_count, plus_count}
 use Rattle.kh_types.specs.Residues.{HasInverses}
 use Rattle.kh_types.specs.Table.{dimension}
-use Rattle.cell_complexes.specs.Cells.{AreComplex, dimension_at}
-use Rattle.cell_complexes.specs.Layers.{Layers, cells_of}
-use Rattle.cell_complexes.proofs.Orders.{AreComplex-cube}
-use Rattle.kinks_and_fingers.specs.Drops.{is_of_two}
+use Rattle.cell_laws.specs.Cells.{AreComplex, dimension_at}
+use Rattle.cell_laws.specs.Layers.{Layers, cells_of}
+use Rattle.cell_laws.proofs.CubeCells.{AreComplex-cube}
+use Rattle.kink_and_finger_laws.specs.Drops.{is_of_two}
 use Rattle.layer_laws.specs.Cuts.{IsCut, is_step}
 use Rattle.layer_laws.specs.Slid.{kind_of_bigon}
 use Rattle.layer_laws.proofs.Bigons.{bigon-closes_first, bigon-closes_second, has_kind, near-bigon}
@@ -31,7 +31,7 @@ use Rattle.view_laws.specs.Fronts.{first_to}
 use Rattle.drop_laws.specs.NamesLeft.{number_left}
 use Rattle.drop_laws.proofs.DroppedMoves.{dimension-bigon_first}
 use Rattle.view_laws.proofs.ClosedOne.{closes-elsewhere, closes-there}
-use Rattle.cell_complexes.proofs.Reordered.{reordered-length}
+use Rattle.order_laws.proofs.Reordered.{reordered-length}
 
 module _ (p : ℕ) (code new : Code) (c d slot other_slot : ℕ) (field : HasInverses p) (holds : IsTrue (accepted code))
     (cut : IsBigonCut code new c d slot other_slot) (signs : AreBigonSigns code new) where

@@ -9,10 +9,10 @@ use Rattle.kh_types.specs.Code.{Code}
 use Rattle.kh_types.specs.Directions.{minus_count, plus_count}
 use Rattle.kh_types.specs.Residues.{HasInverses}
 use Rattle.kh_types.specs.Table.{dimension}
-use Rattle.cell_complexes.specs.Cells.{AreComplex, dimension_at}
-use Rattle.cell_complexes.specs.Layers.{Layers, cells_of}
-use Rattle.cell_complexes.proofs.Orders.{AreComplex-cube}
-use Rattle.kinks_and_fingers.specs.DropCircles.{closing_at, through_at}
+use Rattle.cell_laws.specs.Cells.{AreComplex, dimension_at}
+use Rattle.cell_laws.specs.Layers.{Layers, cells_of}
+use Rattle.cell_laws.proofs.CubeCells.{AreComplex-cube}
+use Rattle.kink_and_finger_laws.specs.DropCircles.{closing_at, through_at}
 use Rattle.layer_laws.specs.Cuts.{IsCut}
 use Rattle.layer_laws.proofs.Kinks.{kink-closes_first, kink-closes_second}
 use Rattle.view_laws.specs.Views.{HasCircles, View, joint_state, together}
@@ -26,7 +26,7 @@ use Rattle.drop_laws.specs.DropSigns.{AreKinkSigns}
 use Rattle.drop_laws.specs.DroppedCubes.{IsKinkCut, kink_first, kink_left, kink_view}
 use Rattle.drop_laws.specs.NamesLeft.{number_left}
 use Rattle.drop_laws.proofs.DroppedMoves.{dimension-kink_first}
-use Rattle.cell_complexes.proofs.Reordered.{reordered-length}
+use Rattle.order_laws.proofs.Reordered.{reordered-length}
 use Rattle.view_laws.proofs.ClosedOne.{closes-there, closes-elsewhere}
 
 -- one circle closes at one inner state

@@ -7,11 +7,11 @@ use Rattle.std.proofs.lemmas.List.Sums.{sum_by-cons}
 use Rattle.kh_types.specs.Bits.{ones}
 use Rattle.kh_types.specs.Code.{Code}
 use Rattle.kh_types.specs.StateSum.{int_sum, sum_with, term_of, term_with}
-use Rattle.cell_complexes.specs.Cubes.{IsReordered}
-use Rattle.cell_complexes.proofs.ExchangedBits.{exchanged, exchanged-below, exchanged-twice, ones-high}
-use Rattle.cell_complexes.proofs.ExchangedCodes.{circle_count-exchanged, code_with, length-with}
-use Rattle.cell_complexes.proofs.Matched.{sum_by-paired}
-use Rattle.cell_complexes.proofs.Orders.{reordered}
+use Rattle.order_laws.specs.Orders.{IsReordered}
+use Rattle.order_laws.proofs.ExchangedBits.{exchanged, exchanged-below, exchanged-twice, ones-high}
+use Rattle.order_laws.proofs.ExchangedCodes.{circle_count-exchanged, code_with, length-with}
+use Rattle.cell_laws.proofs.Matched.{sum_by-paired}
+use Rattle.order_laws.proofs.Orders.{reordered}
 
 -- an integer as the difference of two numbers
 abbrev upper : ℤ → ℕ

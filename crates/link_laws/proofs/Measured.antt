@@ -3,8 +3,8 @@ use Rattle.std.proofs.Common.{◌≡◌, ℕ, ◌+◌, ◌*◌, ◌%◌, ◌^◌
 use Rattle.kh_types.specs.Bits.{ones}
 use Rattle.kh_types.specs.Code.{Code}
 use Rattle.kh_types.proofs.Residues.{same-equal}
-use Rattle.cell_complexes.specs.Cells.{AreComplex}
-use Rattle.cell_complexes.specs.Layers.{Layers, cells_of}
+use Rattle.cell_laws.specs.Cells.{AreComplex}
+use Rattle.cell_laws.specs.Layers.{Layers, cells_of}
 use Rattle.layer_laws.specs.Slid.{IsMeasured}
 use Rattle.view_laws.specs.Partitions.{seen_count}
 use Rattle.view_laws.specs.Views.{HasCircles, View}

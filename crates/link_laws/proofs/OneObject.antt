@@ -9,12 +9,12 @@ use Rattle.kh_types.specs.Code.{Code}
 use Rattle.kh_types.specs.Residues.{Same}
 use Rattle.kh_types.proofs.ListSums.{sum_by-times}
 use Rattle.kh_types.proofs.Residues.{same-equal, same-mul}
-use Rattle.cube_squares.proofs.Signs.{ones-set_below}
-use Rattle.cell_complexes.specs.Cells.{AreComplex}
-use Rattle.cell_complexes.specs.Layers.{Layers, cells_of}
-use Rattle.cell_complexes.proofs.Members.{sum_by-same}
+use Rattle.square_laws.proofs.Signs.{ones-set_below}
+use Rattle.cell_laws.specs.Cells.{AreComplex}
+use Rattle.cell_laws.specs.Layers.{Layers, cells_of}
+use Rattle.cell_laws.proofs.Members.{sum_by-same}
 use Rattle.layer_laws.specs.Cuts.{IsLikeOne}
-use Rattle.cell_complexes.specs.Signs.{sign_of_power}
+use Rattle.cell_laws.specs.Signs.{sign_of_power}
 use Rattle.layer_laws.proofs.Signs.{sign-sum}
 use Rattle.view_laws.specs.Partitions.{saddle_number}
 use Rattle.view_laws.specs.Views.{HasCircles, IsView, SeeAlike, View, joint_state, plain_view}

@@ -9,8 +9,8 @@ use Rattle.kh_types.specs.Acceptance.{accepted}
 use Rattle.kh_types.specs.Code.{Code, crossing_numbers}
 use Rattle.kh_types.specs.Directions.{is_positive}
 use Rattle.code_passes.specs.Parts.{slots_in}
-use Rattle.cell_complexes.specs.Cubes.{IsReordered, listed_by}
-use Rattle.cell_complexes.proofs.Reordered.{reordered-map}
+use Rattle.order_laws.specs.Orders.{IsReordered, listed_by}
+use Rattle.order_laws.proofs.Reordered.{reordered-map}
 use Rattle.link_algebra.specs.Unions.{union_of}
 use Rattle.union_laws.specs.Pieces.{IsCut, kept_first, part_of}
 use Rattle.union_laws.proofs.CutCodes.{accepted-cut, accepted-order}
@@ -18,9 +18,10 @@ use Rattle.union_laws.proofs.CutNumbers.{cut_number, numbers-cut}
 use Rattle.union_laws.proofs.CutSigns.{sign-cut, sign-first}
 use Rattle.union_laws.proofs.KeptPlaces.{kept_first-order, kept_order, length-first, length-order, map-places, place_in, reordered-parted}
 use Rattle.union_laws.proofs.KeptSearches.{range-later}
-use Rattle.union_laws.proofs.ListTests.{map-same, range-bounds}
+use Rattle.union_laws.proofs.ListTests.{range-bounds}
 use Rattle.link_laws.specs.Links.{AreOneLink, HasOtherOrder, arcs_renumbered, crossings_reordered, signed_crossings}
 use Rattle.link_laws.proofs.Paths.{link-change, link-onward}
+use Rattle.view_laws.proofs.Tests.{map-agree}
 
 -- the crossing at a place, with its sign
 abbrev signed_at : List (List ℕ) → ℕ → List ℕ × Bool
@@ -57,7 +58,7 @@ module _ (keep : ℕ → Bool) (code : Code) (holds : IsTrue (accepted code)) (c
       let all = range_with_len 0 n in
       signs-places listed
       ∙ ap (λ (k : ℕ). map (λ place. is_positive listed (place + 1)) (range_with_len 0 k)) (length-first keep code.crossings)
-      ∙ map-same (λ place. is_positive listed (place + 1)) (λ place. sign_at (place_in keep code.crossings place)) all
+      ∙ map-agree (λ place. is_positive listed (place + 1)) (λ place. sign_at (place_in keep code.crossings place)) all
       (λ place has. sign-first keep code holds cut place (omega (arith, range-bounds 0 n place has)))
       ∙ sym (map-map sign_at (place_in keep code.crossings) all)
       ∙ ap (λ (k : ℕ). map sign_at (map (place_in keep code.crossings) (range_with_len 0 k))) (sym (length-order keep code.crossings))

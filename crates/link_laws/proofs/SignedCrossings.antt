@@ -6,8 +6,8 @@ use Rattle.std.proofs.lemmas.List.FromFn.{length-range_with_len}
 use Rattle.kh_types.specs.Code.{Code, crossing_numbers}
 use Rattle.kh_types.specs.Directions.{is_positive, minus_count, plus_count}
 use Rattle.kh_types.proofs.Lists.{count_by-map}
-use Rattle.cell_complexes.specs.Cubes.{IsReordered}
-use Rattle.cell_complexes.proofs.Reordered.{reordered-count, reordered-length, reordered-map}
+use Rattle.order_laws.specs.Orders.{IsReordered}
+use Rattle.order_laws.proofs.Reordered.{reordered-count, reordered-length, reordered-map}
 use Rattle.link_laws.specs.Links.{HasOtherOrder, signed_crossings}
 
 zip-firsts : {A B : Type 0} (xs : List A) (ys : List B) → length xs ≡ length ys → map (λ (pair : A × B). pair.0) (zip xs ys) ≡ xs

@@ -8,10 +8,10 @@ use Rattle.kh_types.specs.Code.{Code}
 use Rattle.kh_types.specs.Directions.{minus_count, plus_count}
 use Rattle.kh_types.specs.Residues.{HasInverses}
 use Rattle.kh_types.specs.Table.{dimension}
-use Rattle.cell_complexes.specs.Cells.{AreComplex, dimension_at}
-use Rattle.cell_complexes.specs.Cubes.{cube_of}
-use Rattle.cell_complexes.specs.Layers.{Layers, cells_of}
-use Rattle.cell_complexes.proofs.Orders.{AreComplex-cube}
+use Rattle.cell_laws.specs.Cells.{AreComplex, dimension_at}
+use Rattle.cell_laws.specs.Cubes.{cube_of}
+use Rattle.cell_laws.specs.Layers.{Layers, cells_of}
+use Rattle.cell_laws.proofs.CubeCells.{AreComplex-cube}
 use Rattle.layer_laws.specs.Cuts.{IsCut, is_step}
 use Rattle.layer_laws.specs.Slid.{IsMeasured, is_near, kind_after, kind_before}
 use Rattle.layer_laws.proofs.Slides.{dimension-slide}

@@ -7,11 +7,9 @@ use Rattle.kh_types.proofs.ListSums.{sum_by-single}
 use Rattle.kh_types.proofs.RangeCounts.{list_any-at}
 use Rattle.kh_types.proofs.Ranges.{list_any-found}
 use Rattle.layer_laws.specs.Cuts.{is_change, is_step, ones_before}
+use Rattle.layer_laws.proofs.Reorderings.{at_odds}
 use Rattle.view_laws.specs.Views.{IsInnerStep, View}
 use Rattle.view_laws.proofs.Steps.{IsOuterStep, one-place}
-
-pub at-odds : {A : Type 0} (b : Bool) → b ≡ true → b ≡ false → A
-at-odds b passes fails = let e : true ≡ false = sym passes ∙ fails in cc
 
 pub step-of-change : (t u i : ℕ) → is_change t u i ≡ true → IsOuterStep t u i
 step-of-change t u i is =
@@ -48,7 +46,7 @@ step-found view t u within is =
 
 pub no-step : (view : View) (t u : ℕ) → is_step view.inner t u ≡ false → (i : ℕ) → IsInnerStep view t u i → ⊥
 no-step view t u none i step =
-    at-odds (is_step view.inner t u)
+    at_odds (is_step view.inner t u)
     (list_any-at (is_change t u) 0 view.inner i (omega arith) (omega (arith, step.place))
     (change-of-step t u i (record { zero_there = step.zero_there; behind = step.behind })))
     none

@@ -6,8 +6,8 @@ use Rattle.std.specs.List.{zip}
 use Rattle.kh_types.specs.Acceptance.{accepted}
 use Rattle.kh_types.specs.Code.{Code, IsCrossing, crossing_numbers}
 use Rattle.kh_types.specs.Directions.{is_positive}
-use Rattle.gluing.specs.Codes.{IsRenumbered}
-use Rattle.cell_complexes.specs.Cubes.{IsReordered}
+use Rattle.gluing_laws.specs.Codes.{IsRenumbered}
+use Rattle.order_laws.specs.Orders.{IsReordered}
 use Rattle.diagram_moves.specs.Moved.{moved}
 use Rattle.diagram_moves.specs.declared.change.Move.TheVariants.{FingerDrop, KinkDrop, Slide}
 use Rattle.link_algebra.specs.Mirrors.{reversal_of}

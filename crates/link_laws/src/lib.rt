@@ -1,5 +1,5 @@
 //! The Reidemeister moves keep homology, and so all diagrams of a link share it, with the Jones
-//! polynomial. It has laws, and no code.
+//! polynomial.
 #![tactic(auto)]
 
 pub mod laws;

@@ -12,11 +12,11 @@ use Rattle.kh_types.specs.Generators.{Generator, generator_of, generators, gener
 use Rattle.kh_types.specs.Residues.{Same}
 use Rattle.kh_types.proofs.ListSums.{sum_by-alike, sum_by-flat_map, sum_by-map, sum_by-single, sum_by-some, sum_by-zeros}
 use Rattle.kh_types.proofs.Residues.{same-equal}
-use Rattle.cell_complexes.proofs.ExchangedCubes.{IsMember}
-use Rattle.cell_complexes.proofs.Members.{sum_by-term}
-use Rattle.cube_squares.proofs.Merges.{IsSwitch, switch-edge}
-use Rattle.cube_squares.proofs.Pairs.{IsStep, coefficient-one, edge_or_zero}
-use Rattle.cube_squares.proofs.TouchedCircles.{fits}
+use Rattle.cell_laws.proofs.CubeCells.{IsMember}
+use Rattle.cell_laws.proofs.Members.{sum_by-term}
+use Rattle.square_laws.proofs.Merges.{IsSwitch, switch-edge}
+use Rattle.square_laws.proofs.Pairs.{IsStep, coefficient-one, edge_or_zero}
+use Rattle.square_laws.proofs.TouchedCircles.{fits}
 use Rattle.mark_laws.specs.Turns.{is_lowered, turn_count}
 use Rattle.mark_laws.proofs.EdgeTurns.{edge-commutes}
 

@@ -17,11 +17,11 @@ use Rattle.kh_types.specs.Generators.{Generator, generator_of}
 use Rattle.kh_types.specs.Residues.{Same}
 use Rattle.kh_types.proofs.ListSums.{sum_by-alike, sum_by-map, sum_by-plus, sum_by-times, sum_by-turned}
 use Rattle.kh_types.proofs.Residues.{same-add, same-equal, same-multiple}
-use Rattle.cube_squares.proofs.EdgeMarks.{edge-marks, grown, is_marked}
-use Rattle.cube_squares.proofs.MarkBounds.{hits-grown_le}
-use Rattle.cube_squares.proofs.MarkedLabels.{IsMarked-marked_by, IsName-marked_by, marked_by}
-use Rattle.cube_squares.proofs.Merges.{IsSwitch}
-use Rattle.cube_squares.proofs.TouchedCircles.{fits, fits-decides}
+use Rattle.square_laws.proofs.EdgeMarks.{edge-marks, grown, is_marked}
+use Rattle.square_laws.proofs.MarkBounds.{hits-grown_le}
+use Rattle.square_laws.proofs.MarkedLabels.{IsMarked-marked_by, IsName-marked_by, marked_by}
+use Rattle.square_laws.proofs.Merges.{IsSwitch}
+use Rattle.square_laws.proofs.TouchedCircles.{fits, fits-decides}
 use Rattle.mark_laws.specs.Turns.{turn_count}
 use Rattle.mark_laws.proofs.LessMarks.{less-turns, less_count, lists_less, marks-sum, turns-marked}
 

@@ -24,11 +24,11 @@ use Rattle.kh_types.proofs.CircleNumbers.{IsCircle-of}
 use Rattle.kh_types.proofs.ListSums.{sum_by-alike, sum_by-map, sum_by-none, sum_by-plus, sum_by-single, sum_by-zeros}
 use Rattle.kh_types.proofs.RangeCounts.{list_all-at, list_all-each}
 use Rattle.kh_types.proofs.Residues.{same-equal}
-use Rattle.cell_complexes.proofs.Members.{Contains-kept, sum_by-members, sum_by-nothing, sum_by-term}
-use Rattle.cube_squares.proofs.EdgeMarks.{IsMarked, is_marked, is_marked-decides, label_of-le}
-use Rattle.cube_squares.proofs.LabelNumbers.{IsName-names, label-exists, label-once, sum_by-names}
-use Rattle.cube_squares.proofs.Marks.{hits, hits-circle, hits-cons, hits-exchanged, hits-sum}
-use Rattle.cube_squares.proofs.Merges.{circle_in}
+use Rattle.cell_laws.proofs.Members.{Contains-kept, sum_by-members, sum_by-nothing, sum_by-term}
+use Rattle.square_laws.proofs.EdgeMarks.{IsMarked, is_marked, is_marked-decides, label_of-le}
+use Rattle.square_laws.proofs.LabelNumbers.{IsName-names, label-exists, label-once, sum_by-names}
+use Rattle.square_laws.proofs.Marks.{hits, hits-circle, hits-cons, hits-exchanged, hits-sum}
+use Rattle.square_laws.proofs.Merges.{circle_in}
 use Rattle.mark_laws.specs.Turns.{is_lowered, turn_count}
 
 -- the labels of a generator but for one circle, where they are 1 more
@@ -230,7 +230,7 @@ less-turns code state first second marked is names marks =
     one_left n l small is = omega (arith, small, is)
 
 -- a sum over all labels of a state of what is `total` at those that marks give: there is one, where each circle has one mark at most
--- (as in cube_squares)
+-- (as in square_laws)
 term-marked : (code : Code) (generator : Generator) (marked : List ℕ) (n : ℕ) → (IsMarked code generator marked → n ≡ 0)
     → n * one_if (is_marked code generator marked) ≡ 0
 term-marked code generator marked n zero_where = grind (arith, nat_tests, cases_Bool, is_marked, is_marked-decides)

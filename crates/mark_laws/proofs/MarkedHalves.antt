@@ -16,16 +16,15 @@ use Rattle.kh_types.specs.Residues.{HasInverses}
 use Rattle.kh_types.proofs.CircleNumbers.{IsCircle, IsCircle-of}
 use Rattle.kh_types.proofs.Lists.{Contains-filter}
 use Rattle.kh_types.proofs.ListSums.{sum_by-plus}
-use Rattle.cell_complexes.specs.Alike.{AreMatched}
-use Rattle.cell_complexes.specs.Cells.{dimension_at}
-use Rattle.cell_complexes.specs.Cubes.{cube_of}
-use Rattle.cell_complexes.proofs.ExchangedCubes.{IsMember, member-from, member-of}
-use Rattle.cell_complexes.proofs.Members.{Contains-kept, sum_by-members, sum_by-term}
-use Rattle.cell_complexes.proofs.NoDoubles.{once-filter, once-generators}
-use Rattle.cell_complexes.proofs.Orders.{AreComplex-cube}
-use Rattle.cube_squares.proofs.EdgeMarks.{label_of-circle, label_of-le}
-use Rattle.cube_squares.proofs.LabelNumbers.{label-exists, label-once, ones-labels, sum_by-names}
-use Rattle.cube_squares.proofs.Merges.{circle_in}
+use Rattle.cell_laws.specs.Alike.{AreMatched}
+use Rattle.cell_laws.specs.Cells.{dimension_at}
+use Rattle.cell_laws.specs.Cubes.{cube_of}
+use Rattle.cell_laws.proofs.CubeCells.{AreComplex-cube, IsMember, member-from, member-of}
+use Rattle.cell_laws.proofs.Members.{Contains-kept, sum_by-members, sum_by-term}
+use Rattle.cell_laws.proofs.NoDoubles.{once-filter, once-generators}
+use Rattle.square_laws.proofs.EdgeMarks.{label_of-circle, label_of-le}
+use Rattle.square_laws.proofs.LabelNumbers.{label-exists, label-once, ones-labels, sum_by-names}
+use Rattle.square_laws.proofs.Merges.{circle_in}
 use Rattle.reduced_cube.specs.Reduced.{is_reduced}
 use Rattle.reduced_cube.proofs.MarkedMinus.{coefficient-lost}
 use Rattle.split_laws.specs.Splits.{HasHalves, fails, part_of}

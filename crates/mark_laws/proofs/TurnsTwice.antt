@@ -13,10 +13,10 @@ use Rattle.kh_types.specs.Generators.{Generator, generator_of, generators}
 use Rattle.kh_types.specs.Residues.{Same}
 use Rattle.kh_types.proofs.ListSums.{sum_by-alike, sum_by-map, sum_by-plus, sum_by-times, sum_by-turned, sum_by-zeros}
 use Rattle.kh_types.proofs.Residues.{same-equal, same-multiple}
-use Rattle.cell_complexes.proofs.ExchangedCubes.{IsMember}
-use Rattle.cell_complexes.proofs.Members.{Contains-made, sum_by-same}
-use Rattle.cube_squares.proofs.EdgeMarks.{is_marked}
-use Rattle.cube_squares.proofs.MarkedLabels.{IsMarked-marked_by, IsName-marked_by, marked_by}
+use Rattle.cell_laws.proofs.CubeCells.{IsMember}
+use Rattle.cell_laws.proofs.Members.{Contains-made, sum_by-same}
+use Rattle.square_laws.proofs.EdgeMarks.{is_marked}
+use Rattle.square_laws.proofs.MarkedLabels.{IsMarked-marked_by, IsName-marked_by, marked_by}
 use Rattle.mark_laws.specs.Turns.{turn_count}
 use Rattle.mark_laws.proofs.CubeTurns.{sum_by-state, turns-elsewhere}
 use Rattle.mark_laws.proofs.LessMarks.{less-turns, less_count, lists_less, turns-marked}

@@ -21,9 +21,9 @@ use Rattle.kh_types.specs.Table.{Row, Table, dimension, from_minus, is_shown}
 use Rattle.kh_types.specs.declared.limits.TheConstants.{EXPONENT}
 use Rattle.kh_types.proofs.Lists.{All-some}
 use Rattle.kh_types.proofs.QuantumDegrees.{generators_at-degrees, ones-le}
-use Rattle.cell_complexes.specs.Cells.{Cells, cells_at, dimension_at, has_both, table_of}
-use Rattle.cell_complexes.specs.Cubes.{cube_of}
-use Rattle.cell_complexes.proofs.Members.{filter-exchanged}
+use Rattle.cell_laws.specs.Cells.{Cells, cells_at, dimension_at, has_both, table_of}
+use Rattle.cell_laws.specs.Cubes.{cube_of}
+use Rattle.cell_laws.proofs.Members.{filter-exchanged}
 use Rattle.reduced_cube.specs.Reduced.{is_reduced, reduced_differential, reduced_dimension, reduced_generators, reduced_rows, reduced_table}
 use Rattle.split_laws.specs.Splits.{part_of}
 use Rattle.mark_laws.proofs.MarkedHalves.{cube-halves}

@@ -1,5 +1,4 @@
-//! Homology over two elements is reduced homology twice, with whatever mark. It has laws, and no
-//! code.
+//! Homology over two elements is reduced homology twice, with whatever mark.
 #![tactic(auto)]
 
 pub mod laws;

@@ -7,7 +7,7 @@
 -- their darts, so segments of different arcs stay apart.
 use Rattle.std.proofs.lemmas.Bool.Decides.{nat_tests}
 use Rattle.std.proofs.Common.{◌≡◌, ◌≢◌, ℕ, inl, inr, ◌+◌, ◌*◌, ◌/◌, ◌<◌, ◌≤◌, ◌∙◌, List, [], ◌∷◌, ◌++◌, length, map, refl, sym, ap, subst, arith, min}
-use Rattle.std.proofs.lemmas.Bool.{cases_eq}
+use Rattle.std.proofs.lemmas.Bool.{cases_eq, cases_lt}
 use Rattle.kh_types.specs.Classes.{Respects}
 use Rattle.kh_types.proofs.ClassCounts.{AreBelow-wider}
 use Rattle.kh_types.proofs.Lists.{AllByRecursion-append, AllByRecursion-first, AllByRecursion-second}
@@ -16,7 +16,7 @@ use Rattle.morse_drawing.specs.DartRows.{IsDrawing, IsIn, other_three}
 use Rattle.morse_drawing.specs.declared.slice.Slice.TheVariants.{Cap, Cross}
 use Rattle.morse_drawing.proofs.SketchParts.Which.{is_one, is_other, is_three, is_two, is_zero}
 use Rattle.morse_drawing.proofs.SketchParts.FourNext.{next_one, next_three, next_two, next_zero}
-use Rattle.morse_drawing.proofs.SketchParts.{segment, dart, made, cross_met, turn_one, turn_two, turn_three, crossing-one, crossing-two, crossing-three, which, is-met, met-other, met-here, dart-there, painted, painted-is, reached-here, respects-old, before_or, four_next}
+use Rattle.morse_drawing.proofs.SketchParts.{segment, dart, made, cross_met, turn_one, turn_two, turn_three, crossing-one, crossing-two, crossing-three, which, is-met, met-other, met-here, dart-there, painted, painted-is, reached-here, respects-old, four_next}
 
 begun-is : (c next : ℕ) (joins met : List (ℕ × ℕ))
     → sketched (sketched (sketched (made [] next joins met) (Cap 1)) (Cap 3)) (Cross 2 (c + 1) 0)
@@ -103,7 +103,7 @@ sketched-begun n part whole drawn c r is drawing c_below new =
           | inr z_before ↦ met-other o (next + 1) (next + 2) (next + 2 + 2) z r.met apart ∙ is.all_met z z_below z_before
         ]
       ];
-      reached = λ q q_below. elim (before_or q next) [
+      reached = λ q q_below. elim (cases_lt q next) [
         | inl early ↦
             let old_reached = is.reached q early in
             record {
@@ -113,7 +113,7 @@ sketched-begun n part whole drawn c r is drawing c_below new =
               same = λ f holds. old_reached.same f (old f holds)
                   ∙ ap f (sym (values.other_is old_reached.dart (far old_reached.dart old_reached.is_drawn)));
             }
-        | inr late ↦ elim (before_or q (next + 2 + 2)) [
+        | inr late ↦ elim (cases_lt q (next + 2 + 2)) [
           | inl middle ↦ elim (four_next q next middle late) [
             | next_zero at ↦ reached-here n o o q drawn end o_below refl (λ f holds. ap f at ∙ cap_one f holds ∙ ap f (sym values.zero_is))
             | next_one at ↦ reached-here n o o q drawn end o_below refl (λ f holds. ap f at ∙ ap f (sym values.zero_is))

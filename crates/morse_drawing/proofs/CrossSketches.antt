@@ -7,19 +7,20 @@
 -- segment has the colour of the closed arc already.
 use Rattle.std.proofs.Common.{◌≡◌, ◌≢◌, ℕ, inl, inr, ◌+◌, ◌*◌, ◌/◌, ◌%◌, ◌<◌, ◌≤◌, ◌∙◌, List, [], ◌∷◌, ◌++◌, length, map, sym, ap, ap₂, subst, arith, min}
 use Rattle.std.specs.List.{AllByRecursion}
-use Rattle.std.proofs.lemmas.Bool.{cases_eq}
+use Rattle.std.proofs.lemmas.Bool.{cases_eq, cases_lt}
 use Rattle.std.proofs.lemmas.List.{append_assoc, length-map, map-append}
 use Rattle.kh_types.specs.Classes.{Respects}
 use Rattle.kh_types.specs.Darts.{IsPairing}
 use Rattle.kh_types.proofs.ClassCounts.{AreBelow-wider}
 use Rattle.kh_types.proofs.Lists.{AllByRecursion-append, AllByRecursion-both, AllByRecursion-first, AllByRecursion-second, AllByRecursion-weaker}
 use Rattle.face_walk.specs.AddedArcs.{with_arc}
+use Rattle.face_walk.proofs.AddedArcs.{arc-first, arc-second, arc-other}
 use Rattle.morse_drawing.specs.Sketches.{IsSketched, Sketch, segment_met, sketched}
 use Rattle.morse_drawing.specs.DartRows.{IsDrawing, IsIn, other_three}
 use Rattle.morse_drawing.specs.declared.slice.Slice.TheVariants.{Cap, Cross}
 use Rattle.morse_drawing.proofs.SketchParts.Which.{is_one, is_other, is_three, is_two, is_zero}
 use Rattle.morse_drawing.proofs.SketchParts.FourNext.{next_one, next_three, next_two, next_zero}
-use Rattle.morse_drawing.proofs.SketchParts.{segment, dart, made, cross_met, cross-is, parted, arc-first, arc-second, arc-other, min_swap, turn_one, turn_two, turn_three, crossing-one, crossing-two, crossing-three, which, is-met, met-other, met-here, dart-there, painted, painted-is, reached-here, respects-old, before_or, four_next}
+use Rattle.morse_drawing.proofs.SketchParts.{segment, dart, made, cross_met, cross-is, parted, min_swap, turn_one, turn_two, turn_three, crossing-one, crossing-two, crossing-three, which, is-met, met-other, met-here, dart-there, painted, painted-is, reached-here, respects-old, four_next}
 
 -- rule 2
 pub sketched-crossed : (n : ℕ) (part whole : ℕ → ℕ) (drawn front back : List ℕ) (x : ℕ) (r : Sketch)
@@ -129,7 +130,7 @@ sketched-crossed n part whole drawn front back x r is pairing drawing x_below x_
           | inr z_before ↦ met-other o a next (next + 2) z r.met apart ∙ is.all_met z z_below z_before
         ]
       ];
-      reached = λ q q_below. elim (before_or q next) [
+      reached = λ q q_below. elim (cases_lt q next) [
         | inl early ↦
             let old_reached = is.reached q early in
             record {

@@ -6,10 +6,11 @@ use Rattle.std.proofs.lemmas.List.{length-map, map-append}
 use Rattle.kh_types.specs.Classes.{Respects}
 use Rattle.kh_types.proofs.Lists.{AllByRecursion-append, AllByRecursion-first, AllByRecursion-second}
 use Rattle.face_walk.specs.AddedArcs.{with_arc}
+use Rattle.face_walk.proofs.AddedArcs.{arc-first, arc-second, arc-other}
 use Rattle.morse_drawing.specs.Sketches.{IsSketched, Sketch, segment_met, sketched}
 use Rattle.morse_drawing.specs.DartRows.{IsIn}
 use Rattle.morse_drawing.specs.declared.slice.Slice.TheVariants.{Cup}
-use Rattle.morse_drawing.proofs.SketchParts.{segment, dart, made, pair_of, cup-is, parted, head_of, arc-first, arc-second, arc-other, min_swap}
+use Rattle.morse_drawing.proofs.SketchParts.{segment, dart, made, pair_of, cup-is, parted, head_of, min_swap}
 
 -- rule 3
 pub sketched-closed : (n : ℕ) (part whole : ℕ → ℕ) (drawn front back : List ℕ) (x y : ℕ) (r : Sketch)

@@ -7,7 +7,7 @@
 use Rattle.std.proofs.Common.{◌≡◌, ℕ, zero, suc, inl, inr, ◌+◌, ◌-◌, ◌*◌, ◌<◌, ◌≤◌, ◌∙◌, List, [], ◌∷◌, map, get_or, sym, ap, refl, arith, Bool, true, false, cond}
 use Rattle.std.specs.Prelude.{◌&&◌, ◌||◌, nat_eq, nat_lt, not, slice_index}
 use Rattle.std.specs.List.{AllByRecursion, filter, list_any, range_with_len, sum_by}
-use Rattle.std.proofs.lemmas.Bool.{both_ways, cases_Bool, cases_eq, eq-eqb, eqb-true, ne_eqb, not-true}
+use Rattle.std.proofs.lemmas.Bool.{both_ways, cases_Bool, cases_eq, eq-eqb, eqb-true, ne_eqb, not-true, and_from, ltb-true, lt-ltb}
 use Rattle.std.proofs.lemmas.List.Sums.{sum_by-cons}
 use Rattle.std.proofs.Math.Bool.{or-true}
 use Rattle.kh_types.proofs.ClassLemmas.{classes-finest, classes-together}
@@ -16,6 +16,7 @@ use Rattle.kh_types.proofs.JoinedClasses.{IsNamed-classes_of}
 use Rattle.kh_types.proofs.ListSums.{sum_by-none, sum_by-range_alike, sum_by-single, sum_by-turned}
 use Rattle.kh_types.proofs.RangeCounts.{list_any-at}
 use Rattle.kh_types.proofs.Ranges.{list_any-below_none}
+use Rattle.kh_types.specs.Bits.{one_if}
 use Rattle.morse_drawing.specs.Joins.{are_ends, class_met, is_loop, loop_count, meets_class, pair_with, pairs_from, pairs_of, segment_classes}
 use Rattle.morse_drawing.proofs.NumberedEnds.{found_pair, has_later}
 use Rattle.morse_drawing.specs.Sketches.{Sketch, is_met, segment_met}
@@ -23,7 +24,7 @@ use Rattle.morse_drawing.proofs.EndTimes.{hit-apart, hit-same, times}
 use Rattle.morse_drawing.proofs.Ends.{Ends}
 use Rattle.morse_drawing.proofs.Ends.DartEnd.{bare, opened, paired_with}
 use Rattle.morse_drawing.proofs.Ends.SegmentEnd.{at_dart, in_row, on_loop}
-use Rattle.morse_drawing.proofs.Pairs.{and_both, and_first, and_four, and_second, flat-range, lt-true, true-lt}
+use Rattle.morse_drawing.proofs.Pairs.{and_first, and_four, and_second, flat-range}
 
 -- the ends of what is read of slices
 abbrev pub EndsOf : ℕ → (ℕ → ℕ) → Sketch → List ℕ → ℕ → Type 0
@@ -48,7 +49,7 @@ ends-found limit name r others loops x y is holds = (less, (is.met_below y met_y
     parts = and_four (nat_lt x y) (is_met r.met x) (is_met r.met y) (nat_eq (class_met r x) (class_met r y)) holds
 
     less : x < y
-    less = lt-true x y parts.0
+    less = ltb-true x y parts.0
 
     met_x : is_met r.met x ≡ true
     met_x = parts.1
@@ -109,9 +110,9 @@ found-ends limit name r others loops x y is below less y_below there = elim (is.
       let classes : class_met r x ≡ class_met r y =
       name-class limit name r others loops (segment_met r.met x) (segment_met r.met y) is (is.met_below x met_x).0 (is.met_below y met_y).0
       (one ∙ ap (λ n. name (segment_met r.met n)) same) in
-      and_both (nat_lt x y) (is_met r.met x && (is_met r.met y && nat_eq (class_met r x) (class_met r y))) (true-lt x y less)
-      (and_both (is_met r.met x) (is_met r.met y && nat_eq (class_met r x) (class_met r y)) met_x
-      (and_both (is_met r.met y) (nat_eq (class_met r x) (class_met r y)) met_y (eq-eqb (class_met r x) (class_met r y) classes)))
+      and_from (nat_lt x y) (is_met r.met x && (is_met r.met y && nat_eq (class_met r x) (class_met r y))) (lt-ltb x y less)
+      (and_from (is_met r.met x) (is_met r.met y && nat_eq (class_met r x) (class_met r y)) met_x
+      (and_from (is_met r.met y) (nat_eq (class_met r x) (class_met r y)) met_y (eq-eqb (class_met r x) (class_met r y) classes)))
 ]
 
 pub pairs-found : (limit : ℕ) (name : ℕ → ℕ) (r : Sketch) (others : List ℕ) (loops : ℕ) → EndsOf limit name r others loops
@@ -124,8 +125,8 @@ pairs-found limit name r others loops is =
     one x below = elim (cases_Bool (has_later limit others x)) [
       | inl later ↦
           let y = get_or others x 0 in
-          let less = lt-true x y (and_first (nat_lt x y) (nat_lt y (4 * limit)) later) in
-          let y_below = lt-true y (4 * limit) (and_second (nat_lt x y) (nat_lt y (4 * limit)) later) in
+          let less = ltb-true x y (and_first (nat_lt x y) (nat_lt y (4 * limit)) later) in
+          let y_below = ltb-true y (4 * limit) (and_second (nat_lt x y) (nat_lt y (4 * limit)) later) in
           ap (map (pair_with x))
           (filter-one (are_ends r x) 0 (4 * limit) y (omega arith) (omega (arith, y_below))
           (found-ends limit name r others loops x y is below less y_below refl)
@@ -141,9 +142,9 @@ pairs-found limit name r others loops is =
             | inl holds ↦
                 let found = ends-found limit name r others loops x k is holds in
                 absurd (both_ways (has_later limit others x) never
-                (and_both (nat_lt x (get_or others x 0)) (nat_lt (get_or others x 0) (4 * limit))
-                (true-lt x (get_or others x 0) (omega (arith, found.0, found.2)))
-                (true-lt (get_or others x 0) (4 * limit) (omega (arith, found.1, found.2)))))
+                (and_from (nat_lt x (get_or others x 0)) (nat_lt (get_or others x 0) (4 * limit))
+                (lt-ltb x (get_or others x 0) (omega (arith, found.0, found.2)))
+                (lt-ltb (get_or others x 0) (4 * limit) (omega (arith, found.1, found.2)))))
           ]))
           ∙ sym (ap (λ b. cond b (found_pair others x ∷ []) []) never)
     ]
@@ -177,7 +178,7 @@ loop-named limit name r others loops p is below holds = elim (is.named p below) 
   | at_dart n_below met_n at ↦
       absurd (both_ways (list_any (meets_class r p) (range_with_len 0 (4 * limit))) no_dart
       (list_any-at (meets_class r p) 0 (4 * limit) (name p) (omega arith) (omega (arith, n_below))
-      (and_both (is_met r.met (name p)) (nat_eq (class_met r (name p)) p) met_n
+      (and_from (is_met r.met (name p)) (nat_eq (class_met r (name p)) p) met_n
       (eq-eqb (class_met r (name p)) p
       (name-class limit name r others loops (segment_met r.met (name p)) p is (is.met_below (name p) met_n).0 below at ∙ least)))))
   | in_row from n_below stands ↦
@@ -211,9 +212,9 @@ loop-named limit name r others loops p is below holds = elim (is.named p below) 
 named-loop : (limit : ℕ) (name : ℕ → ℕ) (r : Sketch) (others : List ℕ) (loops p : ℕ) → EndsOf limit name r others loops → p < r.next
     → slice_index (segment_classes r) p ≡ p → 4 * limit + 64 ≤ name p → is_loop limit r p ≡ true
 named-loop limit name r others loops p is below least from =
-    and_both (nat_eq (slice_index (segment_classes r) p) p) (not dart_test && not (list_any in_class r.row))
+    and_from (nat_eq (slice_index (segment_classes r) p) p) (not dart_test && not (list_any in_class r.row))
     (eq-eqb (slice_index (segment_classes r) p) p least)
-    (and_both (not dart_test) (not (list_any in_class r.row)) (ap not no_dart) (ap not no_end))
+    (and_from (not dart_test) (not (list_any in_class r.row)) (ap not no_dart) (ap not no_end))
   where
     in_class : ℕ → Bool
     in_class = λ end. nat_eq (slice_index (segment_classes r) end) p
@@ -250,9 +251,6 @@ named-loop limit name r others loops p is below least from =
     no_dart : dart_test ≡ false
     no_dart = list_any-below_none (meets_class r p) (4 * limit) not-met
 
-abbrev one_if : Bool → ℕ
-one_if b = cond b 1 0
-
 pub loops-counted_ends : (limit : ℕ) (name : ℕ → ℕ) (r : Sketch) (others : List ℕ) (loops : ℕ) → EndsOf limit name r others loops
     → loop_count limit r ≡ loops
 loops-counted_ends limit name r others loops is =
@@ -280,7 +278,7 @@ loops-counted_ends limit name r others loops is =
           (λ x from x_below other.
           ap (λ b. cond (is_loop limit r p && b) 1 0) (ne_eqb (name p) (4 * limit + 64 + x) (λ e. other (omega (arith, e, at))))
           ∙ both-no (is_loop limit r p))
-          ∙ ap (λ b. cond b 1 0) (and_both (is_loop limit r p) (nat_eq (name p) (4 * limit + 64 + k)) holds (eq-eqb (name p) (4 * limit + 64 + k) at)))
+          ∙ ap (λ b. cond b 1 0) (and_from (is_loop limit r p) (nat_eq (name p) (4 * limit + 64 + k)) holds (eq-eqb (name p) (4 * limit + 64 + k) at)))
       | inr fails ↦
           ap (λ b. cond b 1 0) fails
           ∙ sym (sum_by-none (counts p) 0 loops (λ x from x_below. ap (λ b. cond (b && nat_eq (name p) (4 * limit + 64 + x)) 1 0) fails))
@@ -310,7 +308,7 @@ loops-counted_ends limit name r others loops is =
               ∙ name-class limit name r others loops x loop.segment is x_in loop.below (x_at ∙ sym loop.named)))
         ])
         ∙ ap (λ b. cond b 1 0)
-        (and_both (is_loop limit r p) (nat_eq (name p) (4 * limit + 64 + k))
+        (and_from (is_loop limit r p) (nat_eq (name p) (4 * limit + 64 + k))
         (named-loop limit name r others loops p is p_below own (omega (arith, at)))
         (eq-eqb (name p) (4 * limit + 64 + k) at))
 

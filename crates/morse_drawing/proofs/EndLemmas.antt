@@ -1,4 +1,4 @@
--- What the functions on the row need.
+-- What `rename` and `unused` of src/open_ends.rt need: the row of ends, renamed one by one.
 use Rattle.std.proofs.lemmas.Bool.Decides.{nat_tests}
 use Rattle.std.proofs.Common.{◌≡◌, ◌∙◌, ℕ, ◌+◌, ◌<◌, List, ◌++◌, ap, arith, length, map, take, drop, set, get_or}
 use Rattle.std.specs.Prelude.{Option}

@@ -7,7 +7,7 @@
 use Rattle.std.proofs.Common.{◌≡◌, ◌≢◌, ℕ, ◌⊎◌, inl, inr, ◌+◌, ◌*◌, ◌<◌, ◌≤◌, ◌∙◌, List, [], ◌∷◌, ◌++◌, map, get_or, sym, ap, ap₂, subst, refl, arith, Bool, true, false, cond}
 use Rattle.std.specs.Prelude.{◌||◌, nat_lt}
 use Rattle.std.specs.List.{AllByRecursion}
-use Rattle.std.proofs.lemmas.Bool.{both_ways, cases_eq, eq-eqb, ne_eqb}
+use Rattle.std.proofs.lemmas.Bool.{both_ways, cases_eq, eq-eqb, ne_eqb, cases_lt}
 use Rattle.std.proofs.lemmas.Bool.Decides.{nat_tests}
 use Rattle.kh_types.specs.Classes.{AreBelow}
 use Rattle.kh_types.proofs.ClassCounts.{AreBelow-wider}
@@ -17,7 +17,7 @@ use Rattle.morse_drawing.proofs.EndTimes.{hit, hit-apart, hit-same, times}
 use Rattle.morse_drawing.proofs.Ends.{DartEnd, Ends, SegmentEnd}
 use Rattle.morse_drawing.proofs.Ends.DartEnd.{bare, opened, paired_with}
 use Rattle.morse_drawing.proofs.Ends.SegmentEnd.{at_dart, in_row, on_loop}
-use Rattle.morse_drawing.proofs.SketchParts.{before_or, respects-old}
+use Rattle.morse_drawing.proofs.SketchParts.{respects-old}
 
 DartEnd-same : (limit : ℕ) (met later : ℕ → Bool) (label new : ℕ → ℕ) (row moved others : List ℕ) (x : ℕ) → ((y : ℕ) → later y ≡ met y)
     → ((y : ℕ) → met y ≡ true → new y ≡ label y) → ((n : ℕ) → n < 4 * limit → met n ≡ true → times n moved ≡ times n row)
@@ -105,12 +105,12 @@ Ends-started limit name next joins met segments others loops d is d_below unmet 
         (omega (arith, was.0, segment-rest d next x met other), was.1)
   ];
   respects = respects-old name (fresh next d name) next joins (λ x below. fresh-old next d name x below) is.joins_below is.respects;
-  apart = λ f holds p q p_below q_below same. elim (before_or p next) [
-    | inl p_old ↦ elim (before_or q next) [
+  apart = λ f holds p q p_below q_below same. elim (cases_lt p next) [
+    | inl p_old ↦ elim (cases_lt q next) [
       | inl q_old ↦ is.apart f holds p q p_old q_old (sym (fresh-old next d name p p_old) ∙ same ∙ fresh-old next d name q q_old)
       | inr q_new ↦ absurd (unnamed p p_old (sym (fresh-old next d name p p_old) ∙ same ∙ fresh-new next d name q q_new))
     ]
-    | inr p_new ↦ elim (before_or q next) [
+    | inr p_new ↦ elim (cases_lt q next) [
       | inl q_old ↦ absurd (unnamed q q_old (sym (fresh-old next d name q q_old) ∙ sym same ∙ fresh-new next d name p p_new))
       | inr q_new ↦ let one : p ≡ q = omega (arith, p_below, q_below, p_new, q_new) in ap f one
     ]
@@ -127,7 +127,7 @@ Ends-started limit name next joins met segments others loops d is d_below unmet 
     | inr other ↦
         dart-other x below other (is.darts x below)
   ];
-  named = λ p below. elim (before_or p next) [
+  named = λ p below. elim (cases_lt p next) [
     | inr new ↦
         subst
         (λ (n : ℕ). SegmentEnd limit (is_met ((d, next) ∷ met)) (λ y. fresh next d name (segment_met ((d, next) ∷ met) y))
@@ -217,12 +217,12 @@ Ends-capped limit name next joins met segments others loops l is from below none
   apart = λ f holds p q p_below q_below same.
       let old_holds = AllByRecursion-first (λ (pair : ℕ × ℕ). f pair.0 ≡ f pair.1) joins ((next, next + 1) ∷ []) holds in
       let new_holds = (AllByRecursion-second (λ (pair : ℕ × ℕ). f pair.0 ≡ f pair.1) joins ((next, next + 1) ∷ []) holds).0 in
-      elim (before_or p next) [
-        | inl p_old ↦ elim (before_or q next) [
+      elim (cases_lt p next) [
+        | inl p_old ↦ elim (cases_lt q next) [
           | inl q_old ↦ is.apart f old_holds p q p_old q_old (sym (fresh-old next l name p p_old) ∙ same ∙ fresh-old next l name q q_old)
           | inr q_new ↦ absurd (unnamed p p_old (sym (fresh-old next l name p p_old) ∙ same ∙ fresh-new next l name q q_new))
         ]
-        | inr p_new ↦ elim (before_or q next) [
+        | inr p_new ↦ elim (cases_lt q next) [
           | inl q_old ↦ absurd (unnamed q q_old (sym (fresh-old next l name q q_old) ∙ sym same ∙ fresh-new next l name p p_new))
           | inr q_new ↦ both-new f new_holds p q p_new p_below q_new q_below
         ]
@@ -234,7 +234,7 @@ Ends-capped limit name next joins met segments others loops l is from below none
       (λ y met_y. fresh-old next l name (segment_met met y) (is.met_below y met_y).0)
       (λ n n_below met_n. other-times n (λ same. absurd (omega (arith, same, n_below, from))))
       (other-times x (λ same. absurd (omega (arith, same, x_below, from)))) x_below (is.darts x x_below);
-  named = λ p p_below. elim (before_or p next) [
+  named = λ p p_below. elim (cases_lt p next) [
     | inr new ↦
         subst
         (λ (n : ℕ). SegmentEnd limit (is_met met) (λ z. fresh next l name (segment_met met z))
@@ -319,7 +319,7 @@ Ends-dropped limit name next joins met segments others loops d a is a_below join
   no_loops = is.no_loops;
   looped = λ loop below.
       let old = is.looped loop below in
-      elim (before_or old.segment next) [
+      elim (cases_lt old.segment next) [
         | inl early ↦ record { segment = old.segment; below = early; named = old.named }
         | inr late ↦
             let last : next ≡ old.segment = omega (arith, late, old.below) in

@@ -8,16 +8,14 @@ use Rattle.std.proofs.Common.{◌≡◌, ℕ, zero, suc, ◌⊎◌, inl, inr, �
 use Rattle.std.specs.Prelude.{◌&&◌, nat_eq, nat_lt, unwrap_or, Option, Some, None}
 use Rattle.std.specs.List.{count_by, filter, range_with_len, sum_by}
 use Rattle.std.proofs.lemmas.Bool.Decides.{nat_tests}
-use Rattle.std.proofs.lemmas.Bool.{both_ways, cases_Bool, eq-eqb, eqb-true, ne_eqb}
+use Rattle.std.proofs.lemmas.Bool.{both_ways, cases_Bool, eq-eqb, eqb-true, ne_eqb, and_from, ltb-true, lt-ltb}
 use Rattle.std.proofs.lemmas.List.{append-nil, length-map, map-append}
 use Rattle.std.proofs.lemmas.List.Sums.{length-filter, sum_by-append, sum_by-cons}
 use Rattle.kh_types.proofs.ListSums.{sum_by-none, sum_by-plus, sum_by-range_alike, sum_by-single, sum_by-turned}
 use Rattle.kh_types.proofs.Ranges.{filter-range_more, range_around}
+use Rattle.kh_types.specs.Bits.{one_if}
 use Rattle.morse_drawing.specs.OpenEnds.{ArePaired, found_ends, has_later, is_later, other_of, pairs_before}
-use Rattle.morse_drawing.proofs.Pairs.{and_both, and_first, and_second, lt-true, true-lt}
-
-abbrev one_if : Bool → ℕ
-one_if b = cond b 1 0
+use Rattle.morse_drawing.proofs.Pairs.{and_first, and_second}
 
 -- a sum of ones at most
 few-sum : (f : ℕ → ℕ) (a n : ℕ) → ((x : ℕ) → a ≤ x → x < a + n → f x ≤ 1) → sum_by f (range_with_len a n) ≤ n
@@ -66,12 +64,12 @@ later-few n image is =
             → one_if (comes_first n image x) ≡ sum_by (meets x) (range_with_len 0 n)
         second x (inl later) =
             let y = image x in
-            let below = lt-true y n (and_second (nat_lt x y) (nat_lt y n) later) in
+            let below = ltb-true y n (and_second (nat_lt x y) (nat_lt y n) later) in
             ap one_if later
             ∙ sym (sum_by-single (meets x) 0 n y (omega arith) (omega (arith, below))
             (λ z from z_below other.
             ap (λ b. one_if (comes_first n image x && b)) (ne_eqb y z (λ same. other (sym same))) ∙ both-no (comes_first n image x))
-            ∙ ap one_if (and_both (comes_first n image x) (nat_eq y y) later (eq-eqb y y refl)))
+            ∙ ap one_if (and_from (comes_first n image x) (nat_eq y y) later (eq-eqb y y refl)))
         second x (inr never) =
             ap one_if never
             ∙ sym (sum_by-none (meets x) 0 n (λ y from below. ap (λ b. one_if (b && nat_eq (image x) y)) never))
@@ -82,7 +80,7 @@ later-few n image is =
     first x y below y_below holds =
         let later = and_first (comes_first n image x) (nat_eq (image x) y) holds in
         let same = eqb-true (image x) y (and_second (comes_first n image x) (nat_eq (image x) y) holds) in
-        let less = lt-true x (image x) (and_first (nat_lt x (image x)) (nat_lt (image x) n) later) in (
+        let less = ltb-true x (image x) (and_first (nat_lt x (image x)) (nat_lt (image x) n) later) in (
           ap image (sym same) ∙ is x below (omega (arith, same, y_below)),
           omega (arith, less, same),
         )
@@ -97,7 +95,7 @@ later-few n image is =
     one_way y below = elim (cases_Bool (nat_lt (image y) y)) [
       | inl less ↦
           let w = image y in
-          let w_below = lt-true w y less in
+          let w_below = ltb-true w y less in
           let never : comes_first n image y ≡ false = not-later y w_below in
           omega (
             arith,
@@ -114,7 +112,7 @@ later-few n image is =
                 (λ x from x_below.
                 none x y (λ holds.
                 let it = first x y (omega (arith, x_below)) below holds in
-                both_ways (nat_lt (image y) y) more (true-lt (image y) y (omega (arith, it.0, it.1))))),
+                both_ways (nat_lt (image y) y) more (lt-ltb (image y) y (omega (arith, it.0, it.1))))),
           )
     ]
       where

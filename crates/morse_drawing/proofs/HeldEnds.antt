@@ -11,6 +11,7 @@ use Rattle.std.proofs.Math.Seq.{get_or-append_seam}
 use Rattle.std.proofs.lemmas.Bool.{cases_eq, eq-eqb, ne_eqb}
 use Rattle.std.proofs.lemmas.List.{get_or-append-add, length-map, length-take-le, map-append, take-append-drop}
 use Rattle.kh_types.proofs.Lists.{AllByRecursion-append, AllByRecursion-first, AllByRecursion-second}
+use Rattle.kh_types.proofs.Searches.{Search-is}
 use Rattle.morse_drawing.proofs.NumberedEnds.{NumberedEnds, after_slice, cup_tied, one_loop_more, relabelled, tied, unused}
 use Rattle.morse_drawing.specs.Pages.{is_in}
 use Rattle.morse_drawing.specs.Sketches.{Sketch, is_met, sketched}
@@ -20,8 +21,8 @@ use Rattle.morse_drawing.proofs.EndMoves.{Ends-capped, Ends-moved, fresh, fresh-
 use Rattle.morse_drawing.proofs.EndTimes.{few-labels, map-relabelled_none, times, times-append, times-in, times-out}
 use Rattle.morse_drawing.proofs.Ends.{Ends, Ends-tied, map-after, name_after}
 use Rattle.morse_drawing.proofs.MetEnds.{Ends-two, given_way, kept_label, tied-is, with_row}
-use Rattle.morse_drawing.proofs.PageLemmas.{Search-is, is-in, not-in}
-use Rattle.morse_drawing.proofs.PageLemmas.Search.{missing, some}
+use Rattle.morse_drawing.proofs.PageLemmas.{is-in, not-in}
+use Rattle.kh_types.proofs.Searches.Search.{missing, some}
 use Rattle.morse_drawing.proofs.Parts.{parts-two}
 use Rattle.morse_drawing.proofs.RowEdits.{insert-here, remove-here}
 use Rattle.morse_drawing.proofs.TiedEnds.{TwoEnds, dart-left, loop-left, tied-loop, two-ends}

@@ -9,7 +9,7 @@ use Rattle.std.proofs.Common.{◌≡◌, ℕ, zero, suc, inl, inr, ◌+◌, ◌-
 use Rattle.std.specs.Prelude.{◌||◌, nat_lt, replicate, Option, None, Result}
 use Rattle.std.specs.List.{AllByRecursion, filter, fold, range_with_len}
 use Rattle.std.specs.Option.{option_or}
-use Rattle.std.proofs.lemmas.Bool.{both_ways, cases_Bool}
+use Rattle.std.proofs.lemmas.Bool.{both_ways, cases_Bool, or_parts, ltb-false}
 use Rattle.std.proofs.lemmas.List.{get_or-map, get_or-replicate, length-map, length-replicate}
 use Rattle.morse_drawing.specs.Joins.{JoinedDarts, answer_by, ends_fault, ends_of, fault_where, first_slice_fault, is_outside, joined_in, joined_within, loop_count, slice_fault}
 use Rattle.morse_drawing.specs.OpenEnds.{OpenEnds, after_slice, found_joins, is_drawn, no_strands, strands_ends, strands_fault}
@@ -26,7 +26,7 @@ use Rattle.morse_drawing.proofs.Ends.DartEnd.{bare}
 use Rattle.morse_drawing.proofs.NumberedEnds.{NumberedEnds, after_slice as after_number, found_pair as pair_number, has_later as later_number}
 use Rattle.morse_drawing.proofs.HeldCross.{Held-cross}
 use Rattle.morse_drawing.proofs.HeldEnds.{Held-cap, Held-cup, IsHeld}
-use Rattle.morse_drawing.proofs.TextLemmas.{lt_no, no_fault, or_no, or_none, placed, within}
+use Rattle.morse_drawing.proofs.TextLemmas.{no_fault, or_none, placed, within}
 
 -- the row of open ends is one of what is read of the slices so far
 pub record IsHeldBy (limit : ℕ) (r : Sketch) (s : OpenEnds) : Type 0 where
@@ -128,10 +128,10 @@ held-next limit r s number (Cup at) is none =
     (Held-cup limit r (numbered limit s) at (omega (arith, it)) last is.held)
 held-next limit r s number (Cross at crossing slot) is none =
     let it = placed limit number r (Cross at crossing slot) none in
-    let parts = or_no (is_outside limit crossing) (is_met r.met (4 * (crossing - 1)) || nat_lt 3 slot) (no_fault _ _ (or_none _ _ none).1) in
+    let parts = or_parts (is_outside limit crossing) (is_met r.met (4 * (crossing - 1)) || nat_lt 3 slot) (no_fault _ _ (or_none _ _ none).1) in
     let inside = within limit crossing parts.0 in
-    let rest = or_no (is_met r.met (4 * (crossing - 1))) (nat_lt 3 slot) parts.1 in
-    let small : slot < 4 = omega (arith, lt_no 3 slot rest.1) in
+    let rest = or_parts (is_met r.met (4 * (crossing - 1))) (nat_lt 3 slot) parts.1 in
+    let small : slot < 4 = omega (arith, ltb-false 3 slot rest.1) in
     held_by limit r s (Cross at crossing slot)
     (IsNumbered-cross limit s at crossing slot (omega (arith, it, same-length limit r s is)) inside.0 inside.1 small is.are)
     (Held-cross limit r (numbered limit s) at crossing slot (omega (arith, it)) (omega (arith, it)) inside.0 inside.1 small

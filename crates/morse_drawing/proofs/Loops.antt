@@ -8,7 +8,7 @@ use Rattle.std.proofs.Common.{◌≡◌, ℕ, zero, suc, ◌⊎◌, inl, inr, �
 use Rattle.std.specs.Prelude.{◌&&◌, nat_eq, nat_lt, not, slice_index, None}
 use Rattle.std.specs.List.{count_by, fold, list_any, range_with_len}
 use Rattle.std.specs.Option.{option_or}
-use Rattle.std.proofs.lemmas.Bool.{cases_Bool, cases_eq, eq-eqb, ne_eqb}
+use Rattle.std.proofs.lemmas.Bool.{cases_Bool, cases_eq, eq-eqb, ne_eqb, cases_lt}
 use Rattle.std.proofs.lemmas.Bool.Decides.{nat_tests}
 use Rattle.kh_types.specs.Classes.{AreBelow, Respects}
 use Rattle.kh_types.proofs.ClassCounts.{AreBelow-wider}
@@ -22,7 +22,7 @@ use Rattle.morse_drawing.specs.DartRows.{IsIn}
 use Rattle.morse_drawing.specs.Pages.{loop_slices}
 use Rattle.morse_drawing.specs.declared.slice.Slice.TheVariants.{Cap, Cup}
 use Rattle.morse_drawing.proofs.Faults.{cap-right, cup-right, in-range, met-no_loop, none-counted, row-empty}
-use Rattle.morse_drawing.proofs.SketchParts.{before_or, respects-old}
+use Rattle.morse_drawing.proofs.SketchParts.{respects-old}
 use Rattle.morse_drawing.proofs.EndMoves.{fresh, fresh-new, fresh-old}
 
 -- the segments before k are of one side, and those from k on are of sides of two segments each
@@ -89,7 +89,7 @@ IsEnded-sketched n whole drawn r is all =
     by_case segment (inr late) = 0
 
     dart_from : ℕ → ℕ
-    dart_from segment = by_case segment (before_or segment r.next)
+    dart_from segment = by_case segment (cases_lt segment r.next)
 
     from_case : (segment : ℕ) (which : (segment < r.next) ⊎ (r.next ≤ segment)) → segment < r.next → (by_case segment which < 4 * n)
         × ((f : ℕ → ℕ) → Respects f r.joins → f segment ≡ f (segment_met r.met (by_case segment which)))
@@ -98,7 +98,7 @@ IsEnded-sketched n whole drawn r is all =
 
     from : (segment : ℕ) → segment < r.next → (dart_from segment < 4 * n)
         × ((f : ℕ → ℕ) → Respects f r.joins → f segment ≡ f (segment_met r.met (dart_from segment)))
-    from segment below = from_case segment (before_or segment r.next) below
+    from segment below = from_case segment (cases_lt segment r.next) below
 
 abbrev looped : Sketch → Sketch
 looped r = record {

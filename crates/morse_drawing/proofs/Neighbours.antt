@@ -16,8 +16,8 @@ use Rattle.morse_drawing.specs.DartRows.{AreLinked, AreDifferent, IsIn, IsDartRo
 use Rattle.morse_drawing.proofs.RowPlaces.{HasNeighbours}
 use Rattle.face_walk.proofs.OpenFaces.{open_faces-in_pieces}
 use Rattle.face_walk.proofs.AddedArcs.{HasArcMore-with_arc, IsPairing-more}
-use Rattle.face_walk.proofs.PartArcs.{planar-together, planar-split}
-use Rattle.morse_drawing.proofs.Helpers.{open_faces-step, open_pieces-inside, IsPart-more}
+use Rattle.face_walk.proofs.PartArcs.{planar-together, planar-split, IsPart-more}
+use Rattle.morse_drawing.proofs.Helpers.{open_faces-step, open_pieces-inside}
 use Rattle.kh_types.proofs.Lists.{AllByRecursion-first, AllByRecursion-second, AllByRecursion-weaker}
 use Rattle.morse_drawing.proofs.RowMoves.{beside_two, open_after}
 use Rattle.morse_drawing.proofs.Links.{AreLinked-cut, AreLinked-from, AreLinked-moved, AreLinked-keeps}

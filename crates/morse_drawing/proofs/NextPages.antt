@@ -1,4 +1,4 @@
--- What the steps from page to page keep, and where they end (this project's rule).
+-- What the steps from page to page keep, and where they end.
 use Rattle.std.specs.Prelude.{◌≡◌, ◌≢◌, ℕ, ◌⊎◌, ◌+◌, ◌*◌, ◌<◌, ◌≤◌, [], length, None}
 use Rattle.std.specs.List.{count_by}
 use Rattle.kh_types.specs.Code.{Code}

@@ -16,6 +16,7 @@ use Rattle.kh_types.specs.Code.{Code}
 use Rattle.kh_types.specs.Darts.{partner_at}
 use Rattle.kh_types.proofs.AcceptedLemmas.{HasArcsTwice-accepted}
 use Rattle.kh_types.proofs.DartPairs.{IsOtherPlace-partner_at, IsPairing-partner_at}
+use Rattle.kh_types.proofs.Searches.{Search-is}
 use Rattle.face_walk.proofs.FewFaces.{IsPlanar-accepted}
 use Rattle.face_walk.specs.AddedArcs.{bare}
 use Rattle.morse_drawing.specs.DartRows.{IsDrawing, IsIn}
@@ -28,8 +29,8 @@ use Rattle.morse_drawing.proofs.RowRules.{IsDrawing-none, IsDrawing-whole}
 use Rattle.morse_drawing.proofs.PieceCounts.{pieces-same}
 use Rattle.morse_drawing.proofs.Faults.{in-range, none-counted}
 use Rattle.face_walk.proofs.BareCrossings.{open_piece_count-bare}
-use Rattle.morse_drawing.proofs.PageLemmas.{Search-is, true-in, not-in, count-le}
-use Rattle.morse_drawing.proofs.PageLemmas.Search.{missing, some}
+use Rattle.morse_drawing.proofs.PageLemmas.{true-in, not-in, count-le}
+use Rattle.kh_types.proofs.Searches.Search.{missing, some}
 use Rattle.morse_drawing.proofs.PageSteps.{IsNextPage-next_page}
 
 -- the page after some steps

@@ -16,34 +16,6 @@ use Rattle.morse_drawing.specs.Pages.{is_in}
 use Rattle.morse_drawing.specs.declared.slice.Slice.TheVariants.{Cap, Cup, Cross}
 use Rattle.morse_drawing.specs.Progress.{undrawn_count}
 
-pub data Search (test : ℕ → Bool) (a n : ℕ) : Type 0 where
-  some : (x : ℕ) → a ≤ x → x < a + n → test x ≡ true → find test (range_with_len a n) ≡ Some x → Search test a n
-  missing : ((x : ℕ) → a ≤ x → x < a + n → test x ≡ false) → find test (range_with_len a n) ≡ None → Search test a n
-
-pub Search-is : (test : ℕ → Bool) (a n : ℕ) → Search test a n
-Search-is test a zero = missing (λ x from below. absurd (omega (arith, from, below))) refl
-Search-is test a (suc n) = elim (cases_Bool (test a)) [
-  | inl passes ↦
-      some a (omega arith) (omega arith) passes (ap (λ b. cond b (Some a) (find test (range_with_len (a + 1) n))) passes)
-  | inr fails ↦
-      let later : find test (range_with_len a (suc n)) ≡ find test (range_with_len (a + 1) n) =
-      ap (λ b. cond b (Some a) (find test (range_with_len (a + 1) n))) fails in
-      elim (Search-is test (a + 1) n) [
-        | some x from below passes is ↦ some x (omega (arith, from)) (omega (arith, below)) passes (later ∙ is)
-        | missing all is ↦
-            missing
-            (λ x from below. elim (cases_eq x a) [
-              | inl same ↦ ap test same ∙ fails
-              | inr apart ↦ all x (omega (arith, from, apart)) (omega (arith, below))
-            ])
-            (later ∙ is)
-      ]
-]
-
--- two tests are one where each holds with the other
-pub alike : (a b : Bool) → (a ≡ true → b ≡ true) → (b ≡ true → a ≡ true) → a ≡ b
-alike a b to from = grind (arith, nat_tests)
-
 -- a number stands in a list where the test says so
 pub in-true : (y : ℕ) (xs : List ℕ) → is_in xs y ≡ true → IsIn y xs
 in-true y [] holds = absurd (both_ways false refl holds)

@@ -28,8 +28,9 @@ use Rattle.morse_drawing.proofs.Parts.{parts-one, parts-two}
 use Rattle.morse_drawing.proofs.Neighbours.{all_in}
 use Rattle.morse_drawing.proofs.PieceCounts.{pieces-closed, pieces-crossed}
 use Rattle.morse_drawing.proofs.Faults.{faults-begun, faults-closed, faults-crossed, first_slice_fault-none}
-use Rattle.morse_drawing.proofs.PageLemmas.{Search-is, not-in, is-in, in_middle, in_next, undrawn-fewer, length-closed, length-crossed, crosses-append, begun-crosses, crossed-crosses, closed-crosses, count-le}
-use Rattle.morse_drawing.proofs.PageLemmas.Search.{missing, some}
+use Rattle.morse_drawing.proofs.PageLemmas.{not-in, is-in, in_middle, in_next, undrawn-fewer, length-closed, length-crossed, crosses-append, begun-crosses, crossed-crosses, closed-crosses, count-le}
+use Rattle.kh_types.proofs.Searches.Search.{missing, some}
+use Rattle.kh_types.proofs.Searches.{Search-is}
 
 pub next_page-empty : (n : ℕ) (whole : ℕ → ℕ) (page : Page) → IsPage n whole page → page.row ≡ []
     → IsNextPage n whole page (by_crossing page (undrawn n page.drawn))

@@ -9,7 +9,7 @@ use Rattle.std.proofs.Common.{◌≡◌, ℕ, zero, suc, ◌⊎◌, inl, inr, �
 use Rattle.std.specs.Prelude.{◌&&◌, nat_eq, nat_lt, slice_index, Some, None, Ok, Err, Result, IsTrue}
 use Rattle.std.specs.List.{count_by, filter, flat_map, fold, range_with_len}
 use Rattle.std.specs.Option.{option_or}
-use Rattle.std.proofs.lemmas.Bool.{cases_Bool, cases_eq, eq-eqb, eqb-true}
+use Rattle.std.proofs.lemmas.Bool.{cases_Bool, cases_eq, eq-eqb, eqb-true, and_from, ltb-true, lt-ltb}
 use Rattle.std.proofs.lemmas.Bool.Decides.{nat_tests}
 use Rattle.std.proofs.lemmas.Grind.{flat_map-append}
 use Rattle.std.proofs.lemmas.List.{append-nil, length-append, length-map}
@@ -25,6 +25,7 @@ use Rattle.kh_types.proofs.AcceptedLemmas.{HasArcsTwice-accepted}
 use Rattle.kh_types.proofs.ClassLemmas.{classes-finest, classes-together}
 use Rattle.kh_types.proofs.FilteredRanges.{filter-one, filter-none}
 use Rattle.kh_types.proofs.Ranges.{range-append}
+use Rattle.kh_types.proofs.Tests.{agree}
 use Rattle.face_walk.specs.AddedArcs.{open_piece_count}
 use Rattle.morse_drawing.specs.Sketches.{Sketch, is_met, no_sketch, segment_met, sketched, sketch_of}
 use Rattle.morse_drawing.specs.declared.fault.SliceFault.{SliceFault}
@@ -38,7 +39,7 @@ use Rattle.morse_drawing.specs.declared.slice.Slice.TheVariants.{Cap, Cup}
 use Rattle.morse_drawing.proofs.Faults.{cap-right, cup-right, first_slice_fault-none}
 use Rattle.morse_drawing.proofs.Loops.{IsEnded, IsEnded-loops, IsEnded-next, IsEnded-sketched, loops-counted, loops-faultless}
 use Rattle.morse_drawing.proofs.PageEnds.{IsDrawn-page_of, IsWholeSphere-accepted, least_same}
-use Rattle.morse_drawing.proofs.PageLemmas.{alike, crosses-append}
+use Rattle.morse_drawing.proofs.PageLemmas.{crosses-append}
 
 -- tests
 pub and_first : (a b : Bool) → (a && b) ≡ true → a ≡ true
@@ -47,18 +48,9 @@ and_first a b holds = grind (arith, nat_tests)
 pub and_second : (a b : Bool) → (a && b) ≡ true → b ≡ true
 and_second a b holds = grind (arith, nat_tests)
 
-pub and_both : (a b : Bool) → a ≡ true → b ≡ true → (a && b) ≡ true
-and_both a b first second = ap (λ t. t && b) first ∙ second
-
 -- what four tests say that all hold
 pub and_four : (a b c d : Bool) → (a && (b && (c && d))) ≡ true → (a ≡ true) × (b ≡ true) × (c ≡ true) × (d ≡ true)
 and_four a b c d holds = grind (arith, nat_tests)
-
-pub lt-true : (x y : ℕ) → nat_lt x y ≡ true → x < y
-lt-true x y holds = grind (arith, nat_tests)
-
-pub true-lt : (x y : ℕ) → x < y → nat_lt x y ≡ true
-true-lt x y below = grind (arith, nat_tests)
 
 -- lists of at most one, one after another
 pub flat-range : {X : Type 0} (f : ℕ → List X) (p : ℕ → Bool) (h : ℕ → X) (a n : ℕ)
@@ -111,27 +103,27 @@ ends-are n whole k loops r x y is_whole is x_below =
     let two = is_met r.met x in
     let three = is_met r.met y in
     let four = nat_eq (class_met r x) (class_met r y) in
-    alike (are_ends r x y) (is_first whole x && nat_eq y (whole x))
+    agree (are_ends r x y) (is_first whole x && nat_eq y (whole x))
     (λ holds.
     let parts = and_four one two three four holds in
-    let less = lt-true x y parts.0 in
+    let less = ltb-true x y parts.0 in
     let y_below = is.known y parts.2 in
     let joined = eqb-true (class_met r x) (class_met r y) parts.3 in
     elim (partners-joined n whole k loops r x y is_whole is x_below y_below joined) [
       | inl same ↦ absurd (omega (arith, less, same))
       | inr partner ↦
-          and_both (is_first whole x) (nat_eq y (whole x)) (true-lt x (whole x) (omega (arith, less, partner))) (eq-eqb y (whole x) partner)
+          and_from (is_first whole x) (nat_eq y (whole x)) (lt-ltb x (whole x) (omega (arith, less, partner))) (eq-eqb y (whole x) partner)
     ])
     (λ holds.
-    let less = lt-true x (whole x) (and_first (is_first whole x) (nat_eq y (whole x)) holds) in
+    let less = ltb-true x (whole x) (and_first (is_first whole x) (nat_eq y (whole x)) holds) in
     let partner = eqb-true y (whole x) (and_second (is_first whole x) (nat_eq y (whole x)) holds) in
     let y_below : y < 4 * n = omega (arith, partner, is_whole.pairing.below x x_below) in
     let joined : class_met r x ≡ class_met r y =
     is.closed (λ z. slice_index (segment_classes r) z) (classes-together r.next r.joins is.joins_below) x x_below
     ∙ ap (λ z. class_met r z) (sym partner) in
-    and_both one (two && (three && four)) (true-lt x y (omega (arith, less, partner)))
-    (and_both two (three && four) (is.all_met x x_below)
-    (and_both three four (is.all_met y y_below) (eq-eqb (class_met r x) (class_met r y) joined))))
+    and_from one (two && (three && four)) (lt-ltb x y (omega (arith, less, partner)))
+    (and_from two (three && four) (is.all_met x x_below)
+    (and_from three four (is.all_met y y_below) (eq-eqb (class_met r x) (class_met r y) joined))))
 
 pub pairs-are : (limit n : ℕ) (whole : ℕ → ℕ) (k loops : ℕ) (r : Sketch) → n ≤ limit → IsWholeSphere n whole → IsEnded n whole k loops r
     → pairs_of limit r ≡ arc_pairs n whole
@@ -163,7 +155,7 @@ pairs-are limit n whole k loops r small is_whole is =
           ap (map (pair_with x))
           (filter-one (are_ends r x) 0 (4 * limit) (whole x) (omega arith) (omega (arith, small, is_whole.pairing.below x below))
           (ends-are n whole k loops r x (whole x) is_whole is below
-          ∙ and_both (is_first whole x) (nat_eq (whole x) (whole x)) holds (eq-eqb (whole x) (whole x) refl))
+          ∙ and_from (is_first whole x) (nat_eq (whole x) (whole x)) holds (eq-eqb (whole x) (whole x) refl))
           (λ y from y_below apart. elim (cases_Bool (are_ends r x y)) [
             | inr fails ↦ fails
             | inl ends ↦
@@ -297,7 +289,7 @@ loops-fault limit n whole k before (suc left) r number small some many at is =
     let start = ap (λ t. option_or t (option_or (slice_fault limit opened (number + 1) (Cup 1)) rest)) cap in
     elim (cases_eq before 255) [
       | inl last ↦
-          let too_many : nat_lt 255 (loop_count limit later) ≡ true = true-lt 255 (loop_count limit later) (omega (arith, last, count)) in
+          let too_many : nat_lt 255 (loop_count limit later) ≡ true = lt-ltb 255 (loop_count limit later) (omega (arith, last, count)) in
           let here : number + 1 ≡ 512 = omega (arith, at, last) in
           let place : is_outside (length opened.row - 1) 1 ≡ false = ap (λ m. is_outside (m - 1) 1) two in
           start

@@ -13,9 +13,9 @@ use Rattle.std.proofs.lemmas.List.FromFn.{get_or-map-range_with_len}
 use Rattle.kh_types.specs.Darts.{HasArcsTwice, arc_of, dart_at, partner_at}
 use Rattle.kh_types.specs.declared.dart.Dart.{Dart}
 use Rattle.kh_types.proofs.DartPairs.{IsOtherPlace-partner_at, dart_place-at, partner_at-only}
+use Rattle.kh_types.proofs.Tests.{agree}
 use Rattle.morse_drawing.specs.Joins.{arc_from, arc_pairs, ends_of, is_first}
 use Rattle.morse_drawing.proofs.NextPages.{IsWholeSphere}
-use Rattle.morse_drawing.proofs.PageLemmas.{alike}
 use Rattle.morse_drawing.specs.ReadBack.{crossing_read, has_dart, pair_number}
 
 -- whether a pair has a dart
@@ -161,7 +161,7 @@ numbers-partners n whole x y is x_below y_below =
     swapped : (xs : List (ℕ × ℕ)) → AllByRecursion (IsArcPair n whole) xs → AllByRecursion (λ e. has x e ≡ has (whole x) e) xs
     swapped [] all = tt
     swapped (e ∷ xs) all = (
-      alike (has x e) (has (whole x) e)
+      agree (has x e) (has (whole x) e)
           (λ holds. elim (has-one x e holds) [
             | inl one ↦ has-second (whole x) e (all.0.1 ∙ ap whole one)
             | inr two ↦ has-first (whole x) e (sym (is.pairing.back e.0 all.0.0) ∙ ap whole (sym all.0.1 ∙ two))

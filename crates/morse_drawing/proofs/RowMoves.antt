@@ -10,6 +10,7 @@ use Rattle.std.specs.List.{AllByRecursion}
 use Rattle.std.proofs.lemmas.List.{append_assoc, append-nil}
 use Rattle.kh_types.specs.Darts.{turned, face_step}
 use Rattle.face_walk.specs.AddedArcs.{HasArcMore}
+use Rattle.face_walk.proofs.OpenFaces.{turned-turned_back}
 use Rattle.morse_drawing.specs.DartRows.{IsLink, AreLinked, AreRound, AreDifferent, IsDartRow, turned_back, other_three}
 use Rattle.morse_drawing.proofs.RowPlaces.{IsBare}
 use Rattle.kh_types.proofs.Lists.{AllByRecursion-append, AllByRecursion-both, AllByRecursion-weaker}
@@ -94,9 +95,6 @@ IsDartRow-closed n before after dart other front back more row =
     (close_first n before after dart other (back ++ front) more (IsDartRow-turned n before front (dart ∷ other ∷ back) row))
 
 -- rule 2: a bare crossing is joined at one of its darts to a dart of the row, and its other three take that dart's place
-
-turned-turned_back : (x : ℕ) → turned (turned_back x) ≡ x
-turned-turned_back x = omega arith
 
 turned-thrice : (x : ℕ) → turned x ≡ turned_back (turned_back (turned_back x))
 turned-thrice x = omega arith

@@ -14,7 +14,7 @@ use Rattle.face_walk.specs.AddedArcs.{IsPlanar, with_arc, bare}
 use Rattle.morse_drawing.specs.DartRows.{IsIn, AreDifferent, IsDrawing, other_three}
 use Rattle.morse_drawing.proofs.RowPlaces.{HasNeighbours}
 use Rattle.face_walk.proofs.AddedArcs.{HasArcMore-with_arc, IsPairing-more}
-use Rattle.morse_drawing.proofs.Helpers.{IsPart-more}
+use Rattle.face_walk.proofs.PartArcs.{IsPart-more}
 use Rattle.kh_types.proofs.Lists.{AllByRecursion-append, AllByRecursion-first, AllByRecursion-second, AllByRecursion-weaker}
 use Rattle.morse_drawing.proofs.Neighbours.{in_either, all_in, all_by_in, in_front, HasNeighbours-row}
 use Rattle.morse_drawing.proofs.RowMoves.{IsDartRow-crossed, IsDartRow-closed}

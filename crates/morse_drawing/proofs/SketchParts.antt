@@ -133,16 +133,6 @@ head_of [] y back same = absurd (omega (arith, ap (λ zs. length zs) same))
 head_of (e ∷ zipped) y back same =
     (e.0, zipped, ap (λ d. pair_of e.0 d ∷ zipped) (ap (λ zs. get_or zs 0 0) same), ap (λ zs. drop 1 zs) same)
 
--- a partner function with an arc more
-pub arc-first : (part : ℕ → ℕ) (x y : ℕ) → with_arc part x y x ≡ y
-arc-first part x y = grind (arith, nat_tests)
-
-pub arc-second : (part : ℕ → ℕ) (x y : ℕ) → y ≢ x → with_arc part x y y ≡ x
-arc-second part x y apart = grind (arith, nat_tests)
-
-pub arc-other : (part : ℕ → ℕ) (x y z : ℕ) → z ≢ x → z ≢ y → with_arc part x y z ≡ part z
-arc-other part x y z not_x not_y = grind (arith, nat_tests)
-
 pub min_swap : (x y : ℕ) → min x y ≡ min y x
 min_swap x y = omega arith
 
@@ -239,9 +229,6 @@ pub respects-old : (f g : ℕ → ℕ) (next : ℕ) (joins : List (ℕ × ℕ)) 
     → Respects f joins → Respects g joins
 respects-old f g next [] same below holds = tt
 respects-old f g next (pair ∷ joins) same below holds = grind (arith, nat_tests, respects-old f g next joins same below.1 holds.1)
-
-pub before_or : (q next : ℕ) → (q < next) ⊎ (next ≤ q)
-before_or q next = grind (arith)
 
 -- one of the next four segments, or of the next six
 pub data FourNext (q next : ℕ) : Type 0 where

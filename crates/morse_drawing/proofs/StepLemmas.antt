@@ -17,6 +17,7 @@ use Rattle.kh_types.specs.Code.{Code}
 use Rattle.kh_types.specs.Darts.{partner_at}
 use Rattle.kh_types.specs.declared.limits.TheConstants.{CROSSINGS}
 use Rattle.kh_types.proofs.Ranges.{range_around, range_more}
+use Rattle.kh_types.proofs.Searches.{Search-is}
 use Rattle.morse_drawing.specs.DartRows.{IsIn}
 use Rattle.morse_drawing.specs.Pages.{Page, are_paired, blank_page, is_in, leading, leads_on, loop_slices, next_page, page_of, pages_on, paired, undrawn}
 use Rattle.morse_drawing.specs.Progress.{IsPage, IsPageOf}
@@ -26,10 +27,10 @@ use Rattle.morse_drawing.specs.declared.slice.Slice.{Slice}
 use Rattle.morse_drawing.specs.declared.slice.Slice.TheVariants.{Cap, Cup}
 use Rattle.morse_drawing.proofs.Neighbours.{all_in}
 use Rattle.morse_drawing.proofs.Parts.{parts-one}
-use Rattle.morse_drawing.proofs.PageLemmas.Search.{missing, some}
+use Rattle.kh_types.proofs.Searches.Search.{missing, some}
 use Rattle.morse_drawing.proofs.PageSteps.{IsNextPage-next_page, is_some, paired-found}
 use Rattle.morse_drawing.proofs.PageEnds.{IsDrawn-page_of, IsPage-blank_page, IsPage-pages_on, IsWholeSphere-accepted, finished-pages_on}
-use Rattle.morse_drawing.proofs.PageLemmas.{Search-is, in_middle, undrawn-fewer}
+use Rattle.morse_drawing.proofs.PageLemmas.{in_middle, undrawn-fewer}
 
 -- the first number below n that passes a test, where those before it do not
 pub found_first : (test : ℕ → Bool) (n k : ℕ) → k < n → find test (range_with_len 0 k) ≡ None → test k ≡ true

@@ -11,10 +11,11 @@ use Rattle.morse_drawing.specs.Texts.{strands_after, strands_behind}
 use Rattle.morse_drawing.specs.declared.slice.Slice.{Slice}
 use Rattle.morse_drawing.specs.declared.slice.Slice.TheVariants.{Cap, Cross, Cup}
 use Rattle.morse_drawing.proofs.PageEnds.{IsDrawn-page_of, IsPage-blank_page}
-use Rattle.morse_drawing.proofs.PageLemmas.{Search-is, length-closed, length-crossed, undrawn-fewer}
-use Rattle.morse_drawing.proofs.PageLemmas.Search.{missing, some}
+use Rattle.morse_drawing.proofs.PageLemmas.{length-closed, length-crossed, undrawn-fewer}
+use Rattle.kh_types.proofs.Searches.Search.{missing, some}
 use Rattle.morse_drawing.proofs.PageSteps.{IsNextPage-next_page}
 use Rattle.morse_drawing.proofs.StepLemmas.{row-below}
+use Rattle.kh_types.proofs.Searches.{Search-is}
 
 -- before, between and behind slices there are so many strands at most, below a row of some strands
 abbrev AreFew : ℕ → ℕ → List Slice → Type 0

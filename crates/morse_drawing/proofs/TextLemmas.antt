@@ -10,6 +10,7 @@ use Rattle.std.specs.Result.{IsOk}
 use Rattle.std.proofs.lemmas.Bool.Decides.{nat_tests}
 use Rattle.std.proofs.Math.Seq.{drop-cons}
 use Rattle.std.proofs.lemmas.List.{append_assoc, append-nil, length-append, length-drop, length-replicate, length-take-le}
+use Rattle.std.proofs.lemmas.Bool.{or_parts, ltb-false}
 use Rattle.kh_types.specs.declared.limits.TheConstants.{CROSSINGS}
 use Rattle.morse_drawing.specs.Joins.{IsFaultless, JoinedDarts, answer_by, ends_fault, fault_where, first_slice_fault, is_outside, joined_in, slice_fault}
 use Rattle.morse_drawing.specs.Sketches.{Sketch, no_sketch, sketch_of, sketched}
@@ -33,14 +34,8 @@ or_none a b none = grind (arith, nat_tests)
 pub no_fault : (holds : Bool) (fault : SliceFault) → fault_where holds fault ≡ None → holds ≡ false
 no_fault holds fault none = grind (arith, nat_tests)
 
-pub or_no : (a b : Bool) → (a || b) ≡ false → (a ≡ false) × (b ≡ false)
-or_no a b fails = grind (arith, nat_tests)
-
-pub lt_no : (a b : ℕ) → nat_lt a b ≡ false → b ≤ a
-lt_no a b fails = grind (arith, nat_tests)
-
 pub within : (last at : ℕ) → is_outside last at ≡ false → (1 ≤ at) × (at ≤ last)
-within last at fails = let parts = or_no (nat_lt at 1) (nat_lt last at) fails in (lt_no at 1 parts.0, lt_no last at parts.1)
+within last at fails = let parts = or_parts (nat_lt at 1) (nat_lt last at) fails in (ltb-false at 1 parts.0, ltb-false last at parts.1)
 
 below : (m at : ℕ) → (1 ≤ at) × (at ≤ m - 1) → (1 ≤ at) × (at < m)
 below m at it = (it.0, omega (arith, it.0, it.1))

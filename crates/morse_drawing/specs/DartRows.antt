@@ -1,4 +1,4 @@
--- The row of a drawing: the open darts of one face, in their order round it (this project's rule).
+-- The row of a drawing: the open darts of one face, in their order round it.
 use Rattle.std.specs.Prelude.{◌≡◌, ◌≢◌, ℕ, ◌⊎◌, ◌+◌, ◌*◌, ◌/◌, ◌%◌, ◌<◌, List, [], ◌∷◌}
 use Rattle.std.specs.List.{AllByRecursion}
 use Rattle.kh_types.specs.Darts.{IsPairing, face_step}

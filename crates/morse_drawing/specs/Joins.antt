@@ -1,5 +1,5 @@
--- What a list of slices joins: the darts in pairs and the number of loops, or the first fault (this project's rules). Darts are given by
--- their places, and crossings are numbered from 1 to a limit.
+-- What a list of slices joins: the darts in pairs and the number of loops, or the first fault. Darts are given by their places, and
+-- crossings are numbered from 1 to a limit.
 use Rattle.std.specs.Prelude.{ℕ, ◌+◌, ◌-◌, ◌*◌, List, [], ◌∷◌, length, map, nat_eq, nat_lt, slice_index, Bool, not, ◌&&◌, ◌||◌, Option, Some, None, Ok, Err, Result, if◌then◌else◌}
 use Rattle.std.specs.List.{count_by, filter, flat_map, list_any, range_with_len}
 use Rattle.std.specs.Option.{option_or}

@@ -1,5 +1,5 @@
--- The same by one row of open ends (this project's rule). A strand of the row that leads back to a dart is an end at that dart; the two
--- strands that are ends of one line without darts have the number of that line, which no other strand has.
+-- The same by one row of open ends. A strand of the row that leads back to a dart is an end at that dart; the two strands that are ends of
+-- one line without darts have the number of that line, which no other strand has.
 use Rattle.std.specs.Prelude.{◌≡◌, ℕ, ◌+◌, ◌-◌, ◌*◌, ◌<◌, List, [], length, map, get_or, set, replicate, nat_eq, nat_lt, Bool, true, false, not, ◌||◌, Option, Some, None, Result, if◌then◌else◌, unwrap_or}
 use Rattle.std.specs.List.{filter, find, insert, list_any, range_with_len, remove}
 use Rattle.std.specs.Option.{option_or}

@@ -1,4 +1,4 @@
--- The rules by which a page of a drawing follows the one before it, and all pages of a drawing in order (this project's rule).
+-- The rules by which a page of a drawing follows the one before it, and all pages of a drawing in order.
 use Rattle.std.specs.Prelude.{◌≡◌, ◌⊎◌, ℕ, ◌+◌, ◌/◌, ◌<◌, List, [], ◌∷◌, length, get_or}
 use Rattle.kh_types.specs.Code.{Code}
 use Rattle.kh_types.specs.Darts.{partner_at}

@@ -1,6 +1,5 @@
--- The drawing of a code: slices made from the top of the page to the bottom, by three rules (this project's rule). Strands stand in a
--- row, from left to right, and a strand of a drawing under way is named by the dart that it ends at. Crossings and darts are given by
--- their places.
+-- The drawing of a code: slices made from the top of the page to the bottom, by three rules. Strands stand in a row, from left to right,
+-- and a strand of a drawing under way is named by the dart that it ends at. Crossings and darts are given by their places.
 use Rattle.std.specs.Prelude.{ℕ, zero, suc, ◌+◌, ◌-◌, ◌*◌, ◌/◌, ◌%◌, List, [], ◌∷◌, ◌++◌, length, get_or, take, drop, nat_eq, Bool, not, Option, Some, None}
 use Rattle.std.specs.List.{find, list_any, range_with_len}
 use Rattle.kh_types.specs.Code.{Code}

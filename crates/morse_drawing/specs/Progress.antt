@@ -1,4 +1,4 @@
--- What the pages of a drawing keep (this project's rule).
+-- What the pages of a drawing keep.
 use Rattle.std.specs.Prelude.{◌≡◌, ℕ, ◌+◌, ◌*◌, ◌≤◌, List, length, not, IsTrue, None}
 use Rattle.std.specs.List.{count_by, range_with_len}
 use Rattle.kh_types.specs.Acceptance.{accepted}

@@ -1,11 +1,11 @@
 -- The code that is read back from a drawing: its crossings are those of the slices, and its arcs are numbered as the pairs of darts are
--- listed. It is the drawn code up to the numbers of its arcs (this project's rule).
+-- listed. It is the drawn code up to the numbers of its arcs.
 use Rattle.std.specs.Prelude.{◌≡◌, ℕ, suc, ◌+◌, ◌*◌, List, [], ◌∷◌, map, nat_eq, Bool, true, false, if◌then◌else◌}
 use Rattle.std.specs.List.{count_by, list_any, range_with_len}
 use Rattle.kh_types.specs.Code.{Code}
 use Rattle.kh_types.specs.Darts.{dart_place}
 use Rattle.kh_types.specs.declared.dart.Dart.{Dart}
-use Rattle.gluing.specs.Alike.{AreAlike}
+use Rattle.gluing_laws.specs.Alike.{AreAlike}
 use Rattle.morse_drawing.specs.Joins.{JoinedDarts}
 use Rattle.morse_drawing.specs.declared.slice.Slice.{Slice}
 use Rattle.morse_drawing.specs.declared.slice.Slice.TheVariants.{Cap, Cup, Cross}

@@ -1,4 +1,4 @@
--- What contracts see of the values of this crate (this project's rule).
+-- What contracts see of the values of this crate.
 use Rattle.morse_drawing.specs.Joins.{JoinedDarts}
 use Rattle.morse_drawing.specs.OpenEnds.{OpenEnds}
 use Rattle.morse_drawing.specs.Pages.{Page}

@@ -1,5 +1,5 @@
--- What slices join (this project's rule). The segments of strands are numbered as they begin. A cap joins the two that it begins, a cup the
--- two that it ends; a crossing ends two and begins two, and each of its darts meets one.
+-- What slices join. The segments of strands are numbered as they begin. A cap joins the two that it begins, a cup the two that it ends; a
+-- crossing ends two and begins two, and each of its darts meets one.
 use Rattle.std.specs.Prelude.{◌≡◌, ℕ, ◌+◌, ◌-◌, ◌*◌, ◌/◌, ◌%◌, ◌<◌, min, List, [], ◌∷◌, ◌++◌, get_or, map, take, drop, nat_eq, if◌then◌else◌, Bool, true}
 use Rattle.std.specs.List.{AllByRecursion, fold, list_any}
 use Rattle.kh_types.specs.Classes.{AreBelow, Respects}

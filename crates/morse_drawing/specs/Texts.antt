@@ -1,4 +1,4 @@
--- The text of a drawing: a line for each slice, with a cell for each strand that passes by (this project's rule).
+-- The text of a drawing: a line for each slice, with a cell for each strand that passes by.
 use Rattle.std.specs.Prelude.{ℕ, ◌<◌, ◌≤◌, ◌+◌, ◌-◌, ◌%◌, List, [], ◌∷◌, ◌++◌, codes, nat_eq, replicate, if◌then◌else◌}
 use Rattle.std.specs.List.{flat_map, fold}
 use Rattle.std.specs.Fmt.{decimal}

@@ -10,8 +10,7 @@ use crate::step::next_page;
 use kh_types::{Diagram, NoMemory};
 use std::alloc::Global;
 
-/// The slices of a diagram, which a law reads back as its arcs and loops. Source: this project's
-/// rule.
+/// The slices of a diagram, which a law reads back as its arcs and loops.
 pub fn slices(alloc: Global, diagram: &Diagram) -> Result<Vec<Slice>, NoMemory>
     ensures slices { IfOk result (λ slices. slices.items ≡ slices_of diagram.now) }
     ensures faultless { IfOk result (λ slices. IsFaultless slices.items) }

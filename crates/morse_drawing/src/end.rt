@@ -4,7 +4,7 @@ ghost use Rattle.std.specs.Prelude.{◌≡◌};
 ghost use Rattle.morse_drawing.specs.OpenEnds.{is_same_end};
 
 /// Where a strand of the row comes from: from a dart, given by its place, or from a cap, as one of
-/// the two ends of a line with a number. Source: this project's rule.
+/// the two ends of a line with a number.
 #[derive(Clone, Copy, Debug, PartialEq, Eq)]
 pub enum End {
     /// The strand leads back to the dart at a place.

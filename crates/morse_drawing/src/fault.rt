@@ -1,7 +1,7 @@
 //! What can be wrong with a list of slices.
 
 /// The first fault of a list of slices, which are numbered from 1; at one slice the faults stand in
-/// their order. Source: this project's rule.
+/// their order.
 #[derive(Clone, Copy, Debug, PartialEq, Eq)]
 pub enum SliceFault {
     /// The slice has no place in the row, or is a cap beside too many strands.

@@ -20,7 +20,7 @@ use crate::open_ends::OpenEnds;
 use crate::slice::Slice;
 use kh_types::CROSSINGS;
 
-/// What a list of slices joins, or its first fault. Source: this project's rule.
+/// What a list of slices joins, or its first fault.
 pub fn joins_of(slices: &[Slice]) -> Result<Joins, SliceFault>
     requires { length slices.now < 4294967296 }
     ensures { result ≡ joined_by slices.now }

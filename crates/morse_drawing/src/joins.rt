@@ -5,7 +5,6 @@ use kh_types::{ARCS, Dart, dart_at};
 use std::marker::Model;
 
 /// The darts that slices join, and the loops that they close. Contracts see it as `JoinedDarts`.
-/// Source: this project's rule.
 #[derive(Debug, Drop)]
 pub struct Joins {
     /// Each arc as its two darts, the lesser first, by crossing, then slot; the pairs ascend by
@@ -25,7 +24,7 @@ impl Model for Joins {
     ghost view = { joined_darts };
 }
 
-/// The two darts of an arc. Contracts see it as the list of them. Source: this project's rule.
+/// The two darts of an arc. Contracts see it as the list of them.
 #[derive(Clone, Copy, Debug, PartialEq, Eq)]
 pub struct Pair(pub [Dart; 2]);
 

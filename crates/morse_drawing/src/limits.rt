@@ -1,4 +1,4 @@
-//! The sizes of drawings. All of them are this project's rule.
+//! The sizes of drawings.
 
 use kh_types::CROSSINGS;
 

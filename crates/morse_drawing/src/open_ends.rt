@@ -52,7 +52,6 @@ use std::marker::Model;
 
 /// The ends of the strands of the row, from left to right; for each dart the place of the other
 /// dart of its line, where it is known; which crossings are drawn; and how many loops are closed.
-/// Source: this project's rule.
 #[derive(Debug, Drop)]
 pub struct OpenEnds {
     pub(crate) row: ArrayVec<End, ROW_STRANDS>,

@@ -19,7 +19,7 @@ use kh_types::NoMemory;
 use std::alloc::Global;
 
 /// The text of a drawing: for each slice a line with its word, its position, and the cells of the
-/// row. Source: this project's rule.
+/// row.
 pub fn print_slices(alloc: Global, slices: &[Slice]) -> Result<Vec<u8>, NoMemory>
     requires { IsFaultless slices.now }
     ensures { IfOk result (λ text. text.items ≡ drawing_text slices.now) }

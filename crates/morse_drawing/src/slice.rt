@@ -1,7 +1,7 @@
 //! The slices of a drawing.
 
 /// One step of a drawing from the top of the page to the bottom, over a row of strands whose
-/// positions are counted from 1. Source: this project's rule.
+/// positions are counted from 1.
 #[derive(Clone, Copy, Debug, PartialEq, Eq)]
 pub enum Slice {
     /// Two strands begin, joined above; the left one is at the position.

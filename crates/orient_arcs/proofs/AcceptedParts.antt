@@ -18,7 +18,7 @@ use Rattle.orient_arcs.specs.Renumbered.{renumber}
 use Rattle.orient_arcs.specs.Alike.{IsOf}
 use Rattle.orient_arcs.proofs.Bridge.{IsDirected-renumbered, sign-kept}
 use Rattle.orient_arcs.proofs.AlikeCrossings.{AreAlike-then, AreAlike-renumbered, IsCheckerboard-alike, faces-alike, pieces-alike, component_count-alike, state_sum-alike, name_count}
-use Rattle.gluing.specs.Alike.{AreAlike}
+use Rattle.gluing_laws.specs.Alike.{AreAlike}
 
 -- the arcs of an over pass differ where no arc is its own next
 pub over-apart : (crossings : List (List ℕ)) → IsDirected crossings → HasNoSingleArcs crossings → (crossing : ℕ)

@@ -27,18 +27,19 @@ use Rattle.kh_types.proofs.ClassCounts.{class_count-circles, class_count-compone
 use Rattle.kh_types.proofs.CircleBound.{ArcsBelow, ArcsBelow-slots, smoothings_of-below, passes_of-below}
 use Rattle.kh_types.proofs.DartPairs.{dart_at-place, dart_place-below, IsDart-at, IsDartOf-first_dart, first_dart_or_partner, partner-partner}
 use Rattle.orient_arcs.specs.Alike.{HasNamesBelow}
-use Rattle.gluing.specs.Glue.{renamed, Places, JoinAlike}
+use Rattle.gluing_laws.specs.Glue.{renamed, Places, JoinAlike}
 use Rattle.code_passes.specs.Parts.{Parts, ArePaired, passes_through}
 use Rattle.orient_arcs.specs.Renumbered.{order_of, number_in, renumber}
 use Rattle.orient_arcs.proofs.Bridge.{length-renumbered, slot-renumbered, slot-head, number-once}
-use Rattle.gluing.proofs.Glued.{class_count-glued_parts}
-use Rattle.gluing.specs.Codes.{arc_of_dart}
+use Rattle.gluing_laws.proofs.Glued.{class_count-glued_parts}
+use Rattle.gluing_laws.specs.Codes.{arc_of_dart}
 use Rattle.orient_arcs.proofs.DartSmoothings.{dart_passes, passes_of-darts, dart_passes-below}
 use Rattle.kh_types.proofs.IntSums.{int_sum-alike}
-use Rattle.gluing.proofs.DartPairs.{dart_smoothings}
-use Rattle.gluing.proofs.CodeCircles.{dart_smoothings-below, smoothings_of-darts}
-use Rattle.gluing.specs.Alike.{AreAlike}
-use Rattle.gluing.proofs.Renamed.{class_count-range}
+use Rattle.kh_types.proofs.Searches.{find-range_agree}
+use Rattle.gluing_laws.proofs.DartPairs.{dart_smoothings}
+use Rattle.gluing_laws.proofs.CodeCircles.{dart_smoothings-below, smoothings_of-darts}
+use Rattle.gluing_laws.specs.Alike.{AreAlike}
+use Rattle.gluing_laws.proofs.Renamed.{class_count-range}
 
 pub AreAlike-back : (crossings others : List (List ℕ)) → AreAlike crossings others → AreAlike others crossings
 AreAlike-back crossings others alike = grind (arith, nat_tests)
@@ -46,18 +47,12 @@ AreAlike-back crossings others alike = grind (arith, nat_tests)
 pub AreAlike-then : (crossings others third : List (List ℕ)) → AreAlike crossings others → AreAlike others third → AreAlike crossings third
 AreAlike-then crossings others third first second = grind (arith, nat_tests)
 
-find-agree : (p q : ℕ → Bool) (a n : ℕ) → ((k : ℕ) → a ≤ k → k < a + n → p k ≡ q k)
-    → find p (range_with_len a n) ≡ find q (range_with_len a n)
-find-agree p q a zero same = refl
-find-agree p q a (suc n) same =
-    grind (arith, nat_tests, find-agree p q (a + 1) n (λ k from below. same k (omega (arith, from)) (omega (arith, below))))
-
 pub same-test : (x y z w : ℕ) → (x ≡ y → z ≡ w) → (z ≡ w → x ≡ y) → nat_eq z w ≡ nat_eq x y
 same-test x y z w onward back = grind (arith, nat_tests)
 
 module _ (crossings others : List (List ℕ)) (alike : AreAlike crossings others) where
   pub partner-alike : (place : ℕ) → place < 4 * length crossings → partner others (dart_at place) ≡ partner crossings (dart_at place)
-  partner-alike place below = grind (arith, nat_tests, find-map, find-agree, same-test)
+  partner-alike place below = grind (arith, nat_tests, find-map, find-range_agree, same-test)
 
   pub partner_at-alike : (place : ℕ) → place < 4 * length crossings → partner_at others place ≡ partner_at crossings place
   partner_at-alike place below = ap dart_place (partner-alike place below)

@@ -8,9 +8,9 @@ use Rattle.kh_types.specs.Code.{arc_in}
 use Rattle.kh_types.specs.Classes.{AreBelow}
 use Rattle.kh_types.specs.Components.{passes_of}
 use Rattle.kh_types.proofs.ClassLemmas.{AreBelow-append}
-use Rattle.gluing.specs.Arcs.{arc_by_place}
-use Rattle.gluing.specs.Codes.{arc_of_dart}
-use Rattle.gluing.specs.Glue.{renamed}
+use Rattle.gluing_laws.specs.Arcs.{arc_by_place}
+use Rattle.gluing_laws.specs.Codes.{arc_of_dart}
+use Rattle.gluing_laws.specs.Glue.{renamed}
 
 -- the darts of the crossing at a place of the list, by their slots
 abbrev pub darts_of : ℕ → List ℕ

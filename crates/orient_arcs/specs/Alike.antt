@@ -4,7 +4,7 @@ use Rattle.kh_types.specs.Code.{Code, IsCrossing}
 use Rattle.kh_types.specs.Directions.{is_positive}
 use Rattle.code_passes.specs.Parts.{Parts, is_positive_at}
 use Rattle.kh_types.specs.Darts.{dart_at, arc_of}
-use Rattle.gluing.specs.Alike.{AreAlike}
+use Rattle.gluing_laws.specs.Alike.{AreAlike}
 
 -- the names at the slots are below a number
 abbrev pub HasNamesBelow : ℕ → List (List ℕ) → Type 0

@@ -1,4 +1,4 @@
--- The numbers of components, which are numbered from 0 by their least arcs (this project's rule).
+-- The numbers of components, which are numbered from 0 by their least arcs.
 use Rattle.std.specs.Prelude.{◌≡◌, ℕ, ◌+◌, ◌<◌, ◌≤◌, List, nat_eq, slice_index}
 use Rattle.std.specs.List.{position_or_len}
 use Rattle.kh_types.specs.Components.{components_of, component_of, first_arcs, arcs_in, next}

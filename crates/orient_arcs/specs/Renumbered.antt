@@ -1,4 +1,4 @@
--- Renumbering (this project's rule).
+-- Renumbering.
 use Rattle.std.specs.Prelude.{◌≡◌, ◌≤◌, ◌<◌, ℕ, zero, suc, ◌+◌, slice_index, slice_index_or, List, [], ◌∷◌, ◌++◌, length, map, max, Bool, not, ◌&&◌, if◌then◌else◌, nat_eq, ℤ, int_lt, unwrap_or}
 use Rattle.std.specs.List.{count_by, find, flat_map, fold, list_any, position_or_len, range_with_len}
 use Rattle.kh_types.specs.Code.{Code, arc_in}

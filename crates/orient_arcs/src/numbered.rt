@@ -20,7 +20,7 @@ use std::marker::Model;
 const NUMBERS: usize = ARCS + 1;
 
 /// The components of a diagram, numbered from 0 by their least arcs; loops are not counted.
-/// Contracts see them as the code of the diagram. Source: this project's rule.
+/// Contracts see them as the code of the diagram.
 #[derive(Clone, Copy, Debug, PartialEq, Eq)]
 pub struct Components {
     diagram: Diagram,

@@ -7,8 +7,7 @@ ghost use Rattle.kh_types.specs.Components.{next};
 use crate::numbered::Components;
 use kh_types::{Diagram, components_of, next_in};
 
-/// The components of a diagram, numbered from 0 by their least arcs; loops are not counted. Source:
-/// this project's rule.
+/// The components of a diagram, numbered from 0 by their least arcs; loops are not counted.
 pub fn components(diagram: &Diagram) -> Components
     ensures { result ≡ diagram.now }
 {

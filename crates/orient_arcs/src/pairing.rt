@@ -10,7 +10,7 @@ use code_passes::Pass;
 
 impl Parts {
     /// Whether each name that stands at all stands twice, once as the head of an arc and once as a
-    /// tail. Source: this project's rule.
+    /// tail.
     pub fn is_paired(&self) -> bool
         ensures { IsTrue result ↔ ArePaired self.now }
     {

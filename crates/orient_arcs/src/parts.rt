@@ -6,7 +6,7 @@ use std::marker::Model;
 
 /// Crossings over arc names, each counterclockwise from the incoming under arc, with the direction
 /// of each, and a number of loops: a positive crossing's over strand comes in at slot 3, a negative
-/// one's at slot 1. Source: this project's rule.
+/// one's at slot 1.
 #[derive(Debug, Drop)]
 pub struct Parts {
     pub crossings: ArrayVec<Crossing, CROSSINGS>,

@@ -16,7 +16,7 @@ use kh_types::{ARCS, CROSSINGS, Crossing, RawCode};
 
 /// The code of some parts: components in the order of their least names, each numbered along its
 /// direction from its least name on; one of two arcs that is over at both its crossings begins with
-/// the arc that enters the first listed of them. Source: this project's rule.
+/// the arc that enters the first listed of them.
 pub fn renumber(parts: &Parts) -> RawCode
     requires { ArePaired parts.now }
     ensures code { result ≡ renumber parts.now }

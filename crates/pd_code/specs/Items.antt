@@ -6,7 +6,7 @@ use Rattle.kh_types.specs.RawCodes.{arc_named}
 use Rattle.pd_code.specs.declared.item.Item.{Item}
 use Rattle.pd_code.specs.declared.item.Item.TheVariants.{Crossing, Loop}
 
--- the arc that a number with its sign names; 0, which is no arc, for one below 0 (this project's rule)
+-- the arc that a number with its sign names; 0, which is no arc, for one below 0
 abbrev pub signed_arc_named : ℤ → ℕ
 signed_arc_named (pos n) = arc_named n
 signed_arc_named (negsuc n) = 0

@@ -1,4 +1,4 @@
--- What the reading of a text comes to: a code, or why there is none. The order and the limits are this project's rule.
+-- What the reading of a text comes to: a code, or why there is none.
 use Rattle.std.specs.Prelude.{◌≡◌, ℕ, ◌<◌, ◌≤◌, ◌⊎◌, List, length, Result, Ok, Err}
 use Rattle.kh_types.specs.Code.{Code}
 use Rattle.kh_types.specs.declared.limits.TheConstants.{CROSSINGS, LOOPS}

@@ -1,4 +1,4 @@
--- The steps of the table.
+-- The loops of src/cube.rt and src/table.rt, one step more each; a ruleset for each function.
 use Rattle.std.proofs.Common.{◌≡◌, ℕ, ◌+◌, ◌∷◌, [], ◌++◌, List, map, ℤ, pos, ◌+ℤ◌, ◌-ℤ◌, length, Result, Ok, Err, IfOk, ap, sym, refl, ◌∙◌}
 use Rattle.std.specs.List.{range_with_len, flat_map, filter}
 use Rattle.std.proofs.lemmas.List.{append_assoc, append-nil, map_push, length-map}

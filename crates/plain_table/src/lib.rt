@@ -1,6 +1,5 @@
-//! The homology table by the definitions themselves: each generator is listed, each differential is
-//! written out whole, and its plain rank is taken. It is slow, and the reference that faster ways
-//! are compared with.
+//! The homology table by the definitions themselves, slow, for comparison; and worked values of the
+//! definitions, as laws.
 #![tactic(auto)]
 
 mod circles;
@@ -11,6 +10,7 @@ mod labels;
 mod resolved;
 mod table;
 mod text;
+pub mod worked;
 
 pub use cube::Cube;
 pub use generators::{Generator, Placed};

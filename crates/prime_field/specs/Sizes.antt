@@ -1,4 +1,4 @@
--- The numbers of elements of the four fields, and the words for them (this project's rule).
+-- The numbers of elements of the four fields, and the words for them.
 use Rattle.std.specs.Prelude.{◌≡◌, ℕ, nat_eq, if◌then◌else◌, refl}
 use Rattle.prime_field.specs.declared.size.Elements.{Elements}
 use Rattle.prime_field.specs.declared.size.Elements.TheVariants.{Two, Three, Five, Seven}

@@ -1,4 +1,5 @@
-//! The fields of two, three, five and seven elements, under one trait with laws for generic code.
+//! The fields of two, three, five and seven elements under one trait, with laws for generic code;
+//! which of the four, as a value.
 #![tactic(auto)]
 
 mod derived;

@@ -5,7 +5,7 @@ ghost use Rattle.prime_field.specs.Sizes.{field_size};
 
 use std::marker::Model;
 
-/// How many elements one of the four fields has. Source: this project's rule.
+/// How many elements one of the four fields has.
 #[derive(Clone, Copy, Debug, PartialEq, Eq)]
 pub enum Elements {
     /// Those of `F2`.
@@ -19,7 +19,6 @@ pub enum Elements {
 }
 
 /// The number of elements of one of the four fields: 2, 3, 5 or 7. Contracts see the number.
-/// Source: this project's rule.
 #[derive(Clone, Copy, Debug, PartialEq, Eq)]
 pub struct FieldSize {
     elements: Elements,

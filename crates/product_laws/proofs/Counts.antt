@@ -8,10 +8,10 @@ use Rattle.std.proofs.lemmas.List.Sums.{length-filter}
 use Rattle.kh_types.specs.Table.{IsWithin, from_minus}
 use Rattle.kh_types.proofs.LabelDegrees.{int_eq-iff}
 use Rattle.kh_types.proofs.ListSums.{sum_by-alike, sum_by-times, sum_by-turned}
-use Rattle.cell_complexes.specs.Alike.{HasNoDoubles}
-use Rattle.cell_complexes.specs.Cells.{Cells, cells_at, has_both}
-use Rattle.cell_complexes.proofs.Members.{sum_by-members}
-use Rattle.cell_complexes.proofs.NoDoubles.{once-map, once-range, sum_by-only}
+use Rattle.cell_laws.specs.Alike.{HasNoDoubles}
+use Rattle.cell_laws.specs.Cells.{Cells, cells_at, has_both}
+use Rattle.cell_laws.proofs.Members.{sum_by-members}
+use Rattle.cell_laws.proofs.NoDoubles.{once-map, once-range, sum_by-only}
 use Rattle.product_laws.specs.Products.{Factor, IsTest, all_pairs, product_complex}
 use Rattle.product_laws.proofs.PairLists.{sum_by-pairs, test-other}
 

@@ -6,8 +6,8 @@ use Rattle.std.proofs.Math.Nat.{zero-mod}
 use Rattle.kh_types.specs.Residues.{HasInverses, Same}
 use Rattle.kh_types.specs.Table.{IsWithin, from_minus}
 use Rattle.kh_types.proofs.ListSums.{sum_by-alike}
-use Rattle.cell_complexes.specs.Cells.{AreComplex, cells_at, dimension_at}
-use Rattle.cell_complexes.proofs.LastCells.{dimension-nothing}
+use Rattle.cell_laws.specs.Cells.{AreComplex, cells_at, dimension_at}
+use Rattle.cell_laws.proofs.LastCells.{dimension-nothing}
 use Rattle.product_laws.specs.Products.{AreTurned, Factor, IsFactor, all_pairs, pair_coefficient, product_complex, product_dimension}
 use Rattle.product_laws.proofs.Counts.{length-pairs, sum_by-degrees}
 use Rattle.product_laws.proofs.PairCoefficients.{by-first, by-neither, by-second, no-loop, pair-below}

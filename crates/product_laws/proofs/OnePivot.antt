@@ -12,14 +12,14 @@ use Rattle.kh_types.proofs.ListSums.{sum_by-map}
 use Rattle.kh_types.proofs.PlainRank.{other-below}
 use Rattle.kh_types.proofs.Reduced.{minus_mod-added}
 use Rattle.kh_types.proofs.Residues.{same-add, same-cancel, same-equal, same-inverse, same-mul, same-scaled}
-use Rattle.cell_complexes.specs.Alike.{AreAlike, AreListed, HasNoDoubles}
-use Rattle.cell_complexes.specs.Cells.{AreComplex, Cells, dimension_at}
-use Rattle.cell_complexes.specs.Elimination.{ArePivots, all_of, cells_left, eliminated, way_back}
-use Rattle.cell_complexes.proofs.AlikeCells.{dimension-alike}
-use Rattle.cell_complexes.proofs.AlikeComplexes.{complex-alike, complex-left_any, dimension-left_any}
-use Rattle.cell_complexes.proofs.Listings.{listed-same, pivots-without_doubles}
-use Rattle.cell_complexes.proofs.Members.{Contains-made}
-use Rattle.cell_complexes.proofs.NoDoubles.{once-map, sum_by-only}
+use Rattle.cell_laws.specs.Alike.{AreAlike, AreListed, HasNoDoubles}
+use Rattle.cell_laws.specs.Cells.{AreComplex, Cells, dimension_at}
+use Rattle.cell_laws.specs.Elimination.{ArePivots, all_of, cells_left, eliminated, way_back}
+use Rattle.cell_laws.proofs.AlikeCells.{dimension-alike}
+use Rattle.cell_laws.proofs.AlikeComplexes.{complex-alike, complex-left_any, dimension-left_any}
+use Rattle.cell_laws.proofs.Listings.{listed-same, pivots-without_doubles}
+use Rattle.cell_laws.proofs.Members.{Contains-made}
+use Rattle.cell_laws.proofs.NoDoubles.{once-map, sum_by-only}
 use Rattle.kh_types.proofs.ListSums.{sum_by-zeros}
 use Rattle.product_laws.specs.Products.{Factor, IsTest, all_pairs, pair_coefficient, product_complex}
 use Rattle.product_laws.proofs.PairCoefficients.{by-first, by-neither, not-first, pair-below}

@@ -6,7 +6,7 @@ use Rattle.std.proofs.lemmas.Int.{ints}
 use Rattle.std.proofs.lemmas.Nat.{mod_below}
 use Rattle.std.proofs.lemmas.Bool.{cases_eq}
 use Rattle.std.proofs.Common.{ℤ, pos, ◌+ℤ◌}
-use Rattle.cell_complexes.specs.Cells.{AreComplex, Cells}
+use Rattle.cell_laws.specs.Cells.{AreComplex, Cells}
 use Rattle.product_laws.specs.Products.{Factor, pair_coefficient}
 
 -- no coefficient leads from a cell to itself

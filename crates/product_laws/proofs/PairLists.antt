@@ -5,11 +5,11 @@ use Rattle.std.proofs.lemmas.Bool.{both_ways, cases_Bool}
 use Rattle.std.proofs.lemmas.List.Sums.{sum_by-cons}
 use Rattle.kh_types.proofs.Lists.{Contains-cases, Contains-filter, Contains-first, Contains-flat_map, Contains-later, Contains-map}
 use Rattle.kh_types.proofs.ListSums.{sum_by-alike, sum_by-flat_map, sum_by-map}
-use Rattle.cell_complexes.specs.Alike.{AreListed, HasNoDoubles}
-use Rattle.cell_complexes.proofs.Listings.{listed-flat, listed-same}
-use Rattle.cell_complexes.proofs.Matched.{AreListed-matched}
-use Rattle.cell_complexes.proofs.Members.{Contains-flattened, Contains-kept, Contains-made}
-use Rattle.cell_complexes.proofs.NoDoubles.{once-filter, once-first, once-flat, once-map}
+use Rattle.cell_laws.specs.Alike.{AreListed, HasNoDoubles}
+use Rattle.cell_laws.proofs.Listings.{listed-flat, listed-same}
+use Rattle.cell_laws.proofs.Matched.{AreListed-matched}
+use Rattle.cell_laws.proofs.Members.{Contains-flattened, Contains-kept, Contains-made}
+use Rattle.cell_laws.proofs.NoDoubles.{once-filter, once-first, once-flat, once-map}
 use Rattle.product_laws.specs.Products.{IsTest, all_pairs}
 
 -- tests

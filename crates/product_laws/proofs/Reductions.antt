@@ -4,11 +4,11 @@ use Rattle.std.proofs.Common.{◌≡◌, ◌≢◌, ℕ, zero, suc, inl, inr, �
 use Rattle.std.specs.List.{Contains, sum_by}
 use Rattle.std.proofs.lemmas.Bool.{cases_eq}
 use Rattle.kh_types.specs.Residues.{HasInverses, Same}
-use Rattle.cell_complexes.specs.Alike.{HasNoDoubles}
-use Rattle.cell_complexes.specs.Cells.{AreComplex, Cells, dimension_at}
-use Rattle.cell_complexes.specs.Elimination.{eliminated}
-use Rattle.cell_complexes.proofs.AlikeComplexes.{complex-left_any, dimension-left_any}
-use Rattle.cell_complexes.proofs.Members.{Contains-kept, sum_by-term}
+use Rattle.cell_laws.specs.Alike.{HasNoDoubles}
+use Rattle.cell_laws.specs.Cells.{AreComplex, Cells, dimension_at}
+use Rattle.cell_laws.specs.Elimination.{eliminated}
+use Rattle.cell_laws.proofs.AlikeComplexes.{complex-left_any, dimension-left_any}
+use Rattle.cell_laws.proofs.Members.{Contains-kept, sum_by-term}
 use Rattle.product_laws.specs.Products.{Factor, IsTest, product_complex}
 use Rattle.product_laws.proofs.OnePivot.{complex-one, dimension-one}
 use Rattle.product_laws.proofs.PairCoefficients.{no-loop}

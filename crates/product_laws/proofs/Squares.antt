@@ -7,10 +7,10 @@ use Rattle.std.proofs.Math.Nat.{mod-mod, zero-mod}
 use Rattle.kh_types.specs.Residues.{HasInverses, Same}
 use Rattle.kh_types.proofs.ListSums.{sum_by-alike, sum_by-plus, sum_by-times}
 use Rattle.kh_types.proofs.Residues.{same-add, same-equal, same-mul, same-scaled}
-use Rattle.cell_complexes.specs.Alike.{HasNoDoubles}
-use Rattle.cell_complexes.specs.Cells.{AreComplex}
-use Rattle.cell_complexes.proofs.Members.{sum_by-same}
-use Rattle.cell_complexes.proofs.NoDoubles.{sum_by-only}
+use Rattle.cell_laws.specs.Alike.{HasNoDoubles}
+use Rattle.cell_laws.specs.Cells.{AreComplex}
+use Rattle.cell_laws.proofs.Members.{sum_by-same}
+use Rattle.cell_laws.proofs.NoDoubles.{sum_by-only}
 use Rattle.product_laws.specs.Products.{AreTurned, Factor, IsFactor, IsTest, all_pairs, pair_coefficient, product_complex}
 use Rattle.product_laws.proofs.PairCoefficients.{by-first, by-neither, by-second, no-loop, pair-below}
 use Rattle.product_laws.proofs.PairLists.{pairs-parts, sum_by-pairs, test-other}

@@ -7,10 +7,10 @@ use Rattle.std.proofs.Math.Nat.{zero-mod}
 use Rattle.kh_types.specs.Residues.{HasInverses}
 use Rattle.kh_types.proofs.ListSums.{sum_by-turned}
 use Rattle.kh_types.proofs.Residues.{same-equal}
-use Rattle.cell_complexes.specs.Alike.{AreAlike, AreListed}
-use Rattle.cell_complexes.specs.Cells.{AreComplex, dimension_at}
-use Rattle.cell_complexes.proofs.AlikeCells.{dimension-alike}
-use Rattle.cell_complexes.proofs.AlikeComplexes.{complex-alike}
+use Rattle.cell_laws.specs.Alike.{AreAlike, AreListed}
+use Rattle.cell_laws.specs.Cells.{AreComplex, dimension_at}
+use Rattle.cell_laws.proofs.AlikeCells.{dimension-alike}
+use Rattle.cell_laws.proofs.AlikeComplexes.{complex-alike}
 use Rattle.product_laws.specs.Products.{Factor, IsTest, all_pairs, pair_coefficient, product_complex}
 use Rattle.product_laws.proofs.PairCoefficients.{by-first, by-neither, by-second, pair-below}
 use Rattle.product_laws.proofs.PairLists.{pairs-contain, pairs-parts, sum_by-pairs}

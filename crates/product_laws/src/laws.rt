@@ -4,7 +4,7 @@ ghost use Rattle.std.specs.Prelude.{◌≡◌, ℕ, ℤ};
 ghost use Rattle.std.specs.List.{Contains};
 ghost use Rattle.kh_types.specs.Residues.{HasInverses};
 ghost use Rattle.kh_types.specs.Table.{IsWithin};
-ghost use Rattle.cell_complexes.specs.Cells.{AreComplex, dimension_at};
+ghost use Rattle.cell_laws.specs.Cells.{AreComplex, dimension_at};
 ghost use Rattle.product_laws.specs.Products.{AreTurned, Factor, IsFactor, product_complex, product_dimension};
 
 /// The product of two complexes is one.

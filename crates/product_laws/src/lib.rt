@@ -1,4 +1,4 @@
-//! Products of complexes, whose cells are pairs, and their dimensions. It has laws, and no code.
+//! Products of complexes, whose cells are pairs, and their dimensions.
 #![tactic(auto)]
 
 pub mod laws;

@@ -30,17 +30,18 @@ use Rattle.kh_types.proofs.AcceptedLemmas.{IsAccepted-is}
 use Rattle.kh_types.proofs.EdgeBits.{bit-set_there, set-within}
 use Rattle.kh_types.proofs.QuantumDegrees.{ones-le, place-IsWithin}
 use Rattle.kh_types.proofs.Ranges.{list_any-below, list_any-below_none, list_any-found}
-use Rattle.cube_squares.proofs.Signs.{ones-set_below}
+use Rattle.square_laws.proofs.Signs.{ones-set_below}
 use Rattle.cube_signs.specs.KindShapes.{all_kind_shapes}
 use Rattle.cube_signs.specs.Shapes.{gives_degree, is_given, shape_of}
 use Rattle.cube_signs.specs.declared.shape.Shape.{Shape}
 use Rattle.cube_signs.proofs.KindDegrees.{any-kinds}
-use Rattle.cube_signs.proofs.ShapeLemmas.{list_any-flat_map, ones-lowest, quantum_degree-label, same-passes}
+use Rattle.cube_signs.proofs.ShapeLemmas.{list_any-flat_map, ones-lowest, quantum_degree-label}
 use Rattle.reduced_cube.specs.Degrees.{shape_has_reduced, some_shape_has_reduced, is_from_one, reduced_degrees_of}
 use Rattle.reduced_cube.specs.Reduced.{has_reduced, is_reduced, reduced_degrees}
 use Rattle.reduced_cube.proofs.MarkedCounts.{ones-positive}
 use Rattle.reduced_cube.proofs.ReducedSums.{number-below}
 use Rattle.kh_types.proofs.MappedLists.{list_any-map}
+use Rattle.kh_types.proofs.Tests.{agree}
 
 -- a label with so many v-, one of them on a circle
 record HasLabel (count mark n : ℕ) : Type 0 where
@@ -95,7 +96,7 @@ reduced_degree-shape code mark j state is name =
     let of_count : ℕ → Bool = λ more. gives_degree shape below (more + 1) in
     let same : (label : ℕ) → int_eq (quantum_degree code (generator_of state label)) below ≡ gives_degree shape below (ones count label) =
     λ label. ap (λ (d : ℤ). int_eq d below) (quantum_degree-label code state label) in
-    same-passes (list_any of_count (range_with_len 0 count)) (list_any of_label (range_with_len 0 (2 ^ count)))
+    agree (list_any of_count (range_with_len 0 count)) (list_any of_label (range_with_len 0 (2 ^ count)))
     (λ passes.
     let found = list_any-found of_count count passes in
     let n = found.0 + 1 in

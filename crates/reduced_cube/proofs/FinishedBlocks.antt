@@ -7,8 +7,8 @@ use Rattle.kh_types.specs.Code.{Code}
 use Rattle.kh_types.specs.Complex.{Complex, alive_count, is_zero}
 use Rattle.prime_field.specs.Residues.{IsField}
 use Rattle.sparse_block.specs.Complexes.{NamedComplex}
-use Rattle.cancel_step.specs.Histories.{ComesByCancelling}
-use Rattle.jones_sum.specs.DegreeRows.{rows_with}
+use Rattle.sparse_block.specs.Histories.{ComesByCancelling}
+use Rattle.homology_tables.specs.DegreeRows.{rows_with}
 use Rattle.reduced_cube.specs.Reduced.{reduced_block, reduced_rows}
 use Rattle.reduced_cube.proofs.ReducedBlocks.{alive_count-finished}
 

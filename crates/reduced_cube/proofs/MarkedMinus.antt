@@ -7,14 +7,14 @@ use Rattle.kh_types.specs.Differential.{coefficient, coefficient_at, edge_sign, 
 use Rattle.kh_types.specs.Generators.{Generator}
 use Rattle.kh_types.specs.CircleNumbers.{IsName}
 use Rattle.kh_types.specs.Edges.{arc_at_slot}
-use Rattle.cube_squares.proofs.EdgeMarks.{IsChange, label_of-circle, label_of-le}
-use Rattle.cube_squares.proofs.Marks.{on_or_off}
+use Rattle.square_laws.proofs.EdgeMarks.{IsChange, label_of-circle, label_of-le}
+use Rattle.square_laws.proofs.Marks.{on_or_off}
 use Rattle.kh_types.specs.Bits.{one_if}
-use Rattle.cube_squares.proofs.Merges.{IsSwitch, switch-edge}
-use Rattle.cube_squares.proofs.Pairs.{IsStep, coefficient_at-edge, edge_or_zero, times-zero}
-use Rattle.cube_squares.proofs.SquareKinds.{circle-on}
+use Rattle.square_laws.proofs.Merges.{IsSwitch, switch-edge}
+use Rattle.square_laws.proofs.Pairs.{IsStep, coefficient_at-edge, edge_or_zero, times-zero}
+use Rattle.square_laws.proofs.SquareKinds.{circle-on}
 use Rattle.kh_types.proofs.ListSums.{sum_by-none}
-use Rattle.cube_squares.proofs.TouchedCircles.{fits, fits-decides}
+use Rattle.square_laws.proofs.TouchedCircles.{fits, fits-decides}
 
 -- a merge with v- gives v-, a split of v- gives v- v-, and all other circles keep their labels
 minus-change : (merges : Bool) (code : Code) (tail head : Generator) (crossing mark : ℕ) → IsName code mark

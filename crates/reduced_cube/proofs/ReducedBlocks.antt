@@ -11,7 +11,7 @@ use Rattle.kh_types.specs.History.{IsLegal, replay}
 use Rattle.kh_types.specs.Rank.{rank}
 use Rattle.kh_types.specs.Table.{IsWithin}
 use Rattle.prime_field.specs.Residues.{IsField}
-use Rattle.cancel_step.proofs.HistoryEnds.{alive_count-end, dimension_of-add}
+use Rattle.history_laws.proofs.HistoryEnds.{alive_count-end, dimension_of-add}
 use Rattle.cube_signs.specs.Chosen.{coefficients, list_complex, IsClosed}
 use Rattle.cube_signs.proofs.ChosenBlocks.{AreLists-chosen, IsComplex-chosen, chosen-beyond}
 use Rattle.cube_signs.proofs.ListComplexes.{AreLists, IsComplex-list_complex, alive_count-list_complex, dimension_of-list_complex, list_dimension, rank-list_complex}

@@ -12,9 +12,9 @@ use Rattle.kh_types.specs.Table.{Row}
 use Rattle.kh_types.proofs.FilteredLists.{filter-unless_any}
 use Rattle.circle_smoothing.specs.GeneratorCounts.{generator_count}
 use Rattle.circle_smoothing.specs.declared.limits.TheConstants.{GENERATORS}
-use Rattle.jones_sum.specs.Tables.{IsTable}
-use Rattle.jones_sum.proofs.BlockTables as tables
-use Rattle.jones_sum.proofs.TableLemmas.{IsTable-dims}
+use Rattle.homology_tables.specs.Tables.{IsTable}
+use Rattle.homology_tables.proofs.BlockTables as tables
+use Rattle.homology_tables.proofs.TableLemmas.{IsTable-dims}
 use Rattle.cube_signs.proofs.GeneratorPlaces.{length-generators_at}
 use Rattle.reduced_cube.specs.Reduced.{has_reduced, is_reduced, reduced_degrees, reduced_dimension, reduced_generators, reduced_rows, reduced_table}
 

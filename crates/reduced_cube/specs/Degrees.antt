@@ -1,4 +1,4 @@
--- The reduced quantum degrees, by the shapes of states (this project's rule).
+-- The reduced quantum degrees, by the shapes of states.
 use Rattle.std.specs.Prelude.{ℕ, ◌+◌, ℤ, pos, ◌-ℤ◌, List, Bool, false, ◌&&◌, nat_le, Option, None, Some}
 use Rattle.std.specs.List.{filter, list_any, range_with_len}
 use Rattle.kh_types.specs.Table.{from_minus}

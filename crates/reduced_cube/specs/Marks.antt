@@ -1,4 +1,4 @@
--- Marked arcs and loops, and their circles (this project's rule).
+-- Marked arcs and loops, and their circles.
 use Rattle.std.specs.Prelude.{◌≡◌, ℕ, List, map}
 use Rattle.kh_types.specs.Code.{Code}
 use Rattle.kh_types.specs.CircleNumbers.{circle_number, IsName}

@@ -1,4 +1,4 @@
--- What ends the making of a reduced table (this project's rule).
+-- What ends the making of a reduced table.
 use Rattle.std.specs.Prelude.{◌≡◌, ℕ, ◌<◌, ◌≤◌, true, false}
 use Rattle.kh_types.specs.Code.{Code}
 use Rattle.circle_smoothing.specs.GeneratorCounts.{generator_count}

@@ -11,9 +11,9 @@ ghost use Rattle.reduced_cube.specs.Reduced.{reduced_table};
 
 use crate::degrees::reduced_degrees;
 use crate::marks::marked_circles;
-use cancel_step::reduce;
+use column_reduction::reduce;
 use cube_signs::Cube;
-use jones_sum::{Row, Table, push_rows};
+use homology_tables::{Row, Table, push_rows};
 use kh_types::laws::diagrams::diagram_laws;
 use kh_types::{Diagram, NoMemory};
 use prime_field::PrimeField;

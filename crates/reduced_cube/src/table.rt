@@ -12,7 +12,7 @@ use crate::marked_cube::MarkedCube;
 use crate::marks::is_mark;
 use crate::stop::ReducedStop;
 use cube_signs::check_size;
-use jones_sum::Table;
+use homology_tables::Table;
 use kh_types::laws::diagrams::diagram_laws;
 use kh_types::{Diagram, NoMemory};
 use prime_field::PrimeField;

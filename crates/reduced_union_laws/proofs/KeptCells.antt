@@ -15,14 +15,14 @@ use Rattle.kh_types.specs.Rank.{rank}
 use Rattle.kh_types.specs.Residues.{HasInverses}
 use Rattle.kh_types.proofs.LabelDegrees.{int_eq-iff}
 use Rattle.kh_types.proofs.Residues.{same-equal}
-use Rattle.cell_complexes.specs.Cells.{AreComplex, Cells, cells_at, dimension_at, has_both, table_of}
-use Rattle.cell_complexes.specs.Cubes.{cube_of}
-use Rattle.cell_complexes.proofs.Members.{Contains-kept, filter-exchanged, sum_by-kept}
-use Rattle.cell_complexes.proofs.Orders.{AreComplex-cube}
+use Rattle.cell_laws.specs.Cells.{AreComplex, Cells, cells_at, dimension_at, has_both, table_of}
+use Rattle.cell_laws.specs.Cubes.{cube_of}
+use Rattle.cell_laws.proofs.Members.{Contains-kept, filter-exchanged, sum_by-kept}
+use Rattle.cell_laws.proofs.CubeCells.{AreComplex-cube}
 use Rattle.reduced_cube.specs.Reduced.{is_reduced, reduced_dimension, reduced_generators}
 use Rattle.reduced_cube.proofs.MarkedMinus.{coefficient-lost}
 use Rattle.product_laws.specs.Products.{Factor}
-use Rattle.union_laws.proofs.ListTests.{filter-same}
+use Rattle.view_laws.proofs.Tests.{filter-agree}
 
 -- the cells that are left, with the reduced quantum degree
 abbrev pub reduced_cells : ℕ → Code → ℕ → ℕ → ℕ → Cells Generator
@@ -46,7 +46,7 @@ module _ (p : ℕ) (code : Code) (mark : ℕ) where
   at-degrees : (i j : ℤ) → reduced_generators code mark i j ≡ cells_at cells i j
   at-degrees i j =
       filter-exchanged (is_reduced code mark) (has_degrees code i (j -ℤ pos 1)) (generators code)
-      ∙ filter-same (has_degrees code i (j -ℤ pos 1)) (has_both cells i j) (filter (is_reduced code mark) (generators code))
+      ∙ filter-agree (has_degrees code i (j -ℤ pos 1)) (has_both cells i j) (filter (is_reduced code mark) (generators code))
       (λ x has.
       let full = cube_of p code (plus_count code.crossings) (minus_count code.crossings) in
       ap (λ (b : Bool). int_eq (full.homological x) i && b) (raised (full.quantum x) j))

@@ -14,15 +14,15 @@ use Rattle.kh_types.specs.Table.{IsWithin, dimension, from_minus}
 use Rattle.kh_types.proofs.Lists.{filter-map}
 use Rattle.kh_types.proofs.ListSums.{sum_by-alike}
 use Rattle.kh_types.proofs.QuantumDegrees.{IsWithin-place, homological_degree-within, place-IsWithin, quantum_degree-within}
-use Rattle.cell_complexes.specs.Alike.{AreAlike, AreListed}
-use Rattle.cell_complexes.specs.Cells.{Cells, dimension_at}
-use Rattle.cell_complexes.specs.Cubes.{cube_of}
-use Rattle.cell_complexes.proofs.AlikeCells.{dimension-alike}
-use Rattle.cell_complexes.proofs.ExchangedCubes.{member-from}
-use Rattle.cell_complexes.proofs.Listings.{listed-kept}
-use Rattle.cell_complexes.proofs.NoDoubles.{once-filter}
-use Rattle.cell_complexes.proofs.Members.{Contains-kept}
-use Rattle.cube_squares.proofs.Degrees.{coefficient-below}
+use Rattle.cell_laws.specs.Alike.{AreAlike, AreListed}
+use Rattle.cell_laws.specs.Cells.{Cells, dimension_at}
+use Rattle.cell_laws.specs.Cubes.{cube_of}
+use Rattle.cell_laws.proofs.AlikeCells.{dimension-alike}
+use Rattle.cell_laws.proofs.CubeCells.{member-from}
+use Rattle.cell_laws.proofs.Listings.{listed-kept}
+use Rattle.cell_laws.proofs.NoDoubles.{once-filter}
+use Rattle.cell_laws.proofs.Members.{Contains-kept}
+use Rattle.square_laws.proofs.Degrees.{coefficient-below}
 use Rattle.link_algebra.proofs.UnitedSigns.{plus-both}
 use Rattle.link_algebra.proofs.UnitedSums.{minus-both}
 use Rattle.link_algebra.specs.Unions.{union_of}
@@ -34,11 +34,11 @@ use Rattle.union_laws.specs.Cubes.{first_factor, second_factor, united}
 use Rattle.product_laws.specs.Products.{Factor, IsFactor, all_pairs, product_complex, product_dimension}
 use Rattle.union_laws.proofs.CubeFactors.{AreTurned-cubes, factor-first, factor-second}
 use Rattle.product_laws.proofs.Kuenneth.{dimension-product}
-use Rattle.union_laws.proofs.ListTests.{filter-same}
 use Rattle.product_laws.proofs.PairCoefficients.{pair-below}
 use Rattle.product_laws.proofs.PairLists.{pairs-parts}
 use Rattle.union_laws.proofs.Unions.{fits-state}
 use Rattle.union_laws.proofs.UnitedCubes.{AreAlike-united}
+use Rattle.view_laws.proofs.Tests.{filter-agree}
 
 -- pairs whose first cell passes a test, and whose second does
 
@@ -143,7 +143,7 @@ module _ (p : ℕ) (first second : Code) (field : HasInverses p) (first_is : IsT
     few-pairs : filter (λ z. is_reduced both at (united first second z)) (all_pairs (generators first) (generators second))
         ≡ all_pairs (filter (is_reduced first mark) (generators first)) (generators second)
     few-pairs =
-        filter-same (λ z. is_reduced both at (united first second z)) (λ z. is_reduced first mark z.0)
+        filter-agree (λ z. is_reduced both at (united first second z)) (λ z. is_reduced first mark z.0)
         (all_pairs (generators first) (generators second))
         (λ z has.
         minus-first first second first_is second_is z.0 z.1
@@ -225,7 +225,7 @@ module _ (p : ℕ) (first second : Code) (field : HasInverses p) (first_is : IsT
     less-pairs : filter (λ z. is_reduced both there (united first second z)) (all_pairs (generators first) (generators second))
         ≡ all_pairs (generators first) (filter (is_reduced second mark) (generators second))
     less-pairs =
-        filter-same (λ z. is_reduced both there (united first second z)) (λ z. is_reduced second mark z.1)
+        filter-agree (λ z. is_reduced both there (united first second z)) (λ z. is_reduced second mark z.1)
         (all_pairs (generators first) (generators second))
         (λ z has.
         minus-second first second first_is second_is z.0 z.1

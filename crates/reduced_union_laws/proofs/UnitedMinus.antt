@@ -8,7 +8,7 @@ use Rattle.kh_types.specs.CircleNumbers.{IsName}
 use Rattle.kh_types.specs.Code.{Code, arc_count}
 use Rattle.kh_types.specs.Differential.{label_of}
 use Rattle.kh_types.specs.Generators.{Generator}
-use Rattle.cell_complexes.proofs.ExchangedCubes.{IsMember}
+use Rattle.cell_laws.proofs.CubeCells.{IsMember}
 use Rattle.link_algebra.specs.Unions.{union_of}
 use Rattle.reduced_cube.specs.Reduced.{is_reduced}
 use Rattle.reduced_union_laws.specs.UnitedMarks.{first_mark, second_mark}

@@ -9,23 +9,23 @@ use Rattle.std.proofs.lemmas.Int.{ints}
 use Rattle.kh_types.specs.Bits.{ones}
 use Rattle.kh_types.specs.Code.{Code}
 use Rattle.kh_types.proofs.AcceptedLemmas.{HasArcsTwice-accepted}
-use Rattle.cube_squares.proofs.LabelNumbers.{number_from}
-use Rattle.added_crossings.specs.Codes.{closed_at, pairing_behind, points_at}
-use Rattle.added_crossings.specs.Labels.{number_of}
-use Rattle.cell_complexes.specs.Alike.{AreListed, AreMatched}
-use Rattle.cell_complexes.specs.Layers.{Layer, Layers, cells_of, layer_of}
-use Rattle.cell_complexes.proofs.Matched.{AreListed-matched}
+use Rattle.square_laws.proofs.LabelNumbers.{number_from}
+use Rattle.added_crossing_laws.specs.Codes.{closed_at, pairing_behind, points_at}
+use Rattle.added_crossing_laws.specs.Labels.{number_of}
+use Rattle.cell_laws.specs.Alike.{AreListed, AreMatched}
+use Rattle.cell_laws.specs.Layers.{Layer, Layers, cells_of, layer_of}
+use Rattle.cell_laws.proofs.Matched.{AreListed-matched}
 use Rattle.scan_laws.specs.Scans.{Object, Scan, circle_count_at, circles_at, count_behind, pairs_of}
 use Rattle.scan_laws.specs.Edges.{classes_at, label_by}
 use Rattle.scan_laws.specs.Complexes.{degree_of_labels, layers_of}
 use Rattle.scan_laws.specs.Adding.{Origin, object_from, origin_of}
 use Rattle.scan_laws.specs.NextGenerators.{IsAdded, labels_on, next_generator}
 use Rattle.scan_laws.proofs.AddedCircles.{circle-parts}
-use Rattle.cell_complexes.proofs.CellLists.{cell-from, cell-of, cells-once}
+use Rattle.cell_laws.proofs.CellLists.{cell-from, cell-of, cells-once}
 use Rattle.scan_laws.proofs.Objects.{object-among}
 use Rattle.scan_laws.proofs.Origins.{IsOrigin, origin-from, origin-of}
 use Rattle.scan_laws.proofs.Parts.{circle_with, circles_left, circles_with, closed_part, left_part}
-use Rattle.cell_complexes.proofs.SplitLabels.{AreParts, counts, part, ones-parts, part-below, parts-whole, whole, whole-below, whole-parts}
+use Rattle.cell_laws.proofs.SplitLabels.{AreParts, counts, part, ones-parts, part-below, parts-whole, whole, whole-below, whole-parts}
 use Rattle.scan_laws.proofs.States.{count-more, joint, joint-first, joint-parts, joint-rest, ones-joint}
 
 -- a cell of the scan, by the smoothing of the next crossing and the state of the others

@@ -11,10 +11,10 @@ use Rattle.kh_types.specs.Bits.{bit}
 use Rattle.kh_types.specs.Code.{Code, place_of}
 use Rattle.kh_types.proofs.AcceptedLemmas.{HasArcsTwice-accepted}
 use Rattle.kh_types.proofs.Residues.{same-equal}
-use Rattle.cube_squares.proofs.Pairs.{IsStep}
-use Rattle.added_crossings.specs.Codes.{pairing_behind}
-use Rattle.cell_complexes.specs.Alike.{AreAlike}
-use Rattle.cell_complexes.specs.Layers.{Layer, Layers, layer_coefficient, layer_of}
+use Rattle.square_laws.proofs.Pairs.{IsStep}
+use Rattle.added_crossing_laws.specs.Codes.{pairing_behind}
+use Rattle.cell_laws.specs.Alike.{AreAlike}
+use Rattle.cell_laws.specs.Layers.{Layer, Layers, layer_coefficient, layer_of}
 use Rattle.scan_laws.specs.Scans.{Object, Scan, pairs_of}
 use Rattle.scan_laws.specs.Edges.{outer_coefficient}
 use Rattle.scan_laws.specs.Complexes.{complex_of, layers_of}

@@ -14,15 +14,15 @@ use Rattle.kh_types.specs.Residues.{Same}
 use Rattle.kh_types.proofs.ListSums.{sum_by-alike}
 use Rattle.kh_types.proofs.Residues.{same-equal, same-mul}
 use Rattle.kh_types.proofs.Sums.{sum_below-add, sum_below-equal, sum_below-scaled, sum_below-zeros}
-use Rattle.cube_squares.proofs.Pairs.{IsStep}
-use Rattle.dotted_surfaces.specs.Surfaces.{value}
+use Rattle.square_laws.proofs.Pairs.{IsStep}
+use Rattle.surface_laws.specs.Surfaces.{value}
 use Rattle.dotted_maps.specs.declared.term.Term.{Term}
 use Rattle.dotted_maps.specs.Maps.{coefficient_in, matrix_of}
 use Rattle.dotted_maps.specs.Terms.{entry}
-use Rattle.added_crossings.specs.Codes.{discs_behind, pairing_behind, points_at}
-use Rattle.added_crossings.specs.Entries.{added_surface, saddle_surface}
-use Rattle.closed_surfaces.specs.Made.{joined_outside}
-use Rattle.cell_complexes.specs.Layers.{Layer, Layers, layer_coefficient, layer_of}
+use Rattle.added_crossing_laws.specs.Codes.{discs_behind, pairing_behind, points_at}
+use Rattle.added_crossing_laws.specs.Entries.{added_surface, saddle_surface}
+use Rattle.scan_laws.specs.Made.{joined_outside}
+use Rattle.cell_laws.specs.Layers.{Layer, Layers, layer_coefficient, layer_of}
 use Rattle.scan_laws.specs.Scans.{Scan, dot_sets, pairs_of}
 use Rattle.scan_laws.specs.Complexes.{layers_of}
 use Rattle.scan_laws.specs.Adding.{Origin, added_coefficient, new_coefficient, saddle_coefficient, sign_at}

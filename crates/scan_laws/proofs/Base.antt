@@ -15,13 +15,13 @@ use Rattle.kh_types.specs.Generators.{Generator, generator_of, generators, gener
 use Rattle.kh_types.specs.Residues.{Same}
 use Rattle.kh_types.proofs.ListSums.{sum_by-alike, sum_by-some}
 use Rattle.kh_types.proofs.Residues.{same-equal}
-use Rattle.cube_squares.proofs.Pairs.{edge_or_zero}
-use Rattle.added_crossings.specs.Codes.{is_alive, points_at}
-use Rattle.cell_complexes.specs.Alike.{AreAlike, AreListed}
-use Rattle.cell_complexes.specs.Cubes.{cube_of}
-use Rattle.cell_complexes.specs.Layers.{Layer, Layers, cells_of, layer_coefficient, layer_of, object_cells}
-use Rattle.cell_complexes.proofs.Listings.{listed-named}
-use Rattle.cell_complexes.proofs.NoDoubles.{flat_map-range, map-flat_map, map-map}
+use Rattle.square_laws.proofs.Pairs.{edge_or_zero}
+use Rattle.added_crossing_laws.specs.Codes.{is_alive, points_at}
+use Rattle.cell_laws.specs.Alike.{AreAlike, AreListed}
+use Rattle.cell_laws.specs.Cubes.{cube_of}
+use Rattle.cell_laws.specs.Layers.{Layer, Layers, cells_of, layer_coefficient, layer_of, object_cells}
+use Rattle.cell_laws.proofs.Listings.{listed-named}
+use Rattle.cell_laws.proofs.NoDoubles.{flat_map-range, map-flat_map, map-map}
 use Rattle.scan_laws.specs.Scans.{circle_count_at, circles_at, first_scan}
 use Rattle.scan_laws.specs.Edges.{changes_by, keeps_by, outer_at}
 use Rattle.scan_laws.specs.Complexes.{complex_of, layers_of}

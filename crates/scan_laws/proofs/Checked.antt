@@ -11,22 +11,22 @@ use Rattle.std.proofs.lemmas.List.Sums.{AllPass-from_list_all}
 use Rattle.std.proofs.lemmas.List.FromFn.{get_or-range_with_len, length-range_with_len}
 use Rattle.kh_types.specs.Code.{Code}
 use Rattle.kh_types.specs.Residues.{Same}
-use Rattle.dotted_surfaces.proofs.Components.{list_any-some}
+use Rattle.surface_laws.proofs.Components.{list_any-some}
 use Rattle.dotted_maps.specs.declared.term.Term.{Term}
 use Rattle.dotted_maps.specs.Maps.{coefficient_in}
-use Rattle.added_crossings.proofs.Members.{All-contained}
-use Rattle.cell_complexes.specs.Alike.{AreListed, AreMatched, HasNoDoubles}
-use Rattle.cell_complexes.proofs.ExchangedCubes.{range-contains}
-use Rattle.cell_complexes.proofs.NoDoubles.{once-range}
+use Rattle.kh_types.proofs.Lists.{range-contains}
+use Rattle.added_crossing_laws.proofs.Members.{All-contained}
+use Rattle.cell_laws.specs.Alike.{AreListed, AreMatched, HasNoDoubles}
+use Rattle.cell_laws.proofs.NoDoubles.{once-range}
 use Rattle.scan_laws.specs.Scans.{HasDots, Object, Scan, dot_sets, first_object, pairs_of}
 use Rattle.scan_laws.specs.Adding.{IsAdding, new_coefficient, object_from, origins}
 use Rattle.scan_laws.specs.Eliminating.{IsEliminating, way_coefficient}
 use Rattle.scan_laws.specs.Steps.{AreSteps, IsLast, IsRenumbering, IsScanStep}
-use Rattle.cell_complexes.proofs.CellLists.{contains-range}
+use Rattle.cell_laws.proofs.CellLists.{contains-range}
 use Rattle.scan_laws.proofs.Possible.{no-head, no-tail, no_origin, origin_in, number_in, origins-matched, others, others-listed}
-use Rattle.cell_complexes.proofs.Labels.{place}
+use Rattle.cell_laws.proofs.Labels.{place}
 use Rattle.scan_laws.proofs.ScansOf.{once-eliminated}
-use Rattle.cell_complexes.proofs.Places.{numbers-test, place-at, place-found}
+use Rattle.cell_laws.proofs.Places.{numbers-test, place-at, place-found}
 
 all-pass : {A : Type 0} (p : A → Bool) (xs : List A) → list_all p xs ≡ true → (x : A) → Contains xs x → p x ≡ true
 all-pass p xs all x has = All-contains (λ y. p y ≡ true) xs x (AllPass-from_list_all p xs all) has

@@ -11,23 +11,22 @@ use Rattle.std.proofs.lemmas.List.Sums.{length-filter, sum_by-cons}
 use Rattle.kh_types.specs.Classes.{Respects, is_least}
 use Rattle.kh_types.specs.Code.{Code, arc_in}
 use Rattle.kh_types.proofs.ListSums.{sum_by-filter, sum_by-map, sum_by-zeros}
-use Rattle.kh_types.proofs.Lists.{AllByRecursion-append, AllByRecursion-first, AllByRecursion-second, Contains-map}
-use Rattle.dotted_surfaces.proofs.Components.{list_any-on, list_any-some}
-use Rattle.added_crossings.specs.Codes.{closed_at, pairing_behind, points_at, smoothing_at}
+use Rattle.kh_types.proofs.Lists.{AllByRecursion-append, AllByRecursion-first, AllByRecursion-second, Contains-map, range-contains}
+use Rattle.surface_laws.proofs.Components.{list_any-on, list_any-some}
+use Rattle.added_crossing_laws.specs.Codes.{closed_at, pairing_behind, points_at, smoothing_at}
 use Rattle.dotted_maps.proofs.LeastPoints.{class-named, class-respected}
-use Rattle.cell_complexes.specs.Alike.{HasNoDoubles}
-use Rattle.cell_complexes.proofs.ExchangedCubes.{range-contains}
-use Rattle.cell_complexes.proofs.Matched.{place-once}
-use Rattle.cell_complexes.proofs.Members.{Contains-cases, Contains-kept, sum_by-members}
+use Rattle.cell_laws.specs.Alike.{HasNoDoubles}
+use Rattle.cell_laws.proofs.Matched.{place-once}
+use Rattle.cell_laws.proofs.Members.{Contains-cases, Contains-kept, sum_by-members}
 use Rattle.scan_laws.specs.Edges.{classes_at, label_by, labels_by, touched_by}
-use Rattle.closed_surfaces.specs.Made.{joined_outside}
+use Rattle.scan_laws.specs.Made.{joined_outside}
 use Rattle.scan_laws.proofs.AddedCircles.{HasNext, circle-parts, class-inside, is-cut, new-joins, own-class}
 use Rattle.scan_laws.proofs.Changes.{AreBits, total}
-use Rattle.cell_complexes.proofs.Labels.{bit-number, bit-small, mark, place}
-use Rattle.cell_complexes.proofs.Places.{numbers-test, place-found}
-use Rattle.cell_complexes.proofs.SameElements.{AreSame}
+use Rattle.cell_laws.proofs.Labels.{bit-number, bit-small, mark, place}
+use Rattle.cell_laws.proofs.Places.{numbers-test, place-found}
+use Rattle.cell_laws.proofs.SameElements.{AreSame}
 use Rattle.scan_laws.proofs.Parts.{circle_with, circles_left, circles_with}
-use Rattle.cell_complexes.proofs.SplitLabels.{AreParts, both-same, part}
+use Rattle.cell_laws.proofs.SplitLabels.{AreParts, both-same, part}
 use Rattle.scan_laws.proofs.States.{joint}
 
 -- what stands once under a map

@@ -2,7 +2,7 @@
 use Rattle.std.proofs.Common.{◌≡◌, ◌≢◌, ◌∙◌, ap, Bool}
 use Rattle.std.specs.Prelude.{nat_eq, if◌then◌else◌}
 use Rattle.std.proofs.lemmas.Bool.{eq-eqb, ne_eqb}
-use Rattle.cell_complexes.specs.Layers.{Layer, Layers, layer_coefficient}
+use Rattle.cell_laws.specs.Layers.{Layer, Layers, layer_coefficient}
 
 pub inside-state : (layers : Layers) (x y : Layer) → x.state ≡ y.state
     → layer_coefficient layers x y ≡ layers.inner x.object y.object x.state x.label y.label

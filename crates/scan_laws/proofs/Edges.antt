@@ -8,10 +8,10 @@ use Rattle.kh_types.specs.Code.{Code, place_of, slots_of}
 use Rattle.kh_types.specs.Differential.{is_edge}
 use Rattle.kh_types.specs.Generators.{generator_of}
 use Rattle.kh_types.proofs.ListSums.{sum_by-none, sum_by-single, sum_by-some}
-use Rattle.cube_squares.proofs.Pairs.{IsStep, is_edge-decides}
+use Rattle.square_laws.proofs.Pairs.{IsStep, is_edge-decides}
 use Rattle.scan_laws.specs.Scans.{count_behind, crossings_behind}
 use Rattle.scan_laws.specs.Edges.{changes_by, classes_at, keeps_by, outer_at, outer_coefficient, outer_sign}
-use Rattle.added_crossings.specs.Codes.{points_at}
+use Rattle.added_crossing_laws.specs.Codes.{points_at}
 
 -- whether labels fit along a crossing
 abbrev pub fits_at : Code → ℕ → List (ℕ × ℕ) → ℕ → ℕ → ℕ → ℕ → ℕ → Bool

@@ -14,20 +14,20 @@ use Rattle.kh_types.specs.Rank.{inverse}
 use Rattle.kh_types.specs.Residues.{HasInverses}
 use Rattle.kh_types.proofs.ListSums.{sum_by-alike, sum_by-times}
 use Rattle.kh_types.proofs.Residues.{same-equal, same-mul}
-use Rattle.dotted_surfaces.specs.Points.{Points, circles, discs}
+use Rattle.surface_laws.specs.Points.{Points, circles, discs}
 use Rattle.dotted_maps.specs.Terms.{entry}
 use Rattle.dotted_maps.specs.declared.term.Term.{Term}
 use Rattle.dotted_maps.specs.Maps.{coefficient_in, matrix_of}
 use Rattle.dotted_maps.proofs.Bilinear.{sum_below-one}
 use Rattle.dotted_maps.proofs.Identities.{entry-identity}
-use Rattle.added_crossings.specs.Codes.{points_at}
-use Rattle.closed_surfaces.specs.Made.{joined_outside}
-use Rattle.cell_complexes.specs.Alike.{AreAlike}
-use Rattle.cell_complexes.specs.Cells.{AreComplex, dimension_at}
-use Rattle.cell_complexes.specs.Layers.{IsTimesIdentity, Layer, Layers, cells_of, layers_left}
-use Rattle.cell_complexes.proofs.LayerCells.{complex-layers, dimension-layers}
-use Rattle.cell_complexes.proofs.Listings.{listed-same}
-use Rattle.cell_complexes.proofs.Members.{Contains-later}
+use Rattle.added_crossing_laws.specs.Codes.{points_at}
+use Rattle.scan_laws.specs.Made.{joined_outside}
+use Rattle.cell_laws.specs.Alike.{AreAlike}
+use Rattle.cell_laws.specs.Cells.{AreComplex, dimension_at}
+use Rattle.cell_laws.specs.Layers.{IsTimesIdentity, Layer, Layers, cells_of, layers_left}
+use Rattle.cell_laws.proofs.LayerCells.{complex-layers, dimension-layers}
+use Rattle.cell_laws.proofs.Listings.{listed-same}
+use Rattle.cell_laws.proofs.Members.{Contains-later}
 use Rattle.scan_laws.specs.Scans.{IsScanOf, Scan, circle_count_at, dot_sets, pairs_of}
 use Rattle.scan_laws.specs.Complexes.{complex_of, inner_at, layers_of}
 use Rattle.scan_laws.specs.Eliminating.{IsEliminating}

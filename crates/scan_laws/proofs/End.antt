@@ -14,17 +14,17 @@ use Rattle.kh_types.specs.StateSum.{circle_coefficient}
 use Rattle.kh_types.proofs.LabelDegrees.{int_eq-iff, labels_with-is}
 use Rattle.kh_types.proofs.ListSums.{sum_by-alike, sum_by-flat_map, sum_by-map, sum_by-zeros}
 use Rattle.dotted_maps.proofs.MapProducts.{matrix-same}
-use Rattle.added_crossings.specs.Codes.{points_at}
-use Rattle.closed_surfaces.specs.Made.{joined_outside}
-use Rattle.cell_complexes.specs.Cells.{AreComplex, Cells, cells_at, dimension_at, has_both}
-use Rattle.cell_complexes.specs.Layers.{Layer, Layers, layer_coefficient, layer_of, object_cells}
-use Rattle.cell_complexes.proofs.LastCells.{dimension-nothing}
-use Rattle.cell_complexes.proofs.Members.{sum_by-members}
+use Rattle.added_crossing_laws.specs.Codes.{points_at}
+use Rattle.scan_laws.specs.Made.{joined_outside}
+use Rattle.cell_laws.specs.Cells.{AreComplex, Cells, cells_at, dimension_at, has_both}
+use Rattle.cell_laws.specs.Layers.{Layer, Layers, layer_coefficient, layer_of, object_cells}
+use Rattle.cell_laws.proofs.LastCells.{dimension-nothing}
+use Rattle.cell_laws.proofs.Members.{sum_by-members}
 use Rattle.scan_laws.specs.Scans.{IsScanOf, Scan, circle_count_at, count_behind, pairs_of}
 use Rattle.scan_laws.specs.Complexes.{complex_of, degree_of_labels, layers_of}
 use Rattle.scan_laws.specs.Steps.{IsLast}
 use Rattle.scan_laws.specs.Counts.{count_of_object, counted_with}
-use Rattle.cell_complexes.proofs.CellLists.{cell-from}
+use Rattle.cell_laws.proofs.CellLists.{cell-from}
 use Rattle.scan_laws.proofs.Coefficients.{inside-state}
 use Rattle.scan_laws.proofs.LastPoints.{circles-last, count_behind-last}
 

@@ -14,19 +14,19 @@ use Rattle.kh_types.specs.Code.{Code}
 use Rattle.kh_types.specs.Products.{sum_below}
 use Rattle.kh_types.specs.Residues.{HasInverses, Same}
 use Rattle.kh_types.proofs.Residues.{same-equal}
-use Rattle.dotted_surfaces.proofs.Components.{list_any-contained, list_any-some}
+use Rattle.surface_laws.proofs.Components.{list_any-contained, list_any-some}
 use Rattle.dotted_maps.specs.Maps.{coefficient_in, matrix_of}
 use Rattle.dotted_maps.specs.Terms.{entry}
 use Rattle.dotted_maps.proofs.Identities.{entry-identity}
-use Rattle.added_crossings.specs.Codes.{points_at}
-use Rattle.closed_surfaces.specs.Made.{joined_outside}
-use Rattle.cell_complexes.specs.Cells.{AreComplex}
-use Rattle.cell_complexes.specs.Layers.{layer_coefficient, layer_of}
+use Rattle.added_crossing_laws.specs.Codes.{points_at}
+use Rattle.scan_laws.specs.Made.{joined_outside}
+use Rattle.cell_laws.specs.Cells.{AreComplex}
+use Rattle.cell_laws.specs.Layers.{layer_coefficient, layer_of}
 use Rattle.scan_laws.specs.Scans.{IsScanOf, Scan, circle_count_at, count_behind, dot_sets, pairs_of}
 use Rattle.scan_laws.specs.Complexes.{complex_of, layers_of}
 use Rattle.scan_laws.specs.Eliminating.{IsNumber}
 use Rattle.scan_laws.specs.Steps.{IsLast, IsScanStep, LeadsTo}
-use Rattle.cell_complexes.proofs.CellLists.{cell-of}
+use Rattle.cell_laws.proofs.CellLists.{cell-of}
 use Rattle.scan_laws.proofs.Coefficients.{inside-state}
 use Rattle.scan_laws.proofs.Kept.{keeps-step}
 use Rattle.scan_laws.proofs.LastPoints.{nothing-open, pairs-last}
@@ -34,7 +34,7 @@ use Rattle.scan_laws.proofs.Matrices.{matrix-sets}
 use Rattle.scan_laws.proofs.Objects.{object-pairing, objects-glued}
 use Rattle.scan_laws.proofs.Points.{placed-behind}
 use Rattle.scan_laws.proofs.Possible.{added-scan, eliminated-scan}
-use Rattle.cell_complexes.proofs.SplitLabels.{length-sum}
+use Rattle.cell_laws.proofs.SplitLabels.{length-sum}
 
 -- steps lead from a scan to an end
 pub record HasEnd (p : ℕ) (code : Code) (scan : Scan) : Type 0 where

@@ -2,8 +2,8 @@
 use Rattle.std.proofs.Common.{List, [], ◌∷◌, refl}
 use Rattle.kh_types.specs.Code.{Code}
 use Rattle.kh_types.specs.WorkedCodes.{hopf_link, slots_with}
-use Rattle.cell_complexes.specs.Cubes.{listed_by}
-use Rattle.cell_complexes.proofs.NoDoubles.{once-range}
+use Rattle.order_laws.specs.Orders.{listed_by}
+use Rattle.cell_laws.proofs.NoDoubles.{once-range}
 use Rattle.scan_laws.specs.Scans.{Scan, first_scan}
 use Rattle.scan_laws.specs.Steps.{AreSteps, IsEndOfScan, last_of}
 use Rattle.scan_laws.specs.Worked.{hopf_crossings, hopf_left_1, hopf_left_2, hopf_left_3, hopf_left_4, hopf_one, hopf_packed, hopf_scans, hopf_two}

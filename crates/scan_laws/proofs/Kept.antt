@@ -14,15 +14,15 @@ use Rattle.kh_types.specs.Residues.{HasInverses, Same}
 use Rattle.kh_types.proofs.Residues.{same-equal}
 use Rattle.dotted_maps.specs.declared.term.Term.{Term}
 use Rattle.dotted_maps.proofs.MapProducts.{matrix-same}
-use Rattle.added_crossings.specs.Codes.{points_at}
-use Rattle.closed_surfaces.specs.Made.{joined_outside}
-use Rattle.cell_complexes.specs.Alike.{AreAlike}
-use Rattle.cell_complexes.specs.Cells.{AreComplex, Cells, dimension_at}
-use Rattle.cell_complexes.specs.Cubes.{cube_of}
-use Rattle.cell_complexes.specs.Layers.{Layer, cells_of, layer_coefficient, layer_of}
-use Rattle.cell_complexes.proofs.AlikeCells.{dimension-alike}
-use Rattle.cell_complexes.proofs.AlikeComplexes.{complex-alike}
-use Rattle.cell_complexes.proofs.Matched.{AreListed-matched}
+use Rattle.added_crossing_laws.specs.Codes.{points_at}
+use Rattle.scan_laws.specs.Made.{joined_outside}
+use Rattle.cell_laws.specs.Alike.{AreAlike}
+use Rattle.cell_laws.specs.Cells.{AreComplex, Cells, dimension_at}
+use Rattle.cell_laws.specs.Cubes.{cube_of}
+use Rattle.cell_laws.specs.Layers.{Layer, cells_of, layer_coefficient, layer_of}
+use Rattle.cell_laws.proofs.AlikeCells.{dimension-alike}
+use Rattle.cell_laws.proofs.AlikeComplexes.{complex-alike}
+use Rattle.cell_laws.proofs.Matched.{AreListed-matched}
 use Rattle.scan_laws.specs.Scans.{IsScanOf, Scan, dot_sets, first_scan, pairs_of}
 use Rattle.scan_laws.specs.Complexes.{complex_of, inner_at, layers_of}
 use Rattle.scan_laws.specs.Adding.{IsAdding}

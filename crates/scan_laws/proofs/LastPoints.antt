@@ -18,9 +18,9 @@ use Rattle.kh_types.proofs.FilteredRanges.{filter-none}
 use Rattle.kh_types.proofs.Lists.{filter-range_all}
 use Rattle.kh_types.proofs.Ranges.{range-append}
 use Rattle.kh_types.proofs.ListSums.{sum_by-map, sum_by-none}
-use Rattle.dotted_surfaces.specs.Points.{AreAmong}
-use Rattle.added_crossings.specs.Codes.{ends_before, is_alive, is_open, points_at}
-use Rattle.closed_surfaces.specs.Made.{joined_outside}
+use Rattle.surface_laws.specs.Points.{AreAmong}
+use Rattle.added_crossing_laws.specs.Codes.{ends_before, is_alive, is_open, points_at}
+use Rattle.scan_laws.specs.Made.{joined_outside}
 use Rattle.scan_laws.specs.Scans.{IsScanOf, Scan, circle_count_at, count_behind, pairs_of}
 use Rattle.scan_laws.proofs.Objects.{object-among}
 

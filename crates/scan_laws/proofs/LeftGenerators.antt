@@ -4,10 +4,10 @@ use Rattle.std.proofs.Common.{◌≡◌, ℕ, ◌^◌, ◌∙◌, List, [], ◌�
 use Rattle.std.specs.List.{Contains, flat_map, range_with_len}
 use Rattle.kh_types.specs.Code.{Code}
 use Rattle.kh_types.proofs.Lists.{Contains-first, Contains-later}
-use Rattle.cell_complexes.specs.Alike.{AreListed}
-use Rattle.cell_complexes.specs.Elimination.{ArePivots, all_of, eliminated}
-use Rattle.cell_complexes.specs.Layers.{IsTimesIdentity, Layer, Layers, layer_coefficient, layer_of, object_cells}
-use Rattle.cell_complexes.proofs.LayerCells.{cell-beside, cells-listed, eliminated-layers, inside-state, pair-at, pivots}
+use Rattle.cell_laws.specs.Alike.{AreListed}
+use Rattle.cell_laws.specs.Elimination.{ArePivots, all_of, eliminated}
+use Rattle.cell_laws.specs.Layers.{IsTimesIdentity, Layer, Layers, layer_coefficient, layer_of, object_cells}
+use Rattle.cell_laws.proofs.LayerCells.{cell-beside, cells-listed, eliminated-layers, inside-state, pair-at, pivots}
 use Rattle.scan_laws.specs.Scans.{Object, Scan, circles_at, count_behind}
 use Rattle.scan_laws.specs.Complexes.{complex_of, layers_of}
 use Rattle.scan_laws.specs.Eliminating.{IsEliminated, IsEliminating, cancelled_pairs}

@@ -12,13 +12,13 @@ use Rattle.kh_types.proofs.Lists.{AllByRecursion-append}
 use Rattle.kh_types.proofs.ListSums.{shifted, sum_by-alike, sum_by-map, sum_by-times}
 use Rattle.kh_types.proofs.Reduced.{minus_mod-added}
 use Rattle.kh_types.proofs.Residues.{same-add, same-cancel, same-equal, same-scaled}
-use Rattle.dotted_surfaces.specs.Points.{Points, circles, discs}
-use Rattle.dotted_surfaces.proofs.TwoSides.{AllByRecursion-map}
+use Rattle.surface_laws.specs.Points.{Points, circles, discs}
+use Rattle.surface_laws.proofs.TwoSides.{AllByRecursion-map}
 use Rattle.dotted_maps.specs.Terms.{entry}
 use Rattle.dotted_maps.specs.declared.term.Term.{Term}
 use Rattle.dotted_maps.specs.Maps.{AreDotted, AreOneMap, coefficient_in, composed_in, composition, matrix_of, scaled}
-use Rattle.added_crossings.specs.Codes.{points_at}
-use Rattle.closed_surfaces.specs.Made.{joined_outside}
+use Rattle.added_crossing_laws.specs.Codes.{points_at}
+use Rattle.scan_laws.specs.Made.{joined_outside}
 use Rattle.scan_laws.specs.Scans.{Object}
 use Rattle.kh_types.specs.Code.{Code}
 use Rattle.dotted_maps.proofs.Bilinear.{sum-terms}

@@ -7,22 +7,22 @@ use Rattle.kh_types.specs.Classes.{classes_of}
 use Rattle.kh_types.specs.Code.{Code}
 use Rattle.kh_types.specs.Colours.{IsColoured}
 use Rattle.kh_types.specs.Products.{sum_below}
-use Rattle.cube_squares.proofs.LabelNumbers.{number_from}
-use Rattle.dotted_surfaces.specs.Points.{least_points}
-use Rattle.dotted_surfaces.specs.Surfaces.{value}
+use Rattle.square_laws.proofs.LabelNumbers.{number_from}
+use Rattle.surface_laws.specs.Points.{least_points}
+use Rattle.surface_laws.specs.Surfaces.{value}
 use Rattle.dotted_maps.specs.Terms.{entry}
-use Rattle.tangle_surfaces.specs.CutCodes.{outer_smoothings}
-use Rattle.added_crossings.specs.Codes.{circles_behind, closed_at, discs_behind, pairing_behind, points_at, smoothing_at}
-use Rattle.added_crossings.specs.Entries.{added_surface, closed_label, label_before, label_behind, saddle_surface}
-use Rattle.added_crossings.specs.Labels.{number_of}
-use Rattle.closed_surfaces.specs.Led.{IsLedAt}
-use Rattle.closed_surfaces.specs.Made.{joined_outside}
-use Rattle.closed_surfaces.proofs.LedSums.{led-entries, led-saddle_entries}
+use Rattle.cut_surface_laws.specs.CutCodes.{outer_smoothings}
+use Rattle.added_crossing_laws.specs.Codes.{circles_behind, closed_at, discs_behind, pairing_behind, points_at, smoothing_at}
+use Rattle.added_crossing_laws.specs.Entries.{added_surface, closed_label, label_before, label_behind, saddle_surface}
+use Rattle.added_crossing_laws.specs.Labels.{number_of}
+use Rattle.scan_laws.specs.Led.{IsLedAt}
+use Rattle.scan_laws.specs.Made.{joined_outside}
+use Rattle.scan_laws.proofs.LedSums.{led-entries, led-saddle_entries}
 use Rattle.scan_laws.specs.Edges.{changes_by, keeps_by}
 use Rattle.scan_laws.proofs.Edges.{fits_at}
-use Rattle.cell_complexes.proofs.Labels.{mark}
+use Rattle.cell_laws.proofs.Labels.{mark}
 use Rattle.scan_laws.proofs.Parts.{circle_with, circles_with, closed_part, left_part}
-use Rattle.cell_complexes.proofs.SplitLabels.{part}
+use Rattle.cell_laws.proofs.SplitLabels.{part}
 use Rattle.scan_laws.proofs.States.{behind-more, joint, outer-rest, outer-whole, outside-more, whole-at, whole_state}
 
 -- both forms of a number from bits

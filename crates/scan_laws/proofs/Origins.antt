@@ -4,16 +4,15 @@ use Rattle.std.specs.Prelude.{nat_eq}
 use Rattle.std.specs.List.{Contains, range_with_len}
 use Rattle.std.proofs.lemmas.Bool.{and_parts, eq-eqb, eqb-true}
 use Rattle.kh_types.specs.Code.{Code}
-use Rattle.kh_types.proofs.Lists.{Contains-flat_map, Contains-map}
-use Rattle.added_crossings.specs.Codes.{closed_at}
-use Rattle.cell_complexes.specs.Alike.{HasNoDoubles}
-use Rattle.cell_complexes.proofs.ExchangedCubes.{range-contains}
-use Rattle.cell_complexes.proofs.Members.{Contains-flattened, Contains-made}
-use Rattle.cell_complexes.proofs.NoDoubles.{once-flat, once-map, once-range}
+use Rattle.kh_types.proofs.Lists.{Contains-flat_map, Contains-map, range-contains}
+use Rattle.added_crossing_laws.specs.Codes.{closed_at}
+use Rattle.cell_laws.specs.Alike.{HasNoDoubles}
+use Rattle.cell_laws.proofs.Members.{Contains-flattened, Contains-made}
+use Rattle.cell_laws.proofs.NoDoubles.{once-flat, once-map, once-range}
 use Rattle.scan_laws.specs.Scans.{Scan, pairs_of}
 use Rattle.scan_laws.specs.Adding.{Origin, origin_of, origins, origins_of, origins_with}
-use Rattle.cell_complexes.proofs.CellLists.{contains-range}
-use Rattle.cell_complexes.proofs.Places.{IsTest}
+use Rattle.cell_laws.proofs.CellLists.{contains-range}
+use Rattle.cell_laws.proofs.Places.{IsTest}
 
 -- an origin is one of a scan
 pub record IsOrigin (code : Code) (scan : Scan) (w : Origin) : Type 0 where

@@ -11,19 +11,19 @@ use Rattle.kh_types.specs.Bits.{bit, ones}
 use Rattle.kh_types.specs.Classes.{classes_of, is_least}
 use Rattle.kh_types.specs.Code.{Code, place_of, slots_of}
 use Rattle.kh_types.proofs.ListSums.{sum_by-some}
-use Rattle.cube_squares.proofs.Pairs.{IsStep}
-use Rattle.dotted_surfaces.specs.Points.{least_points}
-use Rattle.added_crossings.specs.Codes.{closed_at, pairing_behind, points_at, smoothing_at, step_at}
-use Rattle.added_crossings.specs.Steps.{after, is_none_in, near}
-use Rattle.added_crossings.proofs.CodeSteps.{IsStep-at}
-use Rattle.added_crossings.proofs.KeptCircles.{near-has}
-use Rattle.cell_complexes.proofs.Members.{Contains-kept, sum_by-members}
+use Rattle.square_laws.proofs.Pairs.{IsStep}
+use Rattle.surface_laws.specs.Points.{least_points}
+use Rattle.added_crossing_laws.specs.Codes.{closed_at, pairing_behind, points_at, smoothing_at, step_at}
+use Rattle.added_crossing_laws.specs.Steps.{after, is_none_in, near}
+use Rattle.added_crossing_laws.proofs.CodeSteps.{IsStep-at}
+use Rattle.added_crossing_laws.proofs.KeptCircles.{near-has}
+use Rattle.cell_laws.proofs.Members.{Contains-kept, sum_by-members}
 use Rattle.scan_laws.specs.Scans.{count_behind, crossings_behind}
 use Rattle.scan_laws.specs.Edges.{changes_by, classes_at, keeps_by, labels_by, outer_at, outer_coefficient, outer_sign, touched_by}
 use Rattle.scan_laws.proofs.AddedCircles.{HasNext, circle-parts, own-class}
 use Rattle.scan_laws.proofs.Changes.{changes_test, changes-counts, total}
 use Rattle.scan_laws.proofs.Edges.{edge-or_zero, fits_at, outer-one}
-use Rattle.cell_complexes.proofs.Labels.{bit-small, mark, place, bits-same}
+use Rattle.cell_laws.proofs.Labels.{bit-small, mark, place, bits-same}
 use Rattle.scan_laws.proofs.CirclesBehind.{left-alive, in-names, labels-count, labels-total, new-bits, new_class, old-bits, rest-arc, touched-closed, touched-left}
 use Rattle.scan_laws.proofs.Parts.{circle_with, circles_left, circles_with, closed_part, left_part}
 use Rattle.scan_laws.proofs.States.{bit-joint, count-more, joint, ones-joint}

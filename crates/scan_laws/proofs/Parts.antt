@@ -3,11 +3,11 @@
 use Rattle.std.specs.Prelude.{ℕ, ◌+◌, List, slice_index}
 use Rattle.kh_types.specs.Code.{Code}
 use Rattle.dotted_maps.specs.Terms.{entry}
-use Rattle.added_crossings.specs.Codes.{closed_at, pairing_behind, points_at}
-use Rattle.closed_surfaces.specs.Made.{joined_outside}
+use Rattle.added_crossing_laws.specs.Codes.{closed_at, pairing_behind, points_at}
+use Rattle.scan_laws.specs.Made.{joined_outside}
 use Rattle.scan_laws.specs.Scans.{circles_at}
 use Rattle.scan_laws.specs.Edges.{classes_at}
-use Rattle.cell_complexes.proofs.SplitLabels.{part}
+use Rattle.cell_laws.proofs.SplitLabels.{part}
 use Rattle.scan_laws.proofs.States.{joint}
 
 -- the circles of a pairing m, where the next crossing has the smoothing e and the others still to come the state u

@@ -4,9 +4,9 @@ use Rattle.std.specs.Prelude.{nat_eq, nat_lt}
 use Rattle.std.specs.List.{Contains}
 use Rattle.std.proofs.lemmas.Bool.Decides.{nat_tests}
 use Rattle.kh_types.specs.Code.{Code, arc_count}
-use Rattle.dotted_surfaces.specs.Points.{ArePlaced}
-use Rattle.added_crossings.specs.Codes.{ends_before, is_alive, is_open, points_at}
-use Rattle.added_crossings.proofs.Members.{All-contained, are-those, those-are}
+use Rattle.surface_laws.specs.Points.{ArePlaced}
+use Rattle.added_crossing_laws.specs.Codes.{ends_before, is_alive, is_open, points_at}
+use Rattle.added_crossing_laws.proofs.Members.{All-contained, are-those, those-are}
 
 abbrev count_of : Code → ℕ
 count_of code = arc_count code.crossings + code.loops

@@ -12,24 +12,23 @@ use Rattle.std.proofs.lemmas.List.{get_or_default}
 use Rattle.kh_types.specs.Code.{Code}
 use Rattle.kh_types.specs.Rank.{minus_mod}
 use Rattle.kh_types.proofs.ListSums.{sum_by-map, sum_by-single}
-use Rattle.kh_types.proofs.Lists.{Contains-filter}
+use Rattle.kh_types.proofs.Lists.{Contains-filter, range-contains}
 use Rattle.kh_types.proofs.Reduced.{minus_mod-added}
 use Rattle.kh_types.proofs.Residues.{same-equal}
-use Rattle.dotted_surfaces.specs.Points.{discs}
+use Rattle.surface_laws.specs.Points.{discs}
 use Rattle.dotted_maps.specs.declared.term.Term.{Term}
 use Rattle.dotted_maps.specs.Maps.{coefficient_in}
-use Rattle.added_crossings.specs.Codes.{points_at}
-use Rattle.cell_complexes.specs.Alike.{AreListed, AreMatched, HasNoDoubles}
-use Rattle.cell_complexes.proofs.ExchangedCubes.{range-contains}
-use Rattle.cell_complexes.proofs.Matched.{AreListed-matched}
-use Rattle.cell_complexes.proofs.Members.{Contains-cases, Contains-first, Contains-kept, Contains-later}
-use Rattle.cell_complexes.proofs.NoDoubles.{once-first, once-range, once-filter}
+use Rattle.added_crossing_laws.specs.Codes.{points_at}
+use Rattle.cell_laws.specs.Alike.{AreListed, AreMatched, HasNoDoubles}
+use Rattle.cell_laws.proofs.Matched.{AreListed-matched}
+use Rattle.cell_laws.proofs.Members.{Contains-cases, Contains-first, Contains-kept, Contains-later}
+use Rattle.cell_laws.proofs.NoDoubles.{once-first, once-range, once-filter}
 use Rattle.scan_laws.specs.Scans.{IsScanOf, Scan, dot_sets}
 use Rattle.scan_laws.specs.Adding.{IsAdding, Origin, new_coefficient, object_from, origin_of, origins}
 use Rattle.scan_laws.specs.Eliminating.{IsEliminating, IsNumber, way_coefficient}
-use Rattle.cell_complexes.proofs.CellLists.{contains-range}
+use Rattle.cell_laws.proofs.CellLists.{contains-range}
 use Rattle.scan_laws.proofs.Origins.{is_same, origins-once, origins-test}
-use Rattle.cell_complexes.proofs.Places.{place-at, place-found}
+use Rattle.cell_laws.proofs.Places.{place-at, place-found}
 
 -- a map with given coefficients
 abbrev term_with : (ℕ → ℕ) → ℕ → Term

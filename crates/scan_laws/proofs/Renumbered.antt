@@ -8,14 +8,14 @@ use Rattle.kh_types.specs.Bits.{ones}
 use Rattle.kh_types.specs.Code.{Code}
 use Rattle.kh_types.specs.Residues.{Same}
 use Rattle.kh_types.proofs.Residues.{same-equal}
-use Rattle.cell_complexes.specs.Alike.{AreAlike, AreListed}
-use Rattle.cell_complexes.specs.Layers.{Layer, Layers, cells_of, layer_coefficient, layer_of, object_cells}
-use Rattle.cell_complexes.proofs.Listings.{listed-flat, listed-named}
-use Rattle.cell_complexes.proofs.NoDoubles.{map-flat_map, map-map}
+use Rattle.cell_laws.specs.Alike.{AreAlike, AreListed}
+use Rattle.cell_laws.specs.Layers.{Layer, Layers, cells_of, layer_coefficient, layer_of, object_cells}
+use Rattle.cell_laws.proofs.Listings.{listed-flat, listed-named}
+use Rattle.cell_laws.proofs.NoDoubles.{map-flat_map, map-map}
 use Rattle.scan_laws.specs.Scans.{Object, Scan, circle_count_at, circles_at, count_behind}
 use Rattle.scan_laws.specs.Edges.{outer_coefficient}
 use Rattle.scan_laws.specs.Complexes.{complex_of, degree_of_labels, inner_at, layers_of}
-use Rattle.cell_complexes.proofs.CellLists.{cell-from}
+use Rattle.cell_laws.proofs.CellLists.{cell-from}
 use Rattle.scan_laws.proofs.Coefficients.{between-states, inside-state, nowhere}
 
 -- the layers of a scan, with some of its objects and with other coefficients within a state

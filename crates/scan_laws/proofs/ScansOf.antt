@@ -6,19 +6,19 @@ use Rattle.std.proofs.lemmas.Bool.{eq-eqb, ne_eqb}
 use Rattle.std.proofs.lemmas.List.FromFn.{get_or-range_with_len, length-range_with_len}
 use Rattle.kh_types.specs.Bits.{bit}
 use Rattle.kh_types.specs.Code.{Code}
-use Rattle.cube_squares.proofs.LabelNumbers.{number_from}
-use Rattle.added_crossings.specs.Codes.{pairing_behind}
-use Rattle.added_crossings.specs.Saddles.{pairing_of}
-use Rattle.cell_complexes.specs.Alike.{HasNoDoubles}
-use Rattle.cell_complexes.proofs.NoDoubles.{once-later}
+use Rattle.square_laws.proofs.LabelNumbers.{number_from}
+use Rattle.added_crossing_laws.specs.Codes.{pairing_behind}
+use Rattle.added_crossing_laws.specs.Saddles.{pairing_of}
+use Rattle.cell_laws.specs.Alike.{HasNoDoubles}
+use Rattle.cell_laws.proofs.NoDoubles.{once-later}
 use Rattle.scan_laws.specs.Scans.{IsScanOf, Object, Scan, first_scan, pairs_of}
 use Rattle.scan_laws.specs.Adding.{IsAdding}
 use Rattle.scan_laws.specs.Eliminating.{IsEliminating}
 use Rattle.scan_laws.specs.Steps.{IsRenumbering}
 use Rattle.scan_laws.proofs.Eliminating.{still-there}
-use Rattle.cell_complexes.proofs.Labels.{bit-number, bit-small}
+use Rattle.cell_laws.proofs.Labels.{bit-number, bit-small}
 use Rattle.scan_laws.proofs.Origins.{origin-from}
-use Rattle.cell_complexes.proofs.SameElements.{same-sums}
+use Rattle.cell_laws.proofs.SameElements.{same-sums}
 
 -- pairings depend on the states' bits at the crossings that are done
 pairing_of-same : (code : Code) (s t k : ℕ) → ((i : ℕ) → i < k → bit s i ≡ bit t i) → pairing_of code s k ≡ pairing_of code t k

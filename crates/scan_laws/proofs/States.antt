@@ -8,10 +8,10 @@ use Rattle.kh_types.specs.Bits.{bit, ones}
 use Rattle.kh_types.specs.Circles.{smoothing_of, smoothings_of}
 use Rattle.kh_types.specs.Code.{Code}
 use Rattle.kh_types.proofs.ListSums.{shifted, sum_by-range_alike}
-use Rattle.tangle_surfaces.specs.CutCodes.{outer_smoothings}
-use Rattle.added_crossings.specs.Codes.{smoothing_at}
-use Rattle.closed_surfaces.specs.Made.{joined_outside}
-use Rattle.closed_surfaces.proofs.MadePairings.{bit-raised, outer-raised, smoothings-moved}
+use Rattle.cut_surface_laws.specs.CutCodes.{outer_smoothings}
+use Rattle.added_crossing_laws.specs.Codes.{smoothing_at}
+use Rattle.scan_laws.specs.Made.{joined_outside}
+use Rattle.scan_laws.proofs.MadePairings.{bit-raised, outer-raised, smoothings-moved}
 use Rattle.scan_laws.specs.Scans.{count_behind, crossings_behind}
 
 -- the state with a smoothing of the next crossing, and a state of the others

@@ -5,14 +5,14 @@ use Rattle.kh_types.specs.Table.{table}
 use Rattle.kh_types.specs.WorkedCodes.{trefoil}
 use Rattle.prime_field.specs.SmallFields.{field-small_prime}
 use Rattle.plain_matrix.proofs.FieldInverses.{inverses-field}
-use Rattle.cell_complexes.proofs.NoDoubles.{once-range}
+use Rattle.cell_laws.proofs.NoDoubles.{once-range}
 use Rattle.scan_laws.specs.Scans.{Scan, first_scan}
 use Rattle.scan_laws.specs.Steps.{AreSteps, IsEndOfScan, last_of}
 use Rattle.scan_laws.specs.Counts.{counted_table}
 use Rattle.scan_laws.specs.Worked.{left_after_1, left_after_2, left_after_3, left_after_4, left_after_5, left_after_6, one_done, three_done, trefoil_scans, two_done, two_left}
 use Rattle.scan_laws.proofs.Checked.{AllPass, Move, adding, eliminating, last-checked, steps-checked}
 use Rattle.scan_laws.proofs.Whole.{table-same, whole-theorem}
-use Rattle.cell_complexes.proofs.Reordered.{own-order}
+use Rattle.order_laws.proofs.Reordered.{own-order}
 
 abbrev trefoil_moves : List (Move × Scan)
 trefoil_moves =

@@ -12,18 +12,18 @@ use Rattle.kh_types.specs.Classes.{Respects}
 use Rattle.kh_types.specs.Code.{Code, arc_in, place_of, slots_of}
 use Rattle.kh_types.proofs.EdgeBits.{bit-set_other}
 use Rattle.kh_types.proofs.Lists.{AllByRecursion-append, AllByRecursion-first, AllByRecursion-second}
-use Rattle.cube_squares.proofs.Pairs.{IsStep}
-use Rattle.dotted_surfaces.proofs.Components.{list_any-contained}
+use Rattle.square_laws.proofs.Pairs.{IsStep}
+use Rattle.surface_laws.proofs.Components.{list_any-contained}
 use Rattle.dotted_maps.proofs.LeastPoints.{class-respected}
-use Rattle.added_crossings.specs.Codes.{points_at, step_at}
-use Rattle.added_crossings.proofs.CodeSteps.{later-alive}
-use Rattle.added_crossings.proofs.KeptCircles.{next-has}
-use Rattle.closed_surfaces.specs.Made.{joined_outside}
+use Rattle.added_crossing_laws.specs.Codes.{points_at, step_at}
+use Rattle.added_crossing_laws.proofs.CodeSteps.{later-alive}
+use Rattle.added_crossing_laws.proofs.KeptCircles.{next-has}
+use Rattle.scan_laws.specs.Made.{joined_outside}
 use Rattle.scan_laws.specs.Scans.{count_behind, crossings_behind}
 use Rattle.scan_laws.specs.Edges.{classes_at, touched_by}
 use Rattle.scan_laws.proofs.AddedCircles.{HasNext, class-respects, is-cut, old-joins, respects-mapped}
 use Rattle.scan_laws.proofs.Parts.{circle_with}
-use Rattle.cell_complexes.proofs.CellLists.{contains-range}
+use Rattle.cell_laws.proofs.CellLists.{contains-range}
 use Rattle.scan_laws.proofs.States.{behind-more, bit-joint, joint}
 
 -- an edge of the states after the next crossing

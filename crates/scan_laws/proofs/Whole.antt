@@ -8,10 +8,12 @@ use Rattle.kh_types.specs.Directions.{minus_count, plus_count}
 use Rattle.kh_types.specs.Residues.{HasInverses}
 use Rattle.kh_types.specs.Table.{Row, dimension, from_minus, is_shown, rows_at, table}
 use Rattle.kh_types.specs.declared.limits.TheConstants.{EXPONENT}
-use Rattle.cell_complexes.specs.Cubes.{cube_of, listed_by}
-use Rattle.cell_complexes.proofs.NoDoubles.{once-range}
-use Rattle.cell_complexes.proofs.AnyOrder.{accepted-reordered}
-use Rattle.cell_complexes.proofs.Orders.{AreComplex-cube, complex-reordered, dimension-reordered}
+use Rattle.cell_laws.specs.Cubes.{cube_of}
+use Rattle.order_laws.specs.Orders.{listed_by}
+use Rattle.cell_laws.proofs.NoDoubles.{once-range}
+use Rattle.order_laws.proofs.AnyOrder.{accepted-reordered}
+use Rattle.cell_laws.proofs.CubeCells.{AreComplex-cube}
+use Rattle.order_laws.proofs.Orders.{complex-reordered, dimension-reordered}
 use Rattle.scan_laws.specs.Scans.{Scan, first_object, first_scan, listed_scan}
 use Rattle.scan_laws.specs.Steps.{AreSteps, IsEndOfScan, IsReached, IsScanStep, last_of}
 use Rattle.scan_laws.specs.Counts.{counted, counted_rows_at, counted_table}

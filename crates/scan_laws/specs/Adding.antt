@@ -3,11 +3,11 @@ use Rattle.std.specs.Prelude.{◌≡◌, ℕ, ◌+◌, ◌-◌, ◌*◌, ◌%◌
 use Rattle.std.specs.List.{flat_map, range_with_len, sum_by, Contains}
 use Rattle.kh_types.specs.Code.{Code}
 use Rattle.kh_types.specs.Residues.{Same}
-use Rattle.dotted_surfaces.specs.Surfaces.{value}
+use Rattle.surface_laws.specs.Surfaces.{value}
 use Rattle.dotted_maps.specs.Maps.{coefficient_in}
-use Rattle.added_crossings.specs.Codes.{closed_at, pairing_behind}
-use Rattle.added_crossings.specs.Entries.{added_surface, saddle_surface}
-use Rattle.cell_complexes.specs.Alike.{AreMatched}
+use Rattle.added_crossing_laws.specs.Codes.{closed_at, pairing_behind}
+use Rattle.added_crossing_laws.specs.Entries.{added_surface, saddle_surface}
+use Rattle.cell_laws.specs.Alike.{AreMatched}
 use Rattle.scan_laws.specs.Scans.{HasDots, Object, Scan, dot_sets, pairs_of}
 use Rattle.scan_laws.specs.Complexes.{degree_of_labels}
 

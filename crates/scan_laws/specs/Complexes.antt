@@ -3,12 +3,12 @@ use Rattle.std.specs.Prelude.{ℕ, ◌+◌, ◌*◌, ◌^◌, ℤ, pos, ◌+ℤ�
 use Rattle.kh_types.specs.Bits.{ones}
 use Rattle.kh_types.specs.Code.{Code}
 use Rattle.dotted_maps.specs.Maps.{matrix_of}
-use Rattle.cell_complexes.specs.Cells.{Cells}
-use Rattle.cell_complexes.specs.Layers.{Layer, Layers, cells_of}
+use Rattle.cell_laws.specs.Cells.{Cells}
+use Rattle.cell_laws.specs.Layers.{Layer, Layers, cells_of}
 use Rattle.scan_laws.specs.Scans.{Scan, circle_count_at, count_behind, pairs_of}
 use Rattle.scan_laws.specs.Edges.{outer_coefficient}
-use Rattle.closed_surfaces.specs.Made.{joined_outside}
-use Rattle.added_crossings.specs.Codes.{points_at}
+use Rattle.scan_laws.specs.Made.{joined_outside}
+use Rattle.added_crossing_laws.specs.Codes.{points_at}
 
 -- r and the ones of the outer state
 abbrev pub ones_at : Code → Scan → ℕ → ℕ → ℕ

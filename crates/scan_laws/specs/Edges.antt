@@ -8,8 +8,8 @@ use Rattle.kh_types.specs.Code.{Code, arc_in, crossing_numbers, place_of, slots_
 use Rattle.kh_types.specs.Differential.{is_edge, is_merge, is_split}
 use Rattle.kh_types.specs.Generators.{generator_of}
 use Rattle.scan_laws.specs.Scans.{crossings_behind}
-use Rattle.closed_surfaces.specs.Made.{joined_outside}
-use Rattle.added_crossings.specs.Codes.{points_at}
+use Rattle.scan_laws.specs.Made.{joined_outside}
+use Rattle.added_crossing_laws.specs.Codes.{points_at}
 
 -- the label of the circle of an arc, by the circles of all arcs, the points that are alive and the number of the labels
 abbrev pub label_by : List ℕ → List ℕ → ℕ → ℕ → ℕ

@@ -6,10 +6,10 @@ use Rattle.kh_types.specs.Code.{Code}
 use Rattle.kh_types.specs.Rank.{inverse}
 use Rattle.kh_types.specs.Residues.{HasInverses, Same}
 use Rattle.dotted_maps.specs.Maps.{coefficient_in, composed_in}
-use Rattle.added_crossings.specs.Codes.{points_at}
-use Rattle.cell_complexes.specs.Alike.{AreListed}
-use Rattle.cell_complexes.specs.Cells.{AreComplex}
-use Rattle.cell_complexes.specs.Layers.{Layer, layer_of}
+use Rattle.added_crossing_laws.specs.Codes.{points_at}
+use Rattle.cell_laws.specs.Alike.{AreListed}
+use Rattle.cell_laws.specs.Cells.{AreComplex}
+use Rattle.cell_laws.specs.Layers.{Layer, layer_of}
 use Rattle.scan_laws.specs.Scans.{HasDots, IsScanOf, Scan, circle_count_at, count_behind, dot_sets, pairs_of}
 use Rattle.scan_laws.specs.Complexes.{complex_of}
 

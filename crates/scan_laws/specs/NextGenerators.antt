@@ -2,9 +2,9 @@
 use Rattle.std.specs.Prelude.{ℕ, ◌+◌, ◌/◌, ◌%◌, List, IsTrue}
 use Rattle.kh_types.specs.Acceptance.{accepted}
 use Rattle.kh_types.specs.Code.{Code}
-use Rattle.added_crossings.specs.Codes.{closed_at, pairing_behind, points_at}
-use Rattle.added_crossings.specs.Labels.{number_of}
-use Rattle.cell_complexes.specs.Layers.{Layer, layer_of}
+use Rattle.added_crossing_laws.specs.Codes.{closed_at, pairing_behind, points_at}
+use Rattle.added_crossing_laws.specs.Labels.{number_of}
+use Rattle.cell_laws.specs.Layers.{Layer, layer_of}
 use Rattle.scan_laws.specs.Scans.{IsScanOf, Scan, circles_at, pairs_of}
 use Rattle.scan_laws.specs.Edges.{classes_at, label_by}
 use Rattle.scan_laws.specs.Adding.{IsAdding, Origin, origin_of}

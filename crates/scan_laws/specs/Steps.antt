@@ -4,8 +4,8 @@ use Rattle.std.specs.List.{Contains}
 use Rattle.kh_types.specs.Code.{Code}
 use Rattle.kh_types.specs.Residues.{Same}
 use Rattle.dotted_maps.specs.Maps.{coefficient_in}
-use Rattle.cell_complexes.specs.Alike.{AreMatched}
-use Rattle.cell_complexes.specs.Cubes.{IsReordered, listed_by}
+use Rattle.cell_laws.specs.Alike.{AreMatched}
+use Rattle.order_laws.specs.Orders.{IsReordered, listed_by}
 use Rattle.scan_laws.specs.Scans.{HasDots, Scan, dot_sets, first_scan}
 use Rattle.scan_laws.specs.Adding.{IsAdding}
 use Rattle.scan_laws.specs.Eliminating.{IsEliminating}

@@ -4,10 +4,10 @@
 ghost use Rattle.std.specs.Prelude.{◌≡◌, [], ◌∷◌, map, codes};
 ghost use Rattle.kh_types.specs.Table.{table, table_text};
 ghost use Rattle.kh_types.specs.WorkedCodes.{hopf_link, trefoil};
-ghost use Rattle.dotted_surfaces.specs.Surfaces.{value};
-ghost use Rattle.added_crossings.specs.Codes.{closed_at, pairing_behind};
-ghost use Rattle.added_crossings.specs.Entries.{added_surface, saddle_surface};
-ghost use Rattle.cell_complexes.specs.Cubes.{listed_by};
+ghost use Rattle.surface_laws.specs.Surfaces.{value};
+ghost use Rattle.added_crossing_laws.specs.Codes.{closed_at, pairing_behind};
+ghost use Rattle.added_crossing_laws.specs.Entries.{added_surface, saddle_surface};
+ghost use Rattle.order_laws.specs.Orders.{listed_by};
 ghost use Rattle.scan_laws.specs.Scans.{first_scan};
 ghost use Rattle.scan_laws.specs.Steps.{AreSteps, IsEndOfScan, last_of};
 ghost use Rattle.scan_laws.specs.Counts.{counted_table};

@@ -2,4 +2,5 @@ mod ScanAnswers
 mod ScanRuns
 mod ScanCases
 mod ListRuns
-mod SmallTables
+mod EulerLines
+mod EulerLemmas

@@ -13,33 +13,29 @@ use Rattle.word_line.specs.declared.scan_command.ScanCommand.TheVariants.{Each}
 use Rattle.word_line.specs.ScanCommands.{IsScanCommand}
 use Rattle.word_line.specs.Values.{IsFieldSize}
 use Rattle.word_line.proofs.ScanReadings.{IsScanCommand-sizes}
-use Rattle.kh_replies.specs.Inputs.{IsDiagramText}
-use Rattle.kh_replies.specs.Jones.{jones_line}
-use Rattle.kh_replies.specs.Replies.{Reply, reply_of}
-use Rattle.kh_replies.specs.Told.{Seen}
-use Rattle.kh_replies.specs.declared.status.Status.{Status}
-use Rattle.kh_replies.specs.declared.status.Status.TheVariants.{Done, Limit, NoMemory, ReadFault, WriteFault}
-use Rattle.kh_replies.proofs.TextFaults.{few_crossings-read}
-use Rattle.kh_work.specs.Homology.{homology_text}
-use Rattle.kh_work.proofs.Headlines.{headline_text, sum-table}
+use Rattle.kh_inputs.specs.Inputs.{IsDiagramText}
+use Rattle.kh_runs.specs.Homology.{jones_line, homology_text}
+use Rattle.kh_runs.specs.Replies.{Reply, reply_of}
+use Rattle.kh_runs.specs.Told.{Seen}
+use Rattle.kh_runs.specs.declared.status.Status.{Status}
+use Rattle.kh_runs.specs.declared.status.Status.TheVariants.{Done, Limit, NoMemory, ReadFault, WriteFault}
+use Rattle.kh_inputs.proofs.TextFaults.{few_crossings-read}
+use Rattle.kh_runs.proofs.WrittenHomology.{homology_text-headline}
+use Rattle.euler_laws.proofs.TableSums.{sum-table}
 use Rattle.line_answers.specs.Frames.{AreFrames, IsAnswerTo}
 use Rattle.line_answers.specs.ListRuns.{IsListRun, WritesAnswers}
 use Rattle.line_answers.specs.Questions.{NumberedLine, Question, asked_by, numbered, question, questions}
 use Rattle.line_answers.proofs.FrameLists.{AreFrames-map}
 use Rattle.scan_main.specs.ScanRuns.{HasHomology, IsScanRun, IsTableTo, KeepsListHeadline}
-use Rattle.scan_main.specs.Scans.{IsTextReply, sizes_of}
+use Rattle.line_answers.specs.Scans.{IsTextReply, sizes_of}
 use Rattle.scan_main.proofs.ScanAnswers.{IsScanReply-one, table-reply}
-
-text-headline : (field : ℕ) (code : Code) → homology_text field code ≡ headline_text field code
-unfolding homology_text jones_line
-text-headline field code = refl
 
 -- the reply to the text of an accepted diagram is its homology
 HasHomology-reply : (asked : Question) (reply : Reply) (code : Code) → IsFieldSize asked.field → IsDiagramText asked.line.bytes code
     → reply ≡ reply_of Done (homology_text asked.field code) → HasHomology asked.field code reply
 HasHomology-reply asked reply code sized text is = record {
   status = ap (λ (r : Reply). r.status) is;
-  text = ap (λ (r : Reply). r.text) is ∙ text-headline asked.field code;
+  text = ap (λ (r : Reply). r.text) is ∙ homology_text-headline asked.field code;
   sum = sum-table asked.field code sized text.is_accepted (few_crossings-read asked.line.bytes code text.read);
 }
 

@@ -8,13 +8,13 @@ use Rattle.kh_types.specs.declared.fault.CodeFault.{CodeFault}
 use Rattle.kh_types.specs.declared.limits.TheConstants.{INPUT_BYTES}
 use Rattle.word_line.specs.declared.scan_command.ScanCommand.TheVariants.{Alone}
 use Rattle.word_line.specs.ScanCommands.{IsScanCommand, IsScanUsage}
-use Rattle.kh_replies.specs.declared.status.Status.TheVariants.{Done}
-use Rattle.kh_replies.specs.Inputs.{IsCodeRead, IsDiagramRead, IsDiagramText}
-use Rattle.kh_replies.specs.Jones.{jones_line}
-use Rattle.kh_replies.specs.Refusals.{IsFaultRefusal, too_many_bytes}
-use Rattle.kh_replies.specs.Replies.{Reply, reply_of}
-use Rattle.kh_work.specs.Homology.{homology_text}
-use Rattle.scan_main.specs.Scans.{IsScanAnswer, scan_usage}
+use Rattle.kh_runs.specs.declared.status.Status.TheVariants.{Done}
+use Rattle.kh_inputs.specs.Inputs.{IsCodeRead, IsDiagramRead, IsDiagramText}
+use Rattle.kh_runs.specs.Homology.{jones_line, homology_text}
+use Rattle.kh_inputs.specs.CodeRefusals.{IsFaultRefusal}
+use Rattle.kh_runs.specs.Refusals.{too_many_bytes}
+use Rattle.kh_runs.specs.Replies.{Reply, reply_of}
+use Rattle.line_answers.specs.Scans.{IsScanAnswer, scan_usage}
 use Rattle.scan_main.proofs.ScanAnswers.{table-reply}
 use Rattle.scan_main.proofs.ScanRuns.{IsScanAnswer-command}
 

@@ -13,24 +13,24 @@ use Rattle.word_line.specs.declared.scan_command.ScanCommand.TheVariants.{Alone,
 use Rattle.line_answers.specs.ListRuns.{IsListRun}
 use Rattle.line_answers.proofs.ListEnds.{IsListRun-unmade}
 use Rattle.word_line.specs.ScanCommands.{IsScanCommand, IsScanUsage}
-use Rattle.kh_replies.specs.declared.status.Status.{Status}
-use Rattle.kh_replies.specs.declared.status.Status.TheVariants.{Done, CodeRefused, Usage, ReadFault, WriteFault, NoMemory, Limit, MoveRefused}
-use Rattle.kh_replies.specs.DiagramReplies.{IsDiagramReply}
-use Rattle.kh_replies.specs.Inputs.{IsDiagramRead, IsDiagramText}
-use Rattle.kh_replies.specs.Jones.{jones_line}
-use Rattle.kh_replies.specs.Replies.{Reply, reply_of}
-use Rattle.kh_replies.specs.Runs.{AnswersSource, IsBlind, IsReplied, IsWritten, status_of}
-use Rattle.kh_replies.specs.Statuses.{IsReplyStatus, IsWhole}
-use Rattle.kh_replies.specs.Told.{Gives, IsReadOut, Seen}
-use Rattle.kh_replies.specs.declared.stop.ReplyStop.{ReplyStop}
-use Rattle.kh_replies.specs.declared.stop.ReplyStop.TheVariants as stops
-use Rattle.kh_replies.proofs.RunLemmas.{IsRun-written, whole-undisturbed}
-use Rattle.kh_replies.proofs.SourceAnswers.{AnswersSource-blind, AnswersSource-known, AnswersSource-other}
-use Rattle.kh_replies.proofs.TextFaults.{few_crossings-read}
-use Rattle.kh_work.specs.Homology.{homology_text}
-use Rattle.kh_work.proofs.Headlines.{headline_text, written-headline}
+use Rattle.kh_runs.specs.declared.status.Status.{Status}
+use Rattle.kh_runs.specs.declared.status.Status.TheVariants.{Done, CodeRefused, Usage, ReadFault, WriteFault, NoMemory, Limit, MoveRefused}
+use Rattle.kh_inputs.specs.DiagramReplies.{IsDiagramReply}
+use Rattle.kh_inputs.specs.Inputs.{IsDiagramRead, IsDiagramText}
+use Rattle.kh_runs.specs.Homology.{jones_line, homology_text}
+use Rattle.kh_runs.specs.Replies.{Reply, reply_of}
+use Rattle.kh_runs.specs.Runs.{AnswersSource, IsBlind, IsReplied, IsWritten, status_of}
+use Rattle.kh_runs.specs.Statuses.{IsReplyStatus, IsWhole}
+use Rattle.kh_runs.specs.Told.{Gives, IsReadOut, Seen}
+use Rattle.kh_runs.specs.declared.stop.ReplyStop.{ReplyStop}
+use Rattle.kh_runs.specs.declared.stop.ReplyStop.TheVariants as stops
+use Rattle.kh_runs.proofs.RunLemmas.{IsRun-written, whole-undisturbed}
+use Rattle.kh_runs.proofs.SourceAnswers.{AnswersSource-blind, AnswersSource-known, AnswersSource-other}
+use Rattle.kh_inputs.proofs.TextFaults.{few_crossings-read}
+use Rattle.kh_runs.proofs.WrittenHomology.{written-headline}
+use Rattle.euler_laws.proofs.TableSums.{sum-table}
 use Rattle.scan_main.specs.ScanRuns.{IsAnsweredOver, IsDoneFor, IsReadOver, IsReplyToNone, IsScanRun, KeepsScanHeadline}
-use Rattle.scan_main.specs.Scans.{IsScanAnswer, IsScanReply, IsTableReply, IsTextReply, ReadsUpTo, request_of, scan_usage, sizes_of}
+use Rattle.line_answers.specs.Scans.{IsScanAnswer, IsScanReply, IsTableReply, IsTextReply, ReadsUpTo, request_of, scan_usage, sizes_of}
 use Rattle.scan_main.proofs.ScanAnswers.{IsScanAnswer-one, IsScanCommand-size, alone-or-each, same-fields, table-reply}
 
 pub IsScanAnswer-command : (words : List (List ℕ)) (bytes : List ℕ) (field : ℕ) (reply : Reply)
@@ -151,10 +151,6 @@ table-answer : (words : List (List ℕ)) (bytes : List ℕ) (field : ℕ) (code 
 table-answer words bytes field code meant text =
     IsScanAnswer-command words bytes field (reply_of Done (homology_text field code)) meant (table-reply bytes field code text)
 
-text-headline : (field : ℕ) (code : Code) → reply_of Done (homology_text field code) ≡ reply_of Done (headline_text field code)
-unfolding homology_text jones_line
-text-headline field code = refl
-
 pub headline-run : (words : List (List ℕ)) (source_before source_after sink_before sink_after : Seen)
     (same_source same_sink : Type 0) (status : Status)
     → IsScanRun words source_before source_after sink_before sink_after same_source same_sink status
@@ -165,10 +161,9 @@ headline-run words source_before source_after sink_before sink_after same_source
     let whole = whole-undisturbed (request_of words) source_before source_after sink_before sink_after same_source same_sink status run undisturbed in
     let told = run.answered whole in
     let answer = AnswersSource-known (IsScanAnswer words) source_before.bytes bytes told.0 is_bytes told.1 in
-    written-headline status sink_before.bytes sink_after.bytes field code told.0 (IsScanCommand-size words field meant)
-    text.is_accepted (few_crossings-read bytes code text.read)
-    (IsScanAnswer-one words bytes told.0 (reply_of Done (homology_text field code)) answer (table-answer words bytes field code meant text)
-    ∙ text-headline field code)
+    written-headline status sink_before.bytes sink_after.bytes field code told.0
+    (sum-table field code (IsScanCommand-size words field meant) text.is_accepted (few_crossings-read bytes code text.read))
+    (IsScanAnswer-one words bytes told.0 (reply_of Done (homology_text field code)) answer (table-answer words bytes field code meant text))
     told.2
 
 -- a run whose words ask for one diagram

@@ -1,4 +1,4 @@
--- What a run of the program of scans promises. All of it is this project's rule.
+-- What a run of the program of scans promises.
 use Rattle.std.specs.Prelude.{◌≡◌, ◌≢◌, ℕ, ℤ, ◌-◌, ◌^◌, ◌<◌, List, ◌++◌, length, Some, Result, Ok, Err, IfOk, OnOk}
 use Rattle.kh_io.specs.Faults.{Rose}
 use Rattle.kh_types.specs.Code.{Code}
@@ -12,20 +12,20 @@ use Rattle.word_line.specs.declared.scan_command.Fields.{Fields}
 use Rattle.word_line.specs.declared.scan_command.ScanCommand.{ScanCommand}
 use Rattle.word_line.specs.declared.scan_command.ScanCommand.TheVariants.{Alone, Each}
 use Rattle.word_line.specs.ScanCommands.{IsScanCommand}
-use Rattle.kh_replies.specs.declared.status.Status.{Status}
-use Rattle.kh_replies.specs.declared.status.Status.TheVariants.{Done}
-use Rattle.kh_replies.specs.Inputs.{IsDiagramText}
-use Rattle.kh_replies.specs.Replies.{Reply}
-use Rattle.kh_replies.specs.Runs.{AnswersSource, IsRun, IsWritten}
-use Rattle.kh_replies.specs.Statuses.{IsReplyStatus}
-use Rattle.kh_replies.specs.declared.stop.ReplyStop.{ReplyStop}
-use Rattle.kh_replies.specs.declared.stop.ReplyStop.TheVariants as stops
-use Rattle.kh_replies.specs.Told.{IsReadOut, IsTaken, IsUndisturbed, Seen}
-use Rattle.kh_work.specs.Runs.{HasWrittenHomology}
+use Rattle.kh_runs.specs.declared.status.Status.{Status}
+use Rattle.kh_runs.specs.declared.status.Status.TheVariants.{Done}
+use Rattle.kh_inputs.specs.Inputs.{IsDiagramText}
+use Rattle.kh_runs.specs.Replies.{Reply}
+use Rattle.kh_runs.specs.Runs.{AnswersSource, IsRun, IsWritten}
+use Rattle.kh_runs.specs.Statuses.{IsReplyStatus}
+use Rattle.kh_runs.specs.declared.stop.ReplyStop.{ReplyStop}
+use Rattle.kh_runs.specs.declared.stop.ReplyStop.TheVariants as stops
+use Rattle.kh_runs.specs.Told.{IsReadOut, IsTaken, IsUndisturbed, Seen}
+use Rattle.kh_runs.specs.Homology.{HasWrittenHomology}
 use Rattle.line_answers.specs.Frames.{IsAnswerTo}
 use Rattle.line_answers.specs.ListRuns.{IsListRun, WritesAnswers}
 use Rattle.line_answers.specs.Questions.{Question, questions}
-use Rattle.scan_main.specs.Scans.{AskForNoList, IsScanReply, IsTextReply, request_of, scan_usage, sizes_of}
+use Rattle.line_answers.specs.Scans.{AskForNoList, IsScanReply, IsTextReply, request_of, scan_usage, sizes_of}
 
 -- a run with these words ended with this status; the source and the sink were as seen before and after it, and each may be the same
 pub record IsScanRun (words : List (List ℕ)) (source_before source_after sink_before sink_after : Seen) (same_source same_sink : Type 0)

@@ -6,24 +6,19 @@ ghost use Rattle.kh_types.specs.Code.{Code};
 ghost use Rattle.kh_types.specs.Table.{table, table_text};
 ghost use Rattle.kh_types.specs.declared.fault.CodeFault.{CodeFault};
 ghost use Rattle.kh_types.specs.declared.limits.TheConstants.{INPUT_BYTES};
-ghost use Rattle.circle_smoothing.specs.GeneratorCounts.{generator_count};
-ghost use Rattle.circle_smoothing.specs.declared.limits.TheConstants.{GENERATORS};
-ghost use Rattle.word_line.specs.declared.command.Command.{Command};
-ghost use Rattle.word_line.specs.declared.command.Task.{Task};
 ghost use Rattle.word_line.specs.declared.scan_command.ScanCommand.TheVariants.{Alone};
-ghost use Rattle.word_line.specs.Commands.{IsCommand};
 ghost use Rattle.word_line.specs.ScanCommands.{IsScanCommand, IsScanUsage};
 ghost use Rattle.word_line.specs.Values.{IsFieldSize};
-ghost use Rattle.kh_replies.specs.declared.status.Status.{Status};
-ghost use Rattle.kh_replies.specs.Inputs.{IsCodeRead, IsDiagramText};
-ghost use Rattle.kh_replies.specs.Jones.{jones_line};
-ghost use Rattle.kh_replies.specs.Refusals.{IsFaultRefusal, too_many_bytes};
-ghost use Rattle.kh_replies.specs.Replies.{Reply, reply_of};
-ghost use Rattle.kh_work.specs.Answer.{IsAnswer};
+ghost use Rattle.kh_runs.specs.declared.status.Status.{Status};
+ghost use Rattle.kh_inputs.specs.Inputs.{IsCodeRead, IsDiagramText};
+ghost use Rattle.kh_runs.specs.Homology.{jones_line};
+ghost use Rattle.kh_inputs.specs.CodeRefusals.{IsFaultRefusal};
+ghost use Rattle.kh_runs.specs.Refusals.{too_many_bytes};
+ghost use Rattle.kh_runs.specs.Replies.{Reply, reply_of};
 ghost use Rattle.line_answers.specs.Frames.{IsAnswerTo};
 ghost use Rattle.line_answers.specs.Questions.{Question};
 ghost use Rattle.scan_main.specs.ScanRuns.{IsTableTo};
-ghost use Rattle.scan_main.specs.Scans.{AskForNoList, IsScanAnswer, IsTextReply, scan_usage};
+ghost use Rattle.line_answers.specs.Scans.{AskForNoList, IsScanAnswer, IsTextReply, scan_usage};
 
 /// To all words that ask for no list, and all bytes, there is exactly one answer.
 pub fn one_answer()
@@ -71,15 +66,6 @@ pub fn refused_codes_are_answered_by_their_refusal()
         → length bytes ≤ INPUT_BYTES → IsCodeRead bytes (Ok code)
         → first_fault code ≡ Some fault → IsFaultRefusal fault refusal
         → IsScanAnswer words bytes refusal }
-{}
-
-/// The answer to one diagram is that of `kh homology` over the same field, unless the input is the
-/// text of an accepted diagram whose cube has more generators than that takes.
-pub fn scans_answer_as_cubes()
-    ensures { (words others : List (List ℕ)) (command : Command) (bytes : List ℕ) (reply : Reply)
-        → IsScanCommand words (Alone command.field) → IsCommand others command → command.task ≡ Task.Homology
-        → ((code : Code) → IsDiagramText bytes code → generator_count code ≤ GENERATORS)
-        → IsAnswer others bytes reply → IsScanAnswer words bytes reply }
 {}
 
 /// A line of a list is answered as it is alone, without its line feed: its answer over a field is

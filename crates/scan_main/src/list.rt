@@ -1,12 +1,12 @@
 //! The tables of a list of codes.
 
-ghost use Rattle.kh_replies.specs.Told.{seen};
+ghost use Rattle.kh_runs.specs.Told.{seen};
 ghost use Rattle.line_answers.specs.ListRuns.{IsListRun};
-ghost use Rattle.scan_main.specs.Scans.{IsTextReply, sizes_of};
+ghost use Rattle.line_answers.specs.Scans.{IsTextReply, sizes_of};
 
 use crate::replies::reply_to_bytes;
 use kh_io::{Sink, Source};
-use kh_replies::{Reply, Status};
+use kh_runs::{Reply, Status};
 use kh_types::NoMemory;
 use line_answers::{Answering, answer_list};
 use prime_field::FieldSize;

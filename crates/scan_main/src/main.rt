@@ -1,8 +1,8 @@
-//! The program of scans: the homology of one diagram, or of each of a list, crossing by crossing,
-//! whatever the size of the cube. It gives the real words, input and output to its top call, and
-//! ends with the number of its status.
+//! The program `kh-scan`: one diagram, or a list, answered crossing by crossing, whatever the size
+//! of its cube.
 #![tactic(auto)]
 
+mod characteristic;
 mod jones;
 mod laws;
 mod list;
@@ -14,12 +14,12 @@ mod top;
 
 ghost use Rattle.std.specs.Prelude.{◌≡◌, IfErr, IfOk, IsErr};
 ghost use Rattle.std.specs.Process.{exit_status};
-ghost use Rattle.kh_replies.specs.Statuses.{status_number};
-ghost use Rattle.kh_replies.specs.Told.{seen};
+ghost use Rattle.kh_runs.specs.Statuses.{status_number};
+ghost use Rattle.kh_runs.specs.Told.{seen};
 ghost use Rattle.scan_main.specs.ScanRuns.{IsScanRun, KeepsListHeadline, KeepsScanHeadline};
 
 use kh_io::{StdSink, StdSource};
-use kh_replies::{Status, words_of};
+use kh_runs::{Status, words_of};
 use kh_types::Words;
 use std::alloc::Global;
 use std::io;

@@ -3,21 +3,20 @@
 ghost use Rattle.std.specs.Prelude.{◌≡◌, ◌≢◌, ◌≤◌, length, Err, IfOk, OnOk};
 ghost use Rattle.kh_io.specs.Faults.{Rose};
 ghost use Rattle.kh_types.specs.declared.limits.TheConstants.{INPUT_BYTES};
-ghost use Rattle.kh_replies.specs.Runs.{AnswersSource};
-ghost use Rattle.kh_replies.specs.Statuses.{IsReplyStatus};
-ghost use Rattle.kh_replies.specs.Told.{IsReadOut, IsTaken};
-ghost use Rattle.scan_main.specs.Scans.{IsTextReply, IsScanReply, scan_usage};
+ghost use Rattle.kh_runs.specs.Runs.{AnswersSource};
+ghost use Rattle.kh_runs.specs.Statuses.{IsReplyStatus};
+ghost use Rattle.kh_runs.specs.Told.{IsReadOut, IsTaken};
+ghost use Rattle.line_answers.specs.Scans.{IsTextReply, IsScanReply, scan_usage};
 
 use crate::table::reply_to_diagram;
+use kh_inputs::{InputStop, read_diagram};
 use kh_io::Source;
-use kh_replies::{
-    Input, InputStop, Reply, ReplyStop, Status, read_diagram, read_input, reply_made,
-};
+use kh_runs::{Input, Reply, ReplyStop, Status, read_input, reply_made};
 use kh_types::{INPUT_BYTES, NoMemory};
 use prime_field::FieldSize;
 use std::alloc::Global;
 
-/// The reply to words that mean no command. Source: this project's rule.
+/// The reply to words that mean no command.
 pub fn usage(alloc: Global) -> Result<Reply, NoMemory>
     ensures { IfOk result (λ reply. reply ≡ scan_usage) }
 {
@@ -25,7 +24,7 @@ pub fn usage(alloc: Global) -> Result<Reply, NoMemory>
     Ok(reply_made(Status::Usage, line.into_bytes()))
 }
 
-/// The reply to all bytes of a source, over a field. Source: this project's rule.
+/// The reply to all bytes of a source, over a field.
 pub fn reply_to_source<S: Source>(
     alloc: Global,
     field: FieldSize,
@@ -46,7 +45,7 @@ pub fn reply_to_source<S: Source>(
     }
 }
 
-/// The reply to the bytes of an input, over a field. Source: this project's rule.
+/// The reply to the bytes of an input, over a field.
 pub fn reply_to_bytes(alloc: Global, field: FieldSize, bytes: &[u8]) -> Result<Reply, NoMemory>
     requires { length bytes.now ≤ INPUT_BYTES }
     ensures reply { IfOk result (IsTextReply field bytes.now) }

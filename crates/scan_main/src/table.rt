@@ -2,19 +2,19 @@
 
 ghost use Rattle.std.specs.Prelude.{◌≡◌, ◌++◌, IfOk};
 ghost use Rattle.kh_types.specs.Table.{table, table_text};
-ghost use Rattle.scan_main.specs.Scans.{IsTableReply};
+ghost use Rattle.line_answers.specs.Scans.{IsTableReply};
 
 use crate::jones::jones_line_with;
-use kh_replies::{Reply, Status, reply_made};
+use kh_runs::{Reply, Status, reply_made};
 use kh_types::{Diagram, NoMemory};
 use prime_field::{FieldSize, over_field};
 use std::alloc::Global;
-use table_text::{head_text, push_line};
+use table_lines::{head_text, push_line};
 use tangle_scan::{ScanTable, scan_table};
 
 /// The reply to a diagram: its homology table over a field, and the Jones line. Source: Bar-Natan
 /// 2002, sections 2 and 3; the text is this project's rule.
-#[tactic(auto, unfolding(kh_work::specs::Homology::homology_text))]
+#[tactic(auto, unfolding(kh_runs::specs::Homology::homology_text))]
 pub fn reply_to_diagram(
     alloc: Global,
     field: FieldSize,

@@ -2,7 +2,7 @@
 
 use crate::top::run;
 use kh_io::{MemSink, MemSource};
-use kh_replies::Status;
+use kh_runs::Status;
 use kh_types::Words;
 use prime_field::{FieldSize, PrimeField, over_field};
 use std::process::Abort;

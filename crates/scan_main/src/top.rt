@@ -1,13 +1,13 @@
 //! The top call: it reads, answers and writes.
 
 ghost use Rattle.std.specs.Prelude.{◌≡◌, IfErr, IfOk, IsErr};
-ghost use Rattle.kh_replies.specs.Told.{seen};
+ghost use Rattle.kh_runs.specs.Told.{seen};
 ghost use Rattle.scan_main.specs.ScanRuns.{IsAnsweredOver, IsDoneFor, IsReplyToNone, IsScanRun, KeepsListHeadline, KeepsScanHeadline};
 
 use crate::list::answer_each;
 use crate::replies::{reply_to_source, usage};
 use kh_io::{Sink, Source};
-use kh_replies::{Reply, ReplyStop, Status, written};
+use kh_runs::{Reply, ReplyStop, Status, written};
 use kh_types::Words;
 use prime_field::FieldSize;
 use std::alloc::Global;
@@ -15,7 +15,7 @@ use word_line::{ScanCommand, WordStop, read_scan_words};
 
 /// Does all that the program does: takes the words after the program's name; reads one input to its
 /// end, makes the whole answer, and writes it; or answers the lines of a list one by one. Answers
-/// how the run ended. Source: this project's rule.
+/// how the run ended.
 pub fn run<S: Source, K: Sink>(alloc: Global, words: &Words, source: &mut S, sink: &mut K) -> Status
     ensures run { IsScanRun words.now
         (seen (S.left source.old) (S.faults source.old)) (seen (S.left source.new) (S.faults source.new))

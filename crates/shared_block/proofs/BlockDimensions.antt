@@ -1,4 +1,4 @@
--- The dimensions of a block are those of its code, and its ranks fit into its generators.
+-- The dimensions of a block are those of its code.
 use Rattle.std.proofs.Common.{◌≡◌, ℕ, ◌+◌, ◌∙◌, inl, inr, ℤ, pos, ◌+ℤ◌, ◌-ℤ◌, List, [], IsTrue, true, length, map, sym, ap, arith}
 use Rattle.std.specs.List.{count_by}
 use Rattle.kh_types.specs.Acceptance.{accepted}
@@ -10,24 +10,19 @@ use Rattle.kh_types.specs.History.{IsLegal, block, replay}
 use Rattle.kh_types.specs.Rank.{rank}
 use Rattle.kh_types.specs.Table.{dimension}
 use Rattle.prime_field.specs.Residues.{IsField}
-use Rattle.cube_squares.proofs.BlockComplexes.{IsComplex-block, alive-block}
-use Rattle.cube_squares.proofs.BlockDegrees.{degree-block}
-use Rattle.cancel_step.proofs.HistoryEnds.{alive_count-end, dimension_of-add}
+use Rattle.square_laws.proofs.BlockComplexes.{IsComplex-block, alive-block}
+use Rattle.square_laws.proofs.BlockDegrees.{degree-block}
+use Rattle.history_laws.proofs.HistoryEnds.{alive_count-end}
 use Rattle.kh_types.proofs.MappedLists.{count-all}
 use Rattle.cube_signs.proofs.ListComplexes.{rank-empty_rows}
 
--- the rank of a matrix without columns or without rows
+-- the rank of a matrix without columns
 
-pub rank-no_columns : (p : ℕ) (code : Code) (i j : ℤ) → generators_at code i j ≡ [] → rank p (differential p code i j) ≡ 0
+rank-no_columns : (p : ℕ) (code : Code) (i j : ℤ) → generators_at code i j ≡ [] → rank p (differential p code i j) ≡ 0
 rank-no_columns p code i j none =
     let heads = generators_at code (i +ℤ pos 1) j in
     ap (λ (tails : List Generator). rank p (map (λ head. map (λ tail. coefficient p code tail head) tails) heads)) none
     ∙ rank-empty_rows p heads
-
-pub rank-no_rows : (p : ℕ) (code : Code) (i j : ℤ) → generators_at code (i +ℤ pos 1) j ≡ [] → rank p (differential p code i j) ≡ 0
-rank-no_rows p code i j none =
-    ap (λ (heads : List Generator). rank p (map (λ head. map (λ tail. coefficient p code tail head) (generators_at code i j)) heads))
-    none
 
 -- the ranks and the places alive of a block
 
@@ -51,16 +46,3 @@ pub alive_count-finished : (p : ℕ) (code : Code) (j i : ℤ) (history : List P
 alive_count-finished p code j i history field is legal zero =
     alive_count-end p (block p code j) history i field (IsComplex-block p code j field.above_one is) legal zero
     ∙ dimension_of-block p code j i
-
-pub ranks-generators : (p : ℕ) (code : Code) (j i : ℤ) → IsField p → IsTrue (accepted code)
-    → dimension p code i j + rank p (differential p code i j) + rank p (differential p code (i -ℤ pos 1) j)
-    ≡ length (generators_at code i j)
-ranks-generators p code j i field is =
-    omega (
-      arith,
-      dimension_of-add p (block p code j) i field (IsComplex-block p code j field.above_one is),
-      dimension_of-block p code j i,
-      alive_count-block p code j i,
-      rank-block p code j i,
-      rank-block p code j (i -ℤ pos 1),
-    )

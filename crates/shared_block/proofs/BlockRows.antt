@@ -5,7 +5,7 @@ use Rattle.kh_types.specs.Acceptance.{accepted}
 use Rattle.kh_types.specs.Complex.{Complex, alive_count}
 use Rattle.kh_types.specs.Table.{rows_at}
 use Rattle.prime_field.specs.Residues.{IsField}
-use Rattle.jones_sum.specs.DegreeRows.{rows_with}
+use Rattle.homology_tables.specs.DegreeRows.{rows_with}
 use Rattle.shared_block.specs.AllBlocks.{IsFinished}
 use Rattle.shared_block.specs.BlockHistories.{BlockHistory, HasLegalHistory, complex_of}
 use Rattle.shared_block.proofs.BlockDimensions.{alive_count-finished}

@@ -7,7 +7,7 @@ use Rattle.std.proofs.lemmas.List.{get_or-map, length-map}
 use Rattle.kh_types.specs.Code.{Code}
 use Rattle.kh_types.specs.Generators.{generators, generators_at, has_degrees, homological_degree, quantum_degree}
 use Rattle.kh_types.specs.Table.{Row, dimension, from_minus, rows_at, rows_within, table}
-use Rattle.jones_sum.proofs.BlockTables as tables
+use Rattle.homology_tables.proofs.BlockTables as tables
 use Rattle.cube_signs.specs.Blocks.{block_degrees, has_block}
 use Rattle.shared_block.specs.BlockHistories.{BlockHistory}
 use Rattle.shared_block.specs.AllBlocks.{degrees_of_blocks}

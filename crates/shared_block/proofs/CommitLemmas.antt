@@ -12,16 +12,16 @@ use Rattle.kh_types.specs.Acceptance.{accepted}
 use Rattle.kh_types.specs.Complex.{Complex, IsComplex, IsPivot, Pivot, cancel}
 use Rattle.kh_types.specs.History.{block}
 use Rattle.prime_field.specs.Residues.{IsField}
-use Rattle.cube_squares.proofs.BlockComplexes.{IsComplex-block}
+use Rattle.square_laws.proofs.BlockComplexes.{IsComplex-block}
 use Rattle.sparse_block.specs.Changes.{PlacedLine}
 use Rattle.sparse_block.specs.Complexes.{column_of, row_of}
 use Rattle.sparse_block.specs.Entries.{Entry, entries_of}
 use Rattle.sparse_block.proofs.EntryLemmas.{value_at-entries_of}
 use Rattle.cancel_step.specs.Copies.{Copied, copied, line_across}
 use Rattle.cancel_step.specs.Foreign.{IsForeign, IsOtherColumn, IsOtherRowAt, ShowsAt, ShowsIn}
-use Rattle.cancel_step.specs.RankSums.{live_places}
-use Rattle.cancel_step.proofs.HistoryLemmas.{complex-replay, legal-push, replay-push}
-use Rattle.cancel_step.proofs.RankSumLemmas.{live_places-cancel}
+use Rattle.history_laws.specs.RankSums.{live_places}
+use Rattle.sparse_block.proofs.HistoryLemmas.{complex-replay, legal-push, replay-push}
+use Rattle.history_laws.proofs.RankSumLemmas.{live_places-cancel}
 use Rattle.shared_block.specs.BlockHistories.{BlockCopy, BlockHistory, HasLegalHistory, IsCopyOf, IsKeptBlock, block_with, complex_of}
 use Rattle.shared_block.specs.Commits.{with_pivot}
 

@@ -2,8 +2,6 @@ pub mod BlockDimensions
 pub mod PlaceSums
 pub mod CommitLemmas
 pub mod PivotTests
-pub mod GeneratorCounts
-pub mod TableSums
 pub mod BlockRows
 pub mod Blocks
 pub mod AllBlocks

@@ -1,11 +1,11 @@
--- The places alive of a complex, degree by degree.
+-- The loop of `live_places` (src/building.rt): places alive, one degree more.
 use Rattle.std.proofs.Common.{◌≡◌, ℕ, ◌+◌, ◌<◌, ◌≤◌, ◌∙◌, [], ◌∷◌, ℤ, pos, ◌+ℤ◌, length, take, take_all, get_or, sym, ap, ap₂, arith}
 use Rattle.std.specs.List.{count_by, sum_by}
 use Rattle.std.proofs.lemmas.List.{take_more}
 use Rattle.std.proofs.lemmas.List.Sums.{sum_by-append, sum_by-cons}
 use Rattle.kh_types.specs.Complex.{Complex, Degree, alive_count, empty_degree}
 use Rattle.kh_types.proofs.ComplexLemmas.{degree_of-number}
-use Rattle.cancel_step.specs.RankSums.{live_places}
+use Rattle.history_laws.specs.RankSums.{live_places}
 
 -- the places alive of the first degrees together, from the least on
 abbrev pub live_places_to : Complex → ℕ → ℕ

@@ -1,4 +1,4 @@
--- The blocks of a diagram together, with what has been cancelled in each (this project's rule).
+-- The blocks of a diagram together, with what has been cancelled in each.
 use Rattle.std.specs.Prelude.{◌≡◌, ℕ, ℤ, List, [], map, true, All}
 use mathlib.Core.List.{IsPrefix}
 use Rattle.kh_types.specs.Code.{Code}

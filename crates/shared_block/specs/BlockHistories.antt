@@ -1,11 +1,11 @@
--- Blocks of the cube with the pivots that were cancelled in them, and copies of them (this project's rule).
+-- Blocks of the cube with the pivots that were cancelled in them, and copies of them.
 use Rattle.std.specs.Prelude.{◌≡◌, ℕ, ◌+◌, ◌/◌, ◌<◌, ◌≤◌, ◌^◌, ℤ, List, length, IsTrue}
 use Rattle.kh_types.specs.Acceptance.{accepted}
 use Rattle.kh_types.specs.Code.{Code}
 use Rattle.kh_types.specs.Complex.{Complex, IsPivot, Pivot}
 use Rattle.kh_types.specs.History.{IsLegal, block, replay}
 use Rattle.cancel_step.specs.Copies.{Copied, copied}
-use Rattle.cancel_step.specs.RankSums.{live_places}
+use Rattle.history_laws.specs.RankSums.{live_places}
 
 -- a diagram, a quantum degree, and the pivots that were cancelled in its block there, the first at place 0
 pub record BlockHistory : Type 0 where

@@ -1,7 +1,8 @@
--- What a commit to a block answers, and what it leaves (this project's rule).
+-- What a commit to a block answers, and what it leaves.
 use Rattle.std.specs.Prelude.{◌≡◌, ◌≢◌, ℕ, ◌+◌, [], ◌∷◌, ◌++◌, length, nat_eq, Bool, not}
 use Rattle.kh_types.specs.Complex.{Complex, Pivot, entry_of}
-use Rattle.cancel_step.specs.Foreign.{IsLeast, ShowsAt}
+use Rattle.sparse_block.specs.Least.{IsLeast}
+use Rattle.cancel_step.specs.Foreign.{ShowsAt}
 use Rattle.shared_block.specs.BlockHistories.{BlockCopy, BlockHistory, block_with, complex_of}
 use Rattle.shared_block.specs.declared.commit_answer.CommitAnswer.{CommitAnswer}
 use Rattle.shared_block.specs.declared.commit_answer.CommitAnswer.TheVariants.{Committed, Stale, Foreign}

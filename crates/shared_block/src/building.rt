@@ -5,12 +5,12 @@ ghost use Rattle.std.specs.List.{Contains};
 ghost use Rattle.circle_smoothing.specs.GeneratorCounts.{generator_count};
 ghost use Rattle.circle_smoothing.specs.declared.limits.TheConstants.{GENERATORS};
 ghost use Rattle.cube_signs.specs.Blocks.{block_degrees};
-ghost use Rattle.cancel_step.specs.RankSums.{live_places};
+ghost use Rattle.history_laws.specs.RankSums.{live_places};
 ghost use Rattle.shared_block.specs.AllBlocks.{IsFinished};
 ghost use Rattle.shared_block.specs.BlockHistories.{block_with};
 
 use crate::SharedBlock;
-use cancel_step::{Reduced, reduce};
+use column_reduction::{Reduced, reduce};
 use cube_signs::Cube;
 use kh_types::laws::diagrams::diagram_laws;
 use kh_types::{Diagram, NoMemory};

@@ -9,11 +9,11 @@ ghost use Rattle.shared_block.specs.Commits.{is_pivot, with_pivot};
 use crate::SharedBlock;
 use crate::laws::block_laws;
 use crate::pivots::is_pivot;
-use cancel_step::{Found, Pivot, cancel_with, find};
+use cancel_step::{Found, cancel_with, find};
 use kh_types::NoMemory;
 use prime_field::PrimeField;
 use prime_field::laws::element_laws;
-use sparse_block::Entry;
+use sparse_block::{Entry, Pivot};
 use std::alloc::Global;
 
 impl<F: PrimeField> SharedBlock<F> {

@@ -7,9 +7,9 @@ ghost use Rattle.shared_block.specs.BlockHistories.{Fits, block_with, complex_of
 
 use crate::laws::block_laws;
 use crate::{BlockLook, BlockPatch, SharedBlock};
-use cancel_step::Pivot;
 use kh_types::{Diagram, NoMemory};
 use prime_field::PrimeField;
+use sparse_block::Pivot;
 use std::alloc::Global;
 use version_lock::Held;
 

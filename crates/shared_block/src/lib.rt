@@ -22,4 +22,4 @@ pub use block_patch::BlockPatch;
 pub use commit_answer::CommitAnswer;
 pub use rows::push_rows;
 pub use shared_block::SharedBlock;
-pub use table::{homology_table, table_of, whole_table};
+pub use table::{homology_table, small_table, table_of, whole_table};

@@ -3,9 +3,8 @@
 ghost use Rattle.std.specs.Prelude.{◌≡◌};
 ghost use Rattle.shared_block.specs.Commits.{is_pivot};
 
-use cancel_step::Pivot;
 use prime_field::PrimeField;
-use sparse_block::{Complex, column_at, value_at};
+use sparse_block::{Complex, Pivot, column_at, value_at};
 
 /// Whether a pivot is an entry other than zero; past the places of its degrees it is none.
 #[tactic(auto, using(crate::proofs::PivotTests::tested))]

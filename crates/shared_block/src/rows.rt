@@ -1,12 +1,12 @@
 //! The rows of one block, once it is cancelled to zero.
 
 ghost use Rattle.kh_types.specs.Table.{rows_at};
-ghost use Rattle.jones_sum.specs.DegreeRows.{AddsAllOrNone};
+ghost use Rattle.homology_tables.specs.DegreeRows.{AddsAllOrNone};
 ghost use Rattle.shared_block.specs.AllBlocks.{IsFinished};
 
 use crate::SharedBlock;
 use crate::laws::block_laws;
-use jones_sum::Row;
+use homology_tables::Row;
 use kh_types::NoMemory;
 use prime_field::PrimeField;
 use prime_field::laws::element_laws;
@@ -21,5 +21,5 @@ pub fn push_rows<F: PrimeField>(rows: &mut Vec<Row>, block: &SharedBlock<F>) -> 
     element_laws::<F>();
     block_laws(block);
     let reach = block.diagram().crossings().len();
-    jones_sum::push_rows(rows, block.complex(), block.degree(), reach)
+    homology_tables::push_rows(rows, block.complex(), block.degree(), reach)
 }

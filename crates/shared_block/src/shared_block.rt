@@ -5,18 +5,18 @@ ghost use Rattle.kh_types.specs.Acceptance.{accepted};
 ghost use Rattle.kh_types.specs.Complex.{is_zero};
 ghost use Rattle.kh_types.specs.Table.{dimension};
 ghost use Rattle.cancel_step.specs.Foreign.{IsForeign};
-ghost use Rattle.cancel_step.specs.RankSums.{live_places};
+ghost use Rattle.history_laws.specs.RankSums.{live_places};
 ghost use Rattle.shared_block.specs.BlockHistories.{HasLegalHistory, IsCopyOf, complex_of};
 ghost use Rattle.shared_block.specs.Commits.{Answers, IsForeignAnswer, IsOld, IsStale};
 ghost use Rattle.shared_block.specs.Commits.{with_pivot};
 
 use crate::building::live_places;
 use crate::{BlockLook, BlockPatch, CommitAnswer};
-use cancel_step::{Foreign, Pivot, apply, apply_fitting, copy, find};
+use cancel_step::{Foreign, apply, apply_fitting, copy, find};
 use kh_types::{Diagram, NoMemory};
 use prime_field::PrimeField;
 use prime_field::laws::element_laws;
-use sparse_block::Complex;
+use sparse_block::{Complex, Pivot};
 use std::alloc::Global;
 use std::marker::Model;
 

@@ -10,21 +10,33 @@ ghost use Rattle.shared_block.specs.AllBlocks.{AreBlocksOf, IsFinished};
 
 use crate::SharedBlock;
 use crate::rows::push_rows;
-use cube_signs::Cube;
-use jones_sum::{Row, Table};
+use circle_smoothing::CountedDiagram;
+use cube_signs::{Cube, SmallDiagram, counted_degrees};
+use homology_tables::{Row, Table};
 use kh_types::laws::diagrams::diagram_laws;
 use kh_types::{Diagram, NoMemory};
 use prime_field::PrimeField;
 use prime_field::laws::element_laws;
 use std::alloc::Global;
 
-/// The homology table of a diagram over a field. One block is in memory at a time.
+/// The homology table of a diagram over a field.
 pub fn homology_table<F: PrimeField>(alloc: Global, diagram: &Diagram) -> Result<Table, NoMemory>
     requires size { generator_count diagram.now ≤ GENERATORS }
     ensures { IfOk result (λ made. made ≡ table F.P diagram.now) }
 {
+    let small = SmallDiagram::known(CountedDiagram::of_diagram(diagram));
+    small_table::<F>(alloc, &small)
+}
+
+/// The same, of a diagram whose cube is known to be within the limit. One block is in memory at a
+/// time.
+pub fn small_table<F: PrimeField>(alloc: Global, small: &SmallDiagram) -> Result<Table, NoMemory>
+    ensures { IfOk result (λ made. made ≡ table F.P small.now) }
+{
+    let counted = small.counted();
+    let diagram = counted.diagram();
     let cube = Cube::new(alloc, diagram)?;
-    let degrees = cube.block_degrees(alloc)?;
+    let degrees = counted_degrees(alloc, counted)?;
     let mut rows = Vec::new(alloc);
     'degrees: for k in 0..degrees.len() {
         push_block::<F>(alloc, &mut rows, &cube, degrees[k])?;

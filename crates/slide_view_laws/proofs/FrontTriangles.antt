@@ -3,18 +3,20 @@ use Rattle.std.proofs.Common.{◌≡◌, ◌≢◌, ℕ, ◌⊎◌, inl, inr, �
 use Rattle.kh_types.specs.Acceptance.{accepted}
 use Rattle.kh_types.specs.Code.{Code, arc_in}
 use Rattle.kh_types.specs.Residues.{HasInverses}
-use Rattle.cell_complexes.specs.Cells.{dimension_at}
-use Rattle.cell_complexes.specs.Cubes.{cube_of, listed_by}
-use Rattle.cell_complexes.proofs.Orders.{dimension-reordered}
-use Rattle.cell_complexes.proofs.AnyOrder.{accepted-reordered}
-use Rattle.gluing.specs.Arcs.{arc_by_place}
-use Rattle.gluing.specs.Codes.{name_count}
-use Rattle.gluing.specs.Slides.{IsPlacedTriangle, IsNoSide, triangle_before, triangle_after}
-use Rattle.gluing.specs.SlidCodes.{Shows, HasTriangle, IsSlid}
+use Rattle.cell_laws.specs.Cells.{dimension_at}
+use Rattle.cell_laws.specs.Cubes.{cube_of}
+use Rattle.order_laws.specs.Orders.{listed_by}
+use Rattle.order_laws.proofs.Orders.{dimension-reordered}
+use Rattle.order_laws.proofs.AnyOrder.{accepted-reordered}
+use Rattle.order_laws.proofs.Reordered.{first-reordered}
+use Rattle.gluing_laws.specs.Arcs.{arc_by_place}
+use Rattle.gluing_laws.specs.Codes.{name_count}
+use Rattle.gluing_laws.specs.Slides.{IsPlacedTriangle, IsNoSide, triangle_before, triangle_after}
+use Rattle.gluing_laws.specs.SlidCodes.{Shows, HasTriangle, IsSlid}
 use Rattle.slide_view_laws.specs.RenamedViews.{IsRenumberedOnto}
 use Rattle.slide_view_laws.specs.SlideViews.{three_first}
 use Rattle.view_laws.specs.Fronts.{first_to, place_behind}
-use Rattle.view_laws.proofs.Fronts.{first-reordered, home, first-at, length-first, behind-low, behind-own, behind-high, order_of_two, behind-home, home-behind, home-below, behind-below, behind-apart}
+use Rattle.view_laws.proofs.Fronts.{home, first-at, length-first, behind-low, behind-own, behind-high, order_of_two, behind-home, home-behind, home-below, behind-below, behind-apart}
 
 -- a triangle, with one crossing brought to the front
 module _ (code : Code) (k : ℕ) (below : k < length code.crossings) where
@@ -189,18 +191,18 @@ module _ (xs : List (List ℕ)) (c d e : ℕ) (c_below : c < length xs) (d_below
       ≡ dimension_at p (cube_of p (record { crossings = xs; loops = loops }) plus minus) i j
   dimension-three p loops plus minus field i j =
       dimension-reordered p loops plus minus field i j (first_to d_at (first_to e xs)) (three_first c d e xs)
-      (first-reordered c_at (first_to d_at (first_to e xs)) c_at-below)
+      (first-reordered c_at (first_to d_at (first_to e xs)) [] c_at-below)
       ∙ dimension-reordered p loops plus minus field i j (first_to e xs) (first_to d_at (first_to e xs))
-      (first-reordered d_at (first_to e xs) d_at-below)
-      ∙ dimension-reordered p loops plus minus field i j xs (first_to e xs) (first-reordered e xs e_below)
+      (first-reordered d_at (first_to e xs) [] d_at-below)
+      ∙ dimension-reordered p loops plus minus field i j xs (first_to e xs) (first-reordered e xs [] e_below)
 
   pub accepted-three : (loops : ℕ) → IsTrue (accepted (record { crossings = xs; loops = loops }))
       → IsTrue (accepted (record { crossings = three_first c d e xs; loops = loops }))
   accepted-three loops holds =
       accepted-reordered loops (first_to d_at (first_to e xs)) (three_first c d e xs)
-      (first-reordered c_at (first_to d_at (first_to e xs)) c_at-below)
-      (accepted-reordered loops (first_to e xs) (first_to d_at (first_to e xs)) (first-reordered d_at (first_to e xs) d_at-below)
-      (accepted-reordered loops xs (first_to e xs) (first-reordered e xs e_below) holds))
+      (first-reordered c_at (first_to d_at (first_to e xs)) [] c_at-below)
+      (accepted-reordered loops (first_to e xs) (first_to d_at (first_to e xs)) (first-reordered d_at (first_to e xs) [] d_at-below)
+      (accepted-reordered loops xs (first_to e xs) (first-reordered e xs [] e_below) holds))
 
 -- a code under other numbers, with one crossing of both brought to the front
 pub IsRenumberedOnto-first : (f : ℕ → ℕ) (old new : Code) (k : ℕ) → k < length old.crossings → IsRenumberedOnto f old new

@@ -7,15 +7,15 @@ use Rattle.kh_types.specs.Code.{Code}
 use Rattle.kh_types.specs.Directions.{is_positive, plus_count}
 use Rattle.kh_types.proofs.AcceptedLemmas.{HasArcsTwice-accepted}
 use Rattle.kh_types.proofs.RangeCounts.{count_by-alike}
-use Rattle.kinks_and_fingers.proofs.KinkDropSums.{count-later}
+use Rattle.kink_and_finger_laws.proofs.KinkDropSums.{count-later}
 use Rattle.orient_arcs.specs.Renumbered.{renumber}
 use Rattle.orient_arcs.proofs.AlikeCrossings.{AreAlike-renumbered}
-use Rattle.slides.specs.Slid.{slid_code}
-use Rattle.slides.specs.Triangles.{dart_at_slot, step, IsTriangle, has_heights}
-use Rattle.slides.proofs.FoundTriangles.{IsTriangle-slot, has_heights-slot}
-use Rattle.slides.proofs.Sides.{HasSides-triangle}
-use Rattle.slides.proofs.SlidArcs.{HasArcsTwice-slid}
-use Rattle.slides.proofs.SlidTriangle.{inside_arcs, IsSlid-slid}
+use Rattle.slide_laws.specs.Slid.{slid_code}
+use Rattle.slide_laws.specs.Triangles.{dart_at_slot, step, IsTriangle, has_heights}
+use Rattle.slide_laws.proofs.FoundTriangles.{IsTriangle-slot, has_heights-slot}
+use Rattle.slide_laws.proofs.Sides.{HasSides-triangle}
+use Rattle.slide_laws.proofs.SlidArcs.{HasArcsTwice-slid}
+use Rattle.slide_laws.proofs.SlidTriangle.{inside_arcs, IsSlid-slid}
 use Rattle.diagram_moves.specs.declared.change.Move.TheVariants.{Slide}
 use Rattle.diagram_moves.specs.Kept.{IsKeptCode, slid_parts}
 use Rattle.diagram_moves.specs.Moved.{moved, slid_at, slid_from}

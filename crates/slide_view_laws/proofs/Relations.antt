@@ -9,12 +9,13 @@ use Rattle.std.specs.Prelude.{slice_index}
 use Rattle.kh_types.specs.Classes.{classes_of, Respects, AreBelow}
 use Rattle.kh_types.proofs.ClassLemmas.{classes-together, classes-finest, AreBelow-append, Respects-append, Respects-first, Respects-second}
 use Rattle.kh_types.proofs.JoinedClasses.{IsNamed-classes_of}
-use Rattle.gluing.specs.Glue.{renamed}
-use Rattle.gluing.specs.Slides.{IsPlacedTriangle, IsNoSide}
-use Rattle.gluing.proofs.OuterPairs.{TouchNoSide}
-use Rattle.gluing.proofs.Renamed.{AreBelow-renamed}
-use Rattle.gluing.proofs.Stubs.{Respects-renamed, Respects-from_renamed, Respects-through}
-use Rattle.slide_view_laws.proofs.Values.{value_of, value_of-other, value_of-first, value_of-second, value_of-third, value_of_class, value_of_class-end, value_of_class-closed, side_is, end_or_side}
+use Rattle.gluing_laws.specs.Glue.{renamed}
+use Rattle.gluing_laws.specs.Slides.{IsPlacedTriangle, IsNoSide}
+use Rattle.gluing_laws.proofs.OuterPairs.{TouchNoSide}
+use Rattle.gluing_laws.proofs.Renamed.{AreBelow-renamed}
+use Rattle.gluing_laws.proofs.Stubs.{Respects-renamed, Respects-from_renamed, Respects-through}
+use Rattle.gluing_laws.proofs.InsideCircles.{value_of, side_is, end_or_side, value_of-other, value_of-first, value_of-second, value_of-third}
+use Rattle.slide_view_laws.proofs.Values.{value_of_class, value_of_class-end, value_of_class-closed}
 
 -- what has one value on pairs that touch no side is respected with other values on the sides
 Respects-no_sides : (arcs v w : ℕ → ℕ) (pairs : List (ℕ × ℕ)) → ((z : ℕ) → IsNoSide arcs z → v z ≡ w z) → TouchNoSide arcs pairs

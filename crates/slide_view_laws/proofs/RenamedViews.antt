@@ -5,12 +5,12 @@ use Rattle.std.proofs.lemmas.Nat.{mod_below, pow_pos}
 use Rattle.kh_types.specs.Code.{Code}
 use Rattle.kh_types.specs.CircleNumbers.{IsName}
 use Rattle.kh_types.proofs.Lists.{Contains-map}
-use Rattle.cell_complexes.proofs.Members.{Contains-made}
-use Rattle.gluing.specs.Codes.{name_count}
+use Rattle.kh_types.proofs.Tests.{nat_eq-iff}
+use Rattle.cell_laws.proofs.Members.{Contains-made}
+use Rattle.gluing_laws.specs.Codes.{name_count}
 use Rattle.view_laws.specs.Views.{View, IsView, SeeAlike, circle_at, closed_at, AreTogether}
 use Rattle.slide_view_laws.specs.RenamedViews.{renamed_view, IsRenumberedOnto}
 use Rattle.view_laws.proofs.Renumbered.{circles-back, circles-forth, onto}
-use Rattle.view_laws.proofs.Tests.{same-tests}
 
 module _ (f : ℕ → ℕ) (old new : Code) (view : View) (is : IsRenumberedOnto f old new) where
   abbrev after : View
@@ -83,7 +83,7 @@ module _ (f : ℕ → ℕ) (old new : Code) (view : View) (is : IsRenumberedOnto
 
   pub SeeAlike-renamed : IsView old view → (state : ℕ) → SeeAlike old view state new (renamed_view f view) state
   SeeAlike-renamed is_view state x y has_x has_y =
-      same-tests (circle_at old state (view.arc x)) (circle_at old state (view.arc y)) (circle_at new state (f (view.arc x)))
+      nat_eq-iff (circle_at old state (view.arc x)) (circle_at old state (view.arc y)) (circle_at new state (f (view.arc x)))
       (circle_at new state (f (view.arc y)))
       (onward state (view.arc x) (view.arc y) (is_view.arcs x has_x) (is_view.arcs y has_y))
       (back state (view.arc x) (view.arc y) (is_view.arcs x has_x) (is_view.arcs y has_y))

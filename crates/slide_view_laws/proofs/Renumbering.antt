@@ -5,11 +5,11 @@ use Rattle.std.specs.Prelude.{nat_lt}
 use Rattle.kh_types.specs.Code.{Code, IsArc, arc_count}
 use Rattle.kh_types.specs.Darts.{HasArcsTwice, arc_of, dart_at, dart_place, first_dart}
 use Rattle.kh_types.proofs.DartPairs.{IsDart-at, IsDartOf-first_dart, dart_at-place, dart_place-below}
-use Rattle.gluing.specs.Alike.{AreAlike}
-use Rattle.gluing.specs.Arcs.{arc_by_place}
-use Rattle.gluing.specs.Codes.{IsRenumbered}
-use Rattle.slides.proofs.SlidArcs.{arc_of-at}
-use Rattle.slides.proofs.SlidTriangle.{arc_at-there, HoldsArcs-twice}
+use Rattle.gluing_laws.specs.Alike.{AreAlike}
+use Rattle.gluing_laws.specs.Arcs.{arc_by_place}
+use Rattle.gluing_laws.specs.Codes.{IsRenumbered}
+use Rattle.slide_laws.proofs.SlidArcs.{arc_of-at}
+use Rattle.slide_laws.proofs.SlidTriangle.{arc_at-there, HoldsArcs-twice}
 use Rattle.slide_view_laws.specs.RenamedViews.{IsRenumberedOnto}
 use Rattle.slide_view_laws.specs.SlidMoves.{new_number}
 

@@ -6,26 +6,19 @@ use Rattle.kh_types.specs.Bits.{bit}
 use Rattle.kh_types.specs.Code.{Code, arc_in}
 use Rattle.kh_types.specs.Circles.{smoothings_of, circles_of}
 use Rattle.kh_types.proofs.JoinedClasses.{IsNamed-classes_of}
-use Rattle.gluing.specs.Arcs.{arc_by_place}
-use Rattle.gluing.specs.Codes.{name_count}
-use Rattle.gluing.specs.Slides.{ends_joined, IsNoSide}
-use Rattle.gluing.specs.SlidCodes.{HasTriangle}
-use Rattle.gluing.proofs.OutsidePairs.{outside_at, outside_of}
-use Rattle.gluing.proofs.CodeCircles.{smoothing_by-same}
-use Rattle.gluing.proofs.SlidCodes.{one_of_three, flat_map-same, all_outside, AtInside, circles_at}
+use Rattle.gluing_laws.specs.Arcs.{arc_by_place}
+use Rattle.gluing_laws.specs.Codes.{name_count}
+use Rattle.gluing_laws.specs.Slides.{ends_joined, IsNoSide}
+use Rattle.gluing_laws.specs.SlidCodes.{HasTriangle}
+use Rattle.gluing_laws.proofs.OutsidePairs.{outside_at, outside_of}
+use Rattle.gluing_laws.proofs.CodeCircles.{smoothing_by-same}
+use Rattle.gluing_laws.proofs.SlidCodes.{one_of_three, flat_map-same, all_outside, AtInside, circles_at}
+use Rattle.gluing_laws.proofs.SlidSums.{outside_of-same}
 use Rattle.slide_view_laws.specs.Together.{AreJoinedAlike}
 use Rattle.view_laws.specs.Views.{AreTogether}
 use Rattle.slide_view_laws.specs.Triangles.{IsStateAt, SidesClose, SidesShow}
 use Rattle.slide_view_laws.proofs.Relations.{IsInside, whole_class, inside_class, whole-joined, whole-onward, whole-closed}
 use Rattle.slide_view_laws.proofs.TableFacts.{IsClosedBy, classes-joined}
-
--- what the other crossings join depends on them and their bits alone (as in gluing)
-outside_of-same : (xs ys : List (List ℕ)) (c d e first second : ℕ) → length xs ≡ length ys
-    → ((k slot : ℕ) → k < length xs → slot < 4 → k ≢ c → k ≢ d → k ≢ e → arc_in (get_or xs k []) slot ≡ arc_in (get_or ys k []) slot)
-    → ((k : ℕ) → k ≢ c → k ≢ d → k ≢ e → bit first k ≡ bit second k)
-    → outside_of xs c d e first ≡ outside_of ys c d e second
-outside_of-same xs ys c d e first second size same same_bits =
-    grind (arith, nat_tests, flat_map-same, outside_at, one_of_three, smoothing_by-same)
 
 AtInside-state : (n c d e base state inner : ℕ) → IsStateAt n c d e base state inner → AtInside n c d e base state inner
 AtInside-state n c d e base state inner at =

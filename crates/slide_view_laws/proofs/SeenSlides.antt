@@ -5,8 +5,8 @@ use Rattle.std.specs.List.{Contains}
 use Rattle.kh_types.specs.Acceptance.{accepted}
 use Rattle.kh_types.specs.Code.{Code}
 use Rattle.kh_types.proofs.AcceptedLemmas.{HasArcsTwice-accepted}
-use Rattle.cell_complexes.specs.Cubes.{listed_by}
-use Rattle.slides.specs.Slid.{slid_code}
+use Rattle.order_laws.specs.Orders.{listed_by}
+use Rattle.slide_laws.specs.Slid.{slid_code}
 use Rattle.diagram_moves.specs.Moved.{moved}
 use Rattle.diagram_moves.specs.declared.change.Move.TheVariants.{Slide}
 use Rattle.view_laws.specs.Views.{View}

@@ -9,11 +9,11 @@ use Rattle.kh_types.specs.Darts.{HasArcsTwice, dart_at}
 use Rattle.kh_types.proofs.DartPairs.{IsDart-at}
 use Rattle.kh_types.proofs.Ranges.{below_four}
 use Rattle.kh_types.proofs.RangeCounts.{list_all-at}
-use Rattle.gluing.specs.Arcs.{arc_by_place}
-use Rattle.gluing.specs.Slides.{triangle_before, triangle_after, quadruple_from, ends_joined}
-use Rattle.gluing.specs.SlidCodes.{Shows, IsSlid}
-use Rattle.slides.proofs.SlidArcs.{arc_of-at}
-use Rattle.slides.proofs.SlidTriangle.{arc_at-there}
+use Rattle.gluing_laws.specs.Arcs.{arc_by_place}
+use Rattle.gluing_laws.specs.Slides.{triangle_before, triangle_after, quadruple_from, ends_joined}
+use Rattle.gluing_laws.specs.SlidCodes.{Shows, IsSlid}
+use Rattle.slide_laws.proofs.SlidArcs.{arc_of-at}
+use Rattle.slide_laws.proofs.SlidTriangle.{arc_at-there}
 use Rattle.view_laws.specs.Views.{View, IsView, SeeAlike}
 use Rattle.layer_laws.specs.Slid.{kind_before, kind_after}
 use Rattle.slide_view_laws.specs.Together.{AreJoinedAlike}

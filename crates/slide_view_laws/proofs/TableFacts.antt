@@ -4,13 +4,14 @@ use Rattle.std.specs.Prelude.{slice_index, nat_eq, nat_lt}
 use Rattle.std.specs.List.{range_with_len, list_all}
 use Rattle.std.proofs.lemmas.Slice.Eq.{bytes_eq-Decides}
 use Rattle.std.proofs.lemmas.List.FromFn.{get_or-map-range_with_len}
-use Rattle.std.proofs.lemmas.Bool.{and_parts, ltb-true, eqb-true, cases_eq}
+use Rattle.std.proofs.lemmas.Bool.{and_parts, ltb-true, eqb-true, cases_eq, or_cases}
 use Rattle.kh_types.specs.Classes.{AreBelow}
 use Rattle.kh_types.specs.Circles.{smoothings_of}
 use Rattle.kh_types.proofs.JoinedClasses.{IsNamed-classes_of}
 use Rattle.kh_types.proofs.RangeCounts.{list_all-at}
-use Rattle.gluing.specs.Slides.{triangle_before, triangle_after, ends_joined, inside_classes, is_slidable}
-use Rattle.gluing.proofs.Ties.{are_below}
+use Rattle.gluing_laws.specs.Slides.{triangle_before, triangle_after, ends_joined, inside_classes, is_slidable}
+use Rattle.gluing_laws.proofs.Ties.{are_below}
+use Rattle.gluing_laws.proofs.TiedTable.{AreBelow-from}
 use Rattle.layer_laws.specs.Slid.{kind_before, kind_after}
 use Rattle.slide_view_laws.specs.Triangles.{closing, across, changed_at}
 use Rattle.slide_view_laws.proofs.Relations.{inside_class}
@@ -35,18 +36,6 @@ pub record SlideTurns (p q r : ℕ) : Type 0 where
       → ends_joined (triangle_before p q r) (changed_at place (across p q r))
       ≡ ends_joined (triangle_after p q r) (changed_at place (across p q r))
 
--- pairs that pass the test of being below a number are (as in gluing)
-AreBelow-from : (n : ℕ) (pairs : List (ℕ × ℕ)) → are_below n pairs ≡ true → AreBelow n pairs
-AreBelow-from n [] all = tt
-AreBelow-from n (pair ∷ pairs) all =
-    let parts = and_parts (nat_lt pair.0 n && nat_lt pair.1 n) (are_below n pairs) all in
-    let two = and_parts (nat_lt pair.0 n) (nat_lt pair.1 n) parts.0 in
-    ((ltb-true pair.0 n two.0, ltb-true pair.1 n two.1), AreBelow-from n pairs parts.1)
-
-one_of : (a b : Bool) → (a || b) ≡ true → (a ≡ true) ⊎ (b ≡ true)
-one_of true b either = inl refl
-one_of false b either = inr either
-
 joined-same : (crossings others : List (List ℕ)) (state other : ℕ) → join_alike crossings state others other ≡ true
     → ends_joined crossings state ≡ ends_joined others other
 joined-same crossings others state other alike = (bytes_eq-Decides (ends_joined crossings state) (ends_joined others other)).0 alike
@@ -69,7 +58,7 @@ IsClosedBy-table crossings closed table =
       shows = λ state below differs side from side_below.
           let class = λ (s : ℕ). slice_index (inside_classes crossings state) s in
           let shown : shows_at crossings state ≡ true =
-          elim (one_of (nat_eq state closed) (shows_at crossings state) (here state below).1) [
+          elim (or_cases (nat_eq state closed) (shows_at crossings state) (here state below).1) [
             | inl is ↦ absurd (differs (eqb-true state closed is))
             | inr shows ↦ shows
           ] in
@@ -121,7 +110,7 @@ closing-mixed p q r p_below q_below r_below slidable =
     other_true true b either is = either
     other_true false b either is = absurd (grind (arith, is))
 
--- ends that are joined alike are in equal classes, and so is the number 0 (as in gluing)
+-- ends that are joined alike are in equal classes, and so is the number 0 (as in gluing_laws)
 pub classes-joined : (crossings others : List (List ℕ)) (state other : ℕ) → AreBelow 10 (smoothings_of crossings state)
     → AreBelow 10 (smoothings_of others other) → ends_joined crossings state ≡ ends_joined others other
     → (i : ℕ) → i < 7 → inside_class (smoothings_of crossings state) i ≡ inside_class (smoothings_of others other) i

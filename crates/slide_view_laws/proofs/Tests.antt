@@ -3,8 +3,8 @@ use Rattle.std.specs.Prelude.{ℕ, List, nat_eq, nat_lt, Bool, not, ◌&&◌, �
 use Rattle.std.specs.List.{list_all, range_with_len}
 use Rattle.std.specs.Str.{bytes_eq}
 use Rattle.kh_types.specs.Circles.{smoothings_of}
-use Rattle.gluing.specs.Slides.{triangle_before, triangle_after, ends_joined, inside_classes, is_slidable}
-use Rattle.gluing.proofs.Ties.{are_below}
+use Rattle.gluing_laws.specs.Slides.{triangle_before, triangle_after, ends_joined, inside_classes, is_slidable}
+use Rattle.gluing_laws.proofs.Ties.{are_below}
 use Rattle.layer_laws.specs.Slid.{kind_before, kind_after}
 use Rattle.slide_view_laws.specs.Triangles.{closing, across, changed_at}
 

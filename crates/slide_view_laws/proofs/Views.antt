@@ -8,19 +8,19 @@ use Rattle.std.proofs.lemmas.Nat.Bits.{bit_at-suc, bit_at_lowest}
 use Rattle.kh_types.specs.Bits.{bit}
 use Rattle.kh_types.specs.Code.{Code, arcs_and_loops, arc_count}
 use Rattle.kh_types.specs.CircleNumbers.{IsName}
-use Rattle.kh_types.proofs.Lists.{Contains-filter}
-use Rattle.cell_complexes.proofs.Members.{Contains-kept}
-use Rattle.cell_complexes.proofs.NoDoubles.{once-range, once-filter}
-use Rattle.gluing.specs.Codes.{name_count}
-use Rattle.gluing.specs.Slides.{IsPlacedTriangle, IsNoSide}
+use Rattle.kh_types.proofs.Lists.{Contains-filter, range-within, within-range}
+use Rattle.kh_types.proofs.Tests.{nat_eq-iff}
+use Rattle.cell_laws.proofs.Members.{Contains-kept}
+use Rattle.cell_laws.proofs.NoDoubles.{once-range, once-filter}
+use Rattle.gluing_laws.specs.Codes.{name_count}
+use Rattle.gluing_laws.specs.Slides.{IsPlacedTriangle, IsNoSide}
+use Rattle.gluing_laws.proofs.InsideCircles.{side_is}
 use Rattle.view_laws.specs.Views.{IsView, SeeAlike, circle_at, AreTogether}
 use Rattle.slide_view_laws.specs.Together.{IsSeen, AreJoinedAlike}
 use Rattle.slide_view_laws.specs.Triangles.{IsStateAt, SidesClose, SidesShow}
 use Rattle.slide_view_laws.specs.SlideViews.{is_side, names_but_sides, slide_view}
-use Rattle.slide_view_laws.proofs.Values.{side_is}
 use Rattle.slide_view_laws.proofs.SeenCircles.{HasClosing, SidesClose-code, SidesShow-code}
 use Rattle.view_laws.proofs.ClosedOne.{closed-is, closed-there, closed-few}
-use Rattle.view_laws.proofs.Tests.{same-tests, range-within, within-range}
 
 -- sides
 
@@ -86,9 +86,6 @@ bits-high inner outside k below =
     let e : (inner + 8 * outside) / 2 / 2 / 2 ≡ outside = omega (arith, below) in
     bit_at-suc s (suc (suc k)) ∙ bit_at-suc (s / 2) (suc k) ∙ bit_at-suc (s / 2 / 2) k ∙ ap (λ z. bit z k) e
 
-bit-0 : (s : ℕ) → bit s 0 ≡ s % 2
-bit-0 s = bit_at_lowest s
-
 bit-1 : (s : ℕ) → bit s 1 ≡ s / 2 % 2
 bit-1 s = bit_at-suc s 0 ∙ bit_at_lowest (s / 2)
 
@@ -102,10 +99,10 @@ IsStateAt-first inner outside below =
     let low : (inner + 8 * outside) % 2 ≡ inner % 2 = omega (arith, below) in
     let next : (inner + 8 * outside) / 2 % 2 ≡ inner / 2 % 2 = omega (arith, below) in
     let last : (inner + 8 * outside) / 2 / 2 % 2 ≡ inner / 2 / 2 % 2 = omega (arith, below) in
-    let s_0 = bit-0 s ∙ low ∙ sym (bit-0 inner) in
+    let s_0 = bit_at_lowest s ∙ low ∙ sym (bit_at_lowest inner) in
     let s_1 = bit-1 s ∙ next ∙ sym (bit-1 inner) in
     let s_2 = bit-2 s ∙ last ∙ sym (bit-2 inner) in
-    let base_0 : bit (8 * outside) 0 ≡ 0 = bit-0 base ∙ omega arith in
+    let base_0 : bit (8 * outside) 0 ≡ 0 = bit_at_lowest base ∙ omega arith in
     let base_1 : bit (8 * outside) 1 ≡ 0 = bit-1 base ∙ omega arith in
     let base_2 : bit (8 * outside) 2 ≡ 0 = bit-2 base ∙ omega arith in
     record {
@@ -208,5 +205,5 @@ pub SeeAlike-seen : (first second : Code) (arcs : ℕ → ℕ) (closed other_clo
 SeeAlike-seen first second arcs closed other_closed state other alike x y has_x has_y =
     let x_seen = (name-seen first arcs x has_x).1 in
     let y_seen = (name-seen first arcs y has_y).1 in
-    same-tests (circle_at first state x) (circle_at first state y) (circle_at second other x) (circle_at second other y)
+    nat_eq-iff (circle_at first state x) (circle_at first state y) (circle_at second other x) (circle_at second other y)
     (alike.onward x y x_seen y_seen) (alike.back x y x_seen y_seen)

@@ -1,7 +1,7 @@
 -- A view of a code as a view of the code under other numbers.
 use Rattle.std.specs.Prelude.{◌≡◌, ℕ, map}
 use Rattle.kh_types.specs.Code.{Code}
-use Rattle.gluing.specs.Codes.{IsRenumbered, HoldsArcs}
+use Rattle.gluing_laws.specs.Codes.{IsRenumbered, HoldsArcs}
 use Rattle.view_laws.specs.Views.{View}
 
 -- the names stay, and each of their arcs and loops has its other number

@@ -4,8 +4,8 @@ use Rattle.kh_types.specs.Acceptance.{accepted}
 use Rattle.kh_types.specs.Code.{Code}
 use Rattle.kh_types.specs.Directions.{plus_count, minus_count}
 use Rattle.kh_types.specs.Residues.{HasInverses}
-use Rattle.cell_complexes.specs.Cells.{dimension_at}
-use Rattle.cell_complexes.specs.Cubes.{cube_of}
+use Rattle.cell_laws.specs.Cells.{dimension_at}
+use Rattle.cell_laws.specs.Cubes.{cube_of}
 use Rattle.view_laws.specs.Views.{View, IsView, SeeAlike}
 use Rattle.layer_laws.specs.Slid.{kind_before, kind_after}
 

@@ -4,10 +4,10 @@ use Rattle.kh_types.specs.Acceptance.{accepted}
 use Rattle.kh_types.specs.Code.{Code, arc_count}
 use Rattle.kh_types.specs.Darts.{HasArcsTwice, arc_of, first_dart}
 use Rattle.kh_types.specs.Directions.{plus_count, minus_count}
-use Rattle.gluing.specs.Alike.{AreAlike}
-use Rattle.gluing.specs.SlidCodes.{IsSlid}
-use Rattle.slides.specs.Slid.{slid, slid_code}
-use Rattle.slides.specs.Triangles.{IsTriangle}
+use Rattle.gluing_laws.specs.Alike.{AreAlike}
+use Rattle.gluing_laws.specs.SlidCodes.{IsSlid}
+use Rattle.slide_laws.specs.Slid.{slid, slid_code}
+use Rattle.slide_laws.specs.Triangles.{IsTriangle}
 use Rattle.slide_view_laws.specs.RenamedViews.{IsRenumberedOnto}
 
 -- the number that an arc of a code has in a code with alike crossings: that at its first dart; loops keep their numbers
@@ -15,8 +15,9 @@ abbrev pub new_number : Code → Code → ℕ → ℕ
 new_number old new x =
     if nat_lt 0 x && nat_lt x (arc_count old.crossings + 1) then arc_of new.crossings (first_dart old.crossings x) else x
 
--- a code is what a slide leaves of another: its crossings are alike those of the slid code, with the old signs; and the slid code has
--- the other triangle at the three crossings
+-- a code is what a slide leaves of another, at the triangle of the darts x, y and z: it is accepted, with the old loops and signs; its
+-- crossings are alike those of the slid code, whose numbers go over to its own; and the slid code has the other triangle at the three
+-- crossings
 pub record IsSlidFrom (code new : Code) : Type 0 where
   pub x : ℕ
   pub y : ℕ

@@ -15,6 +15,7 @@ use Rattle.std.proofs.lemmas.List.FromFn.{fill_by_all, map-range_with_len_more}
 use Rattle.std.proofs.lemmas.Simd.{map-map}
 use Rattle.kh_types.specs.Complex.{Degree, IsComplex, degree_number, degree_from, degree_of, entry_in, entry_of}
 use Rattle.kh_types.specs.Generators.{Generator}
+use Rattle.kh_types.proofs.MatrixTests.{entry-past_rows}
 use Rattle.sparse_block.specs.Entries.{Entry, entries_of, value_at, AreEntries}
 use Rattle.sparse_block.specs.Complexes.{matrix_from, column_in, degree_from_lists, degrees_from, complex_from, all_alive, HaveEntries, SquaresToZero}
 use Rattle.std.specs.Global.{Vec}
@@ -23,7 +24,7 @@ use Rattle.sparse_block.specs.Inside.{IsKept, column_entries, row_entries, entri
 use Rattle.sparse_block.proofs.LineLemmas.{lines-lines_in}
 use Rattle.sparse_block.proofs.AscendingLemmas.{entries-ascend}
 use Rattle.sparse_block.proofs.EntryLemmas.{entries_of-line_of, value_at-below}
-use Rattle.sparse_block.proofs.MatrixLemmas.{length-matrix_from, row-matrix_from, column_in-matrix_from, entry-matrix_from, entry-past_rows}
+use Rattle.sparse_block.proofs.MatrixLemmas.{length-matrix_from, row-matrix_from, column_in-matrix_from, entry-matrix_from}
 use Rattle.sparse_block.proofs.DegreeLemmas.{degree_number-from, length-at, length-same}
 
 -- all places are alive, as many as there are names

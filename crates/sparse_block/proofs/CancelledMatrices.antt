@@ -17,7 +17,7 @@ use Rattle.kh_types.specs.Residues.{Same}
 use Rattle.kh_types.proofs.Residues.{same-equal, same-rest}
 use Rattle.kh_types.proofs.PivotLemmas.{leaves-row, leaves-column}
 use Rattle.kh_types.proofs.PlainRank.{other-below}
-use Rattle.kh_types.proofs.MatrixEntries.{entry_cancelled, entry_cancelled-below, entry-cancelled_matrix, leaves-entry_cancelled, entry-without_row, entry-without_column, matrix-without_row, matrix-without_column, matrix-with_entries}
+use Rattle.kh_types.proofs.MatrixEntries.{entry_cancelled, entry_cancelled-below, entry-cancelled_matrix, leaves-entry_cancelled, entry-without_row, entry-without_column, matrix-without_row, matrix-without_column, matrix-with_entries, if_zero}
 use Rattle.sparse_block.proofs.FieldInverses.{inverses-field}
 use Rattle.sparse_block.proofs.ComplexMatrices.{matrix-of_degree, entry-stands}
 use Rattle.sparse_block.proofs.CancelledDegrees.{Where, where_is, Died, died-cancel, degree-at_pivot, degree-after_pivot, degree-before_pivot, degree-elsewhere}
@@ -87,9 +87,6 @@ zero-modulo : (p : ℕ) (complex : Complex) (pivot : Pivot) (i : ℤ) (row colum
 zero-modulo p complex pivot i row column field is is_pivot same =
     sym (mod-eq_of_lt ((matrix-cancel p complex pivot i field is is_pivot).below row column)) ∙ same ∙ zero-mod p
 
-chosen-zero : (chosen : Bool) (x : ℕ) → x ≡ 0 → (if chosen then 0 else x) ≡ 0
-chosen-zero chosen x is_zero = grind (arith, nat_tests)
-
 way-zero : (x y z : ℕ) → (x ≡ 0) ⊎ (z ≡ 0) → x * (y * z) ≡ 0
 way-zero x y z has3 = grind (arith, nat_tests)
 
@@ -115,10 +112,10 @@ zero-cancel p complex pivot i row column field is is_pivot zero_there way =
           (ap (λ z. z % p) is_left ∙ same-rest p back left 0 none (leaves.others row column ∙ same-equal p entry 0 zero_there))
       | Where.is_after here ↦
           ap (λ degree. entry_in degree.matrix row column) (degree-after_pivot p complex pivot i here)
-          ∙ entry-without_column pivot.row rows row column ∙ chosen-zero (nat_eq column pivot.row) entry zero_there
+          ∙ entry-without_column pivot.row rows row column ∙ if_zero (nat_eq column pivot.row) entry zero_there
       | Where.is_before here ↦
           ap (λ degree. entry_in degree.matrix row column) (degree-before_pivot p complex pivot i here)
-          ∙ entry-without_row pivot.column rows row column ∙ chosen-zero (nat_eq row pivot.column) entry zero_there
+          ∙ entry-without_row pivot.column rows row column ∙ if_zero (nat_eq row pivot.column) entry zero_there
       | Where.is_elsewhere not_here not_after not_before ↦
           ap (λ degree. entry_in degree.matrix row column) (degree-elsewhere p complex pivot i not_here not_after not_before)
           ∙ zero_there

@@ -25,3 +25,11 @@ pub mod CancelledLists
 pub mod LinesAfter
 pub mod CancelledHeld
 pub mod OwnLines
+pub mod EntryValues
+pub mod RestLemmas
+pub mod PairLemmas
+pub mod AgreeLemmas
+pub mod CancelledNumbers
+pub mod HistoryLemmas
+pub mod ComesLemmas
+pub mod FindPivot

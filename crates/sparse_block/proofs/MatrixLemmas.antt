@@ -47,10 +47,6 @@ pub entry-matrix_from : (height row column : ℕ) (columns : List (List Entry)) 
     → entry_in (matrix_from height columns) row column ≡ value_at (get_or columns column []) row
 entry-matrix_from height row column columns within = grind (arith, nat_tests, row-matrix_from, number-row_at)
 
--- past the last row there is none
-pub entry-past_rows : (matrix : List (List ℕ)) (row column : ℕ) → length matrix ≤ row → entry_in matrix row column ≡ 0
-entry-past_rows matrix row column past = ap (λ (xs : List ℕ). slice_index xs column) (get_or_past matrix row [] past)
-
 -- one entry of a new column comes to the end of its row
 
 length-row_entry : (column value : ℕ) (xs : List Entry) → value ≡ 0 → xs ++ entries_from column (value ∷ []) ≡ xs

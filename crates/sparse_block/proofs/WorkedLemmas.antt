@@ -31,9 +31,6 @@ worked-five = complex-from_test 5 (worked_complex 2 3 1).complex (omega arith) r
 one-entry : (p x : ℕ) → 0 < x → x < p → AreEntries p 1 (entry_at (0, x) ∷ [])
 one-entry p x positive below = entries-from_ascend p 0 1 (entry_at (0, x) ∷ []) (omega arith, omega arith, positive, below, tt)
 
-no-entry : (p size : ℕ) → AreEntries p size []
-no-entry p size = entries-from_ascend p 0 size [] tt
-
 left-entries : (p : ℕ) → 2 < p → AreEntries p 3 (entry_at (0, 1) ∷ entry_at (1, 1) ∷ [])
 left-entries p above = grind (arith, nat_tests)
 

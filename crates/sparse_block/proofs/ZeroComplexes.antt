@@ -9,13 +9,14 @@ use Rattle.std.proofs.lemmas.List.{get_or-replicate, get_or_default, length-map,
 use Rattle.kh_types.specs.Complex.{Degree, IsComplex, degree_from, entry_in, entry_of}
 use Rattle.kh_types.specs.Generators.{Generator}
 use Rattle.kh_types.proofs.ListSums.{sum_by-zeros}
+use Rattle.kh_types.proofs.MatrixTests.{entry-past_rows}
 use Rattle.sparse_block.specs.Entries.{Entry, AreEntries, entries_from, entries_of, value_at}
 use Rattle.sparse_block.specs.Complexes.{complex_from, degree_from_lists, degrees_from, matrix_from, no_columns}
 use Rattle.sparse_block.specs.Inside.{IsKept, row_entries}
 use Rattle.sparse_block.proofs.BuildLemmas.{columns-built, complex-built}
 use Rattle.sparse_block.proofs.ClearedLists.{no-entries}
 use Rattle.sparse_block.proofs.DegreeLemmas.{degree_number-from}
-use Rattle.sparse_block.proofs.MatrixLemmas.{entry-matrix_from, entry-past_rows, length-matrix_from, row_at, rows_of-filled}
+use Rattle.sparse_block.proofs.MatrixLemmas.{entry-matrix_from, length-matrix_from, row_at, rows_of-filled}
 
 abbrev no_column : List Bool → List (List Entry)
 no_column degree = map (λ place. []) degree

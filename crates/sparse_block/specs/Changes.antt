@@ -1,4 +1,4 @@
--- What a cancellation changes in the pivot's own matrix, as whole new columns and rows (this project's rule).
+-- What a cancellation changes in the pivot's own matrix, as whole new columns and rows.
 use Rattle.std.specs.Prelude.{◌≡◌, ◌≢◌, ℕ, ◌<◌, List, map, All}
 use Rattle.std.specs.List.{Contains}
 use Rattle.kh_types.specs.Complex.{Pivot}

@@ -1,4 +1,4 @@
--- Complexes whose places have names, and what lists of entries for columns denote (this project's rule).
+-- Complexes whose places have names, and what lists of entries for columns denote.
 use Rattle.std.specs.Prelude.{◌≡◌, ℕ, ◌+◌, ◌<◌, ◌^◌, ℤ, pos, negsuc, ◌+ℤ◌, ◌-ℤ◌, ◌≤ℤ◌, List, [], length, map, Bool, true, slice_index, slice_index_or, All}
 use Rattle.std.specs.List.{range_with_len}
 use Rattle.kh_types.specs.Complex.{Complex, Degree, degree_of, product_entry}

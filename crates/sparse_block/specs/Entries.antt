@@ -1,4 +1,4 @@
--- Lists of entries, and the lines of numbers, columns and rows of a matrix, that they denote (this project's rule).
+-- Lists of entries, and the lines of numbers, columns and rows of a matrix, that they denote.
 use Rattle.std.specs.Prelude.{ℕ, ◌<◌, Bool, ◌&&◌, List, map, nat_eq, not, All}
 use Rattle.std.specs.List.{filter, find, enumerate_from, range_with_len}
 use Rattle.std.specs.List.Sorted.{IsStrictlyIncreasing}

@@ -1,4 +1,4 @@
--- The columns, or the rows, of one degree in memory: they may give their memory back once none has an entry (this project's rule).
+-- The columns, or the rows, of one degree in memory: they may give their memory back once none has an entry.
 use Rattle.std.specs.Prelude.{◌≡◌, ℕ, ◌-◌, ◌++◌, ◌⊎◌, List, [], length, nat_eq, not, replicate, Bool}
 use Rattle.std.specs.List.{count_by, list_all}
 use Rattle.sparse_block.specs.Entries.{Entry}

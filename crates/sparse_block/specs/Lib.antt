@@ -1,5 +1,8 @@
 pub mod Entries
+pub mod LinePairs
+pub mod Least
 pub mod Complexes
+pub mod Histories
 pub mod Held
 pub mod Inside
 pub mod Changes

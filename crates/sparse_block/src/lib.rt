@@ -12,7 +12,9 @@ mod entry;
 mod generator;
 mod held_lines;
 pub mod laws;
+mod line_pairs;
 mod lines;
+mod pivot;
 mod reading;
 
 pub use building::build;
@@ -22,4 +24,6 @@ pub use complex::Complex;
 pub use entry::{Entry, INLINE_ENTRIES, MOST_PLACES, MOST_VALUES};
 pub use generator::Generator;
 pub use laws::complex_laws;
+pub use line_pairs::{first_difference, subtract_into};
+pub use pivot::Pivot;
 pub use reading::{column_at, row_at, value_at};

@@ -22,7 +22,7 @@ use Rattle.kh_types.proofs.Residues.{same-add, same-equal, same-mul, same-multip
 use Rattle.plain_matrix.specs.Steps.{IsElimination}
 use Rattle.plain_matrix.specs.Steps.IsElimination.{over, step}
 
--- an entry other than 0, or none (as in cancel_step)
+-- an entry other than 0, or none (as in sparse_block's FindPivot)
 find_column : (row : List ℕ) → ((column : ℕ) × (slice_index row column ≢ 0)) ⊎ ((column : ℕ) → slice_index row column ≡ 0)
 find_column [] = inr (λ column. refl)
 find_column (x ∷ row) = elim (cases_eq x 0) [

@@ -13,12 +13,12 @@ use Rattle.kh_types.proofs.ListSums.{sum_by-zeros}
 use Rattle.kh_types.proofs.Residues.{same-equal, same-mul}
 use Rattle.prime_field.specs.SmallFields.{field-two}
 use Rattle.plain_matrix.proofs.FieldInverses.{inverses-field}
-use Rattle.cell_complexes.specs.Alike.{AreAlike, AreListed}
-use Rattle.cell_complexes.specs.Cells.{AreComplex, Cells, cells_at, differential_at, dimension_at, has_both, table_of}
-use Rattle.cell_complexes.proofs.AlikeCells.{dimension-alike}
-use Rattle.cell_complexes.proofs.Matched.{AreListed-matched}
-use Rattle.cell_complexes.proofs.Members.{Contains-kept, sum_by-members, sum_by-same}
-use Rattle.cell_complexes.proofs.NoDoubles.{sum_by-only}
+use Rattle.cell_laws.specs.Alike.{AreAlike, AreListed}
+use Rattle.cell_laws.specs.Cells.{AreComplex, Cells, cells_at, differential_at, dimension_at, has_both, table_of}
+use Rattle.cell_laws.proofs.AlikeCells.{dimension-alike}
+use Rattle.cell_laws.proofs.Matched.{AreListed-matched}
+use Rattle.cell_laws.proofs.Members.{Contains-kept, sum_by-members, sum_by-same}
+use Rattle.cell_laws.proofs.NoDoubles.{sum_by-only}
 use Rattle.split_laws.specs.Splits.{HasHalves, Splits, fails, part_of}
 use Rattle.split_laws.proofs.SplitCells.{dimension-split}
 use Rattle.split_laws.proofs.SplitRanks.{fails-is, is-fails}

@@ -15,10 +15,10 @@ use Rattle.kh_types.specs.Rank.{rank}
 use Rattle.kh_types.specs.Residues.{HasInverses, Same}
 use Rattle.kh_types.proofs.Residues.{same-equal}
 use Rattle.kh_types.proofs.Sums.{sum_below-equal, sum_below-zeros}
-use Rattle.cell_complexes.specs.Cells.{AreComplex, Cells, cells_at, differential_at, has_both, table_of}
-use Rattle.cell_complexes.proofs.LeftCells.{both-decides, both-from}
-use Rattle.cell_complexes.proofs.Members.{Contains-kept, sum_by-kept}
-use Rattle.cell_complexes.proofs.Tables.{IsMatrix-table, StandsAt, entry-at, entry-past_heads, entry-past_tails, rank-table, read, read-past, stands_or_past, sum_below-list}
+use Rattle.cell_laws.specs.Cells.{AreComplex, Cells, cells_at, differential_at, has_both, table_of}
+use Rattle.cell_laws.proofs.LeftCells.{both-decides, both-from}
+use Rattle.cell_laws.proofs.Members.{Contains-kept, sum_by-kept}
+use Rattle.cell_laws.proofs.Tables.{IsMatrix-table, StandsAt, entry-at, entry-past_heads, entry-past_tails, rank-table, read, read-past, stands_or_past, sum_below-list}
 use Rattle.split_laws.proofs.BlockRanks.{elimination, factors-triangular}
 
 -- the identity

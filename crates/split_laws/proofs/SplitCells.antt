@@ -5,9 +5,9 @@ use Rattle.std.proofs.lemmas.Bool.{cases_eq}
 use Rattle.kh_types.specs.Rank.{rank}
 use Rattle.kh_types.specs.Residues.{HasInverses}
 use Rattle.kh_types.proofs.Residues.{same-equal}
-use Rattle.cell_complexes.specs.Cells.{AreComplex, Cells, cells_at, differential_at, dimension_at, has_both, table_of}
-use Rattle.cell_complexes.proofs.LeftCells.{both-decides, both-from, next-degree}
-use Rattle.cell_complexes.proofs.Members.{Contains-kept, filter-exchanged, sum_by-kept}
+use Rattle.cell_laws.specs.Cells.{AreComplex, Cells, cells_at, differential_at, dimension_at, has_both, table_of}
+use Rattle.cell_laws.proofs.LeftCells.{both-decides, both-from, next-degree}
+use Rattle.cell_laws.proofs.Members.{Contains-kept, filter-exchanged, sum_by-kept}
 use Rattle.split_laws.specs.Splits.{Splits, fails, part_of}
 use Rattle.split_laws.proofs.RanksFit.{ranks-fit}
 use Rattle.split_laws.proofs.SplitRanks.{is-fails, rank-split}

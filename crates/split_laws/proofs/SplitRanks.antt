@@ -12,9 +12,9 @@ use Rattle.kh_types.proofs.Lists.{Contains-filter}
 use Rattle.kh_types.proofs.ListSums.{sum_by-times, sum_by-zeros}
 use Rattle.kh_types.proofs.PivotLemmas.{rank-determined}
 use Rattle.kh_types.proofs.Residues.{same-add, same-equal, same-multiple}
-use Rattle.cell_complexes.specs.Cells.{table_of}
-use Rattle.cell_complexes.proofs.Members.{Contains-kept, sum_by-members}
-use Rattle.cell_complexes.proofs.Tables.{IsCombined, StandsAt, IsMatrix-table, entries-each, entry-at, entry-past_heads, entry-past_tails, factors-more_heads, factors-more_tails, rank-table, stands_or_past}
+use Rattle.cell_laws.specs.Cells.{table_of}
+use Rattle.cell_laws.proofs.Members.{Contains-kept, sum_by-members}
+use Rattle.cell_laws.proofs.Tables.{IsCombined, StandsAt, IsMatrix-table, entries-each, entry-at, entry-past_heads, entry-past_tails, factors-more_heads, factors-more_tails, rank-table, stands_or_past}
 use Rattle.split_laws.specs.Splits.{fails}
 use Rattle.split_laws.proofs.BlockRanks.{elimination, factors-sum, factors-triangular}
 

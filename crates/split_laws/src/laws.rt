@@ -3,7 +3,7 @@
 ghost use Rattle.std.specs.Prelude.{◌≡◌, ℕ, ◌+◌, ◌≤◌, ℤ, pos, ◌-ℤ◌, length, Bool};
 ghost use Rattle.kh_types.specs.Rank.{rank};
 ghost use Rattle.kh_types.specs.Residues.{HasInverses};
-ghost use Rattle.cell_complexes.specs.Cells.{AreComplex, Cells, cells_at, differential_at, dimension_at};
+ghost use Rattle.cell_laws.specs.Cells.{AreComplex, Cells, cells_at, differential_at, dimension_at};
 ghost use Rattle.split_laws.specs.Splits.{HasHalves, Splits, fails, part_of};
 
 /// The ranks out of the cells of a degree and into them are together at most their number.

@@ -1,5 +1,4 @@
-//! Complexes that split in two parts, and what this says of their dimensions. It has laws, and no
-//! code.
+//! Complexes that split in two parts, and what this says of their dimensions.
 #![tactic(auto)]
 
 pub mod laws;

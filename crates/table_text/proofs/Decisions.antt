@@ -15,7 +15,7 @@ use Rattle.kh_types.proofs.QuantumDegrees.{IsWithin-place, place-IsWithin}
 use Rattle.kh_types.specs.declared.limits.TheConstants.{CROSSINGS, EXPONENT}
 use Rattle.kh_types.specs.Table.{IsWithin, Row, row_text}
 use Rattle.circle_smoothing.specs.declared.limits.TheConstants.{GENERATORS}
-use Rattle.jones_sum.specs.Tables.{IsRow, IsBefore}
+use Rattle.homology_tables.specs.Tables.{IsRow, IsBefore}
 use Rattle.table_text.specs.Lines.{field_text}
 use Rattle.table_text.specs.Versions.{far, wide, IsRowIn}
 use Rattle.table_text.specs.Words.{IsFieldIn, IsNextRow}

@@ -1,4 +1,3 @@
-pub mod TermLemmas
 pub mod LineLemmas
 pub mod LineTexts
 pub mod RowOrder

@@ -25,7 +25,7 @@ use Rattle.circle_smoothing.specs.declared.limits.TheConstants.{GENERATORS}
 use Rattle.kh_lex.specs.Numerals.{signed_numeral_of}
 use Rattle.kh_lex.specs.declared.limits.TheConstants.{NUMBER_DIGITS}
 use Rattle.kh_lex.proofs.NumeralReads.{WritesSigned-signed_decimal, signed_numeral_of-WritesSigned}
-use Rattle.jones_sum.specs.Tables.{IsRow}
+use Rattle.homology_tables.specs.Tables.{IsRow}
 use Rattle.table_text.specs.Lines.{first_line, field_text}
 use Rattle.kh_lex.specs.Lines.{is_line_feed}
 use Rattle.table_text.specs.Words.{is_end, word_of, behind_word, IsFieldIn}

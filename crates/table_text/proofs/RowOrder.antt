@@ -10,7 +10,7 @@ use Rattle.std.proofs.lemmas.List.Quantifiers.{all_pairs_push}
 use Rattle.std.proofs.Math.Seq.{get_or-append_seam}
 use Rattle.prime_field.specs.Residues.{IsSmallPrime}
 use Rattle.kh_types.specs.Table.{Row, Table}
-use Rattle.jones_sum.specs.Tables.{IsRow, IsBefore, IsTable}
+use Rattle.homology_tables.specs.Tables.{IsRow, IsBefore, IsTable}
 use Rattle.table_text.specs.Versions.{IsRowIn, IsTableIn}
 use Rattle.table_text.specs.Words.{CanFollow}
 use Rattle.table_text.specs.declared.version.Version.{Version}

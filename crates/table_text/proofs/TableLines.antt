@@ -13,7 +13,7 @@ use Rattle.std.proofs.lemmas.List.Concat.{flat_map-append}
 use Rattle.std.proofs.lemmas.List.Elements.{All-head, All-tail}
 use Rattle.std.proofs.Math.Seq.{take-add, take-append_seam, drop-length, take-length}
 use Rattle.kh_types.specs.Table.{Row, Table, row_text}
-use Rattle.jones_sum.specs.Tables.{IsRow, IsTable}
+use Rattle.homology_tables.specs.Tables.{IsRow, IsTable}
 use Rattle.table_text.specs.Lines.{first_line, field_text}
 use Rattle.table_text.specs.Versions.{IsTableIn, table_lines}
 use Rattle.table_text.specs.Words.{AreTableLines, HasWrongLineIn, IsFieldIn, IsNextRow}

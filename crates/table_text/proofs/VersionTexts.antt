@@ -13,7 +13,7 @@ use Rattle.std.proofs.lemmas.List.{append-nil, append_assoc, append_cancel_left,
 use Rattle.std.proofs.lemmas.Slice.Eq.{bytes_eq-Decides}
 use Rattle.std.proofs.Math.Seq.{take-append-add, drop-append-add}
 use Rattle.kh_types.specs.Table.{Table, table_text}
-use Rattle.jones_sum.specs.Tables.{IsTable}
+use Rattle.homology_tables.specs.Tables.{IsTable}
 use Rattle.table_text.specs.declared.stop.TableStop.{TableStop}
 use Rattle.table_text.specs.declared.stop.TableStop.TheVariants.{Text, NoMemory}
 use Rattle.table_text.specs.declared.version.Version.{Version}

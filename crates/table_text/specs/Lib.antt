@@ -1,4 +1,3 @@
-pub mod Terms
 pub mod Lines
 pub mod Versions
 pub mod Reading

@@ -3,7 +3,7 @@ use Rattle.std.specs.Prelude.{ℕ, List, ◌++◌, codes}
 use Rattle.std.specs.List.{All, flat_map}
 use Rattle.kh_types.specs.declared.limits.TheConstants.{CROSSINGS, EXPONENT}
 use Rattle.kh_types.specs.Table.{IsWithin, Row, Table, row_text}
-use Rattle.jones_sum.specs.Tables.{IsRow, IsTable}
+use Rattle.homology_tables.specs.Tables.{IsRow, IsTable}
 use Rattle.table_text.specs.Lines.{field_text}
 use Rattle.table_text.specs.declared.limits.TheConstants.{FIRST_CROSSINGS, FIRST_EXPONENT}
 use Rattle.table_text.specs.declared.version.Version.{Version}

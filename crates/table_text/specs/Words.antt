@@ -3,7 +3,7 @@ use Rattle.std.specs.Prelude.{◌≡◌, ℕ, ◌+◌, ◌≤◌, ◌⊎◌, nat
 use Rattle.std.specs.List.{All, position_or_len}
 use Rattle.prime_field.specs.Residues.{IsSmallPrime}
 use Rattle.kh_types.specs.Table.{Row, Table, row_text}
-use Rattle.jones_sum.specs.Tables.{IsBefore}
+use Rattle.homology_tables.specs.Tables.{IsBefore}
 use Rattle.table_text.specs.Lines.{field_text, first_line}
 use Rattle.table_text.specs.Versions.{IsRowIn, IsTableIn, table_lines}
 use Rattle.table_text.specs.declared.stop.TableStop.{TableStop}

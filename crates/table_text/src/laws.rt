@@ -2,7 +2,7 @@
 
 ghost use Rattle.std.specs.Prelude.{◌≡◌, ◌≢◌, ◌↔◌, ◌++◌, ℕ, List, [], codes, Result, Ok, Err};
 ghost use Rattle.kh_types.specs.Table.{Table as Plain, table_text};
-ghost use Rattle.jones_sum.specs.Tables.{IsTable};
+ghost use Rattle.homology_tables.specs.Tables.{IsTable};
 ghost use Rattle.table_text.specs.Lines.{first_line};
 ghost use Rattle.table_text.specs.Reading.{IsTableReading, IsTableText};
 ghost use Rattle.table_text.specs.Versions.{version_line};

@@ -1,7 +1,6 @@
-//! The texts of a diagram's invariants: tables, printed and read, and the Jones line.
+//! The texts of homology tables in both versions, printed and read, each with one reading.
 #![tactic(auto)]
 
-mod jones_line;
 pub mod laws;
 mod limits;
 mod lines;
@@ -11,9 +10,8 @@ mod stop;
 mod version;
 mod words;
 
-pub use jones_line::print_jones;
-pub use jones_sum::{Row, Table};
+pub use homology_tables::{Row, Table};
 pub use limits::{FIRST_CROSSINGS, FIRST_EXPONENT, TABLE_BYTES};
-pub use printer::{head_text, print_table, push_line};
+pub use printer::print_table;
 pub use reader::read_table;
 pub use stop::TableStop;

@@ -3,7 +3,7 @@
 ghost use Rattle.std.specs.Prelude.{◌≡◌, ◌≤◌, pos, ◌↔◌, IsTrue, IfOk, IfSome, Some, length, drop};
 ghost use Rattle.std.specs.List.{All, AllPairs, position};
 ghost use Rattle.kh_types.specs.Table.{Row, row_text};
-ghost use Rattle.jones_sum.specs.Tables.{IsBefore};
+ghost use Rattle.homology_tables.specs.Tables.{IsBefore};
 ghost use Rattle.table_text.specs.Lines.{first_line};
 ghost use Rattle.kh_lex.specs.Lines.{is_line_feed};
 ghost use Rattle.table_text.specs.Versions.{IsRowIn};
@@ -13,7 +13,7 @@ use crate::printer::row_text;
 use crate::version::Version;
 use crate::words::{behind_word, number, word};
 use circle_smoothing::GENERATORS;
-use jones_sum::Row;
+use homology_tables::Row;
 use kh_types::NoMemory;
 use std::alloc::Global;
 

@@ -11,11 +11,11 @@ use crate::limits::TABLE_BYTES;
 use crate::lines::{field_in, line_at, next_row};
 use crate::stop::TableStop;
 use crate::version::Version;
-use jones_sum::Table;
+use homology_tables::Table;
 use std::alloc::Global;
 
 /// Reads the text of a table, of version 1 or 2: exactly the texts of tables are read, and another
-/// text is refused at its first wrong line. Source: this project's rule.
+/// text is refused at its first wrong line.
 pub fn read_table(alloc: Global, text: &[u8]) -> Result<Table, TableStop>
     requires { length text.now ≤ TABLE_BYTES }
     ensures { result ≢ Err TableStop.NoMemory → IsTableReading text.now result }

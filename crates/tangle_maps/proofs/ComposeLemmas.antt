@@ -14,8 +14,8 @@ use Rattle.kh_types.specs.Classes.{classes_of, is_least}
 use Rattle.kh_types.specs.Rank.{inverse}
 use Rattle.kh_types.proofs.Residues.{same-add, same-mul, same-scaled}
 use Rattle.prime_field.specs.Residues.{IsField, negative_mod}
-use Rattle.dotted_surfaces.specs.Points.{Points, discs}
-use Rattle.dotted_surfaces.proofs.Components.{AllByRecursion-at, AllByRecursion-weaker}
+use Rattle.surface_laws.specs.Points.{Points, discs}
+use Rattle.surface_laws.proofs.Components.{AllByRecursion-at, AllByRecursion-weaker}
 use Rattle.dotted_maps.specs.declared.term.Term.{Term}
 use Rattle.dotted_maps.specs.Parts.{components, component_in, product_over}
 use Rattle.dotted_maps.specs.Maps.{coefficient_in, scaled}

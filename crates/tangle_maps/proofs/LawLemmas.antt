@@ -16,7 +16,7 @@ use Rattle.kh_types.proofs.Lists.{AllByRecursion-append}
 use Rattle.dotted_maps.specs.declared.term.Term.{Term}
 use Rattle.dotted_maps.specs.Choices.{listed}
 use Rattle.dotted_maps.specs.Maps.{AreDotted, AreOneMap, coefficient_in, identity, matrix_of, scaled}
-use Rattle.dotted_surfaces.specs.Points.{Points, ArePlaced, IsOpenPairing, circles, discs, inner}
+use Rattle.surface_laws.specs.Points.{Points, ArePlaced, IsOpenPairing, circles, discs, inner}
 use Rattle.dotted_maps.specs.Terms.{AreGlued}
 use Rattle.dotted_maps.proofs.Listed.{IsComposition-listed}
 use Rattle.dotted_maps.proofs.MapProducts.{matrix-added, matrix-same}

@@ -18,8 +18,8 @@ use Rattle.kh_types.proofs.JoinedClasses.{classes_of-same}
 use Rattle.kh_types.proofs.Residues.{same-mul}
 use Rattle.kh_types.proofs.ListSums.{sum_by-alike, sum_by-zeros}
 use Rattle.kh_types.proofs.Lists.{AllByRecursion-append, AllByRecursion-first, AllByRecursion-second, count_by-map}
-use Rattle.dotted_surfaces.specs.Points.{ArePlaced, AreAmong, IsOpenPairing, Points, discs, ends_of}
-use Rattle.dotted_surfaces.proofs.Components.{AllByRecursion-at, AllByRecursion-weaker}
+use Rattle.surface_laws.specs.Points.{ArePlaced, AreAmong, IsOpenPairing, Points, discs, ends_of}
+use Rattle.surface_laws.proofs.Components.{AllByRecursion-at, AllByRecursion-weaker}
 use Rattle.dotted_maps.specs.declared.term.Term.{Term}
 use Rattle.dotted_maps.specs.Choices.{choices, composed_terms, factor_at, fewer, listed, load_on, undotted_at}
 use Rattle.dotted_maps.specs.Maps.{AreDotted, coefficient_in, scaled}

@@ -16,9 +16,9 @@ use Rattle.std.proofs.lemmas.List.Sorted.{IsPermutation-refl, IsPermutation-sym,
 use Rattle.kh_types.specs.Bits.{one_if}
 use Rattle.kh_types.proofs.ListSums.{sum_by-alike, sum_by-map, sum_by-flat_map, sum_by-filter, sum_by-single, sum_by-none}
 use Rattle.kh_types.proofs.Lists.{Contains-filter}
-use Rattle.dotted_surfaces.proofs.TwoSides.{AllByRecursion-map}
-use Rattle.dotted_surfaces.proofs.Components.{AllByRecursion-at, AllByRecursion-weaker}
-use Rattle.dotted_surfaces.specs.Points.{AreAmong, ArePlaced, IsOpenPairing, ends_of}
+use Rattle.surface_laws.proofs.TwoSides.{AllByRecursion-map}
+use Rattle.surface_laws.proofs.Components.{AllByRecursion-at, AllByRecursion-weaker}
+use Rattle.surface_laws.specs.Points.{AreAmong, ArePlaced, IsOpenPairing, ends_of}
 use Rattle.dotted_maps.proofs.LeastPoints.{AllByRecursion-filter, all-themselves}
 use Rattle.tangle_maps.specs.declared.pairing.TheConstants.{POINTS}
 use Rattle.tangle_maps.specs.Pairings.{ArePartners, IsOpened, is_paired, joins_of, leads, opened_points, paired_arcs, with_partner}

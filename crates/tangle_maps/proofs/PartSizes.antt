@@ -8,8 +8,8 @@ use Rattle.std.specs.List.{count_by, sum_by, enumerate_from, AllByRecursion}
 use Rattle.std.proofs.lemmas.List.Sums.{sum_by-cons}
 use Rattle.kh_types.specs.Bits.{bit}
 use Rattle.kh_types.specs.Classes.{classes_of, is_least}
-use Rattle.dotted_surfaces.specs.Points.{ArePlaced, AreAmong, IsOpenPairing, discs, least_points}
-use Rattle.dotted_surfaces.proofs.Components.{AllByRecursion-weaker}
+use Rattle.surface_laws.specs.Points.{ArePlaced, AreAmong, IsOpenPairing, discs, least_points}
+use Rattle.surface_laws.proofs.Components.{AllByRecursion-weaker}
 use Rattle.dotted_maps.specs.Composition.{composed}
 use Rattle.dotted_maps.specs.Parts.{components, component_in, dotted_on, undotted_on, genus_in, part_at, part_coefficient, product_over}
 use Rattle.dotted_maps.proofs.ComponentParts.{composed-parts}

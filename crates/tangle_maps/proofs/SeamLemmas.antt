@@ -14,7 +14,7 @@ use Rattle.tangle_maps.specs.declared.pairing.TheConstants.{POINTS}
 use Rattle.std.proofs.lemmas.List.Elements.{Contains-push_cases}
 use Rattle.kh_types.proofs.Lists.{count_by-map, enumerate_from-push}
 use Rattle.kh_types.proofs.ListSums.{sum_by-zeros}
-use Rattle.dotted_surfaces.specs.Points.{discs}
+use Rattle.surface_laws.specs.Points.{discs}
 use Rattle.dotted_maps.specs.Parts.{components, component_in}
 use Rattle.dotted_maps.proofs.LeastPoints.{AllByRecursion-filter}
 use Rattle.tangle_maps.specs.declared.seam.Seam.{Seam}

@@ -3,7 +3,7 @@ use Rattle.std.proofs.Common.{◌≡◌, ℕ, zero, suc, ◌+◌, ◌<◌, ◌�
 use Rattle.std.specs.Prelude.{slice_index, nat_eq}
 use Rattle.std.specs.List.{fold, filter, range_with_len, AllByRecursion}
 use Rattle.kh_types.specs.Classes.{AreBelow, classes_of, is_least, joined, merged, merged_all}
-use Rattle.dotted_surfaces.specs.Points.{least_points}
+use Rattle.surface_laws.specs.Points.{least_points}
 
 map-take : (f : ℕ → ℕ) (n : ℕ) (xs : List ℕ) → take n (map f xs) ≡ map f (take n xs)
 map-take f zero [] = refl

@@ -1,6 +1,6 @@
 -- What a composition needs of the three pairings of a way.
 use Rattle.std.proofs.Common.{◌≡◌, ℕ, ◌≤◌, List, length, subst, sym}
-use Rattle.dotted_surfaces.specs.Points.{ArePlaced, AreAmong, IsOpenPairing}
+use Rattle.surface_laws.specs.Points.{ArePlaced, AreAmong, IsOpenPairing}
 use Rattle.dotted_maps.proofs.Listed.{AreListed}
 use Rattle.tangle_maps.specs.declared.pairing.TheConstants.{POINTS}
 use Rattle.tangle_maps.specs.declared.way.Way.{Way}

@@ -2,7 +2,7 @@
 use Rattle.std.specs.Prelude.{◌≡◌, ℕ, ◌<◌, List, map, not, nat_eq, nat_lt, Bool, slice_index, slice_set}
 use Rattle.std.specs.List.{filter, range_with_len, AllByRecursion}
 use Rattle.tangle_maps.specs.declared.pairing.TheConstants.{POINTS}
-use Rattle.dotted_surfaces.specs.Points.{Points}
+use Rattle.surface_laws.specs.Points.{Points}
 
 -- partners, by arc: each number below POINTS has another one below it, or itself, and is the partner of its partner
 pub record ArePartners (partners : List ℕ) : Type 0 where

@@ -2,7 +2,7 @@
 use Rattle.std.specs.Prelude.{◌≡◌, ℕ, ◌≤◌, length, ◌+◌, ◌-◌, ◌*◌, ◌/◌, List, map, nat_eq, slice_index, if◌then◌else◌}
 use Rattle.std.specs.List.{count_by, sum_by, enumerate_from, flat_map, AllByRecursion, Contains}
 use Rattle.kh_types.specs.Bits.{bit}
-use Rattle.dotted_surfaces.specs.Points.{Points, discs}
+use Rattle.surface_laws.specs.Points.{Points, discs}
 use Rattle.dotted_maps.specs.Parts.{components, component_in, genus_in, product_over}
 use Rattle.dotted_maps.specs.Choices.{choices}
 use Rattle.dotted_maps.specs.declared.term.Term.{Term}

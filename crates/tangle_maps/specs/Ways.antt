@@ -2,7 +2,7 @@
 use Rattle.std.specs.Prelude.{◌≡◌, ℕ, ◌+◌, ◌*◌, ◌^◌, ◌<◌, List, length, Some}
 use Rattle.kh_types.specs.Rank.{inverse}
 use Rattle.kh_types.specs.Residues.{Same}
-use Rattle.dotted_surfaces.specs.Points.{Points, discs}
+use Rattle.surface_laws.specs.Points.{Points, discs}
 use Rattle.dotted_maps.specs.declared.term.Term.{Term}
 use Rattle.dotted_maps.specs.Choices.{listed}
 use Rattle.dotted_maps.specs.Maps.{AreDotted, IsComposition, coefficient_in, composed_in}

@@ -6,7 +6,7 @@ ghost use Rattle.kh_types.specs.Residues.{Same};
 ghost use Rattle.dotted_maps.specs.Choices.{listed};
 ghost use Rattle.dotted_maps.specs.Composition.{composed};
 ghost use Rattle.dotted_maps.specs.Maps.{AreDotted, AreOneMap, coefficient_in, identity, matrix_of, scaled};
-ghost use Rattle.dotted_surfaces.specs.Points.{Points, ArePlaced, AreAmong, IsOpenPairing, circles, inner, least_points};
+ghost use Rattle.surface_laws.specs.Points.{Points, ArePlaced, AreAmong, IsOpenPairing, circles, inner, least_points};
 ghost use Rattle.std.specs.List.{AllByRecursion};
 ghost use Rattle.kh_types.specs.Classes.{AreBelow, classes_of};
 ghost use Rattle.dotted_maps.specs.Terms.{AreGlued};

@@ -1,4 +1,5 @@
-//! Maps between pairings of open arcs: sums of dotted discs, and their compositions.
+//! Maps between pairings in memory: sums of dotted discs, kept reduced, their compositions, and
+//! what a cancellation makes of an entry.
 #![tactic(auto)]
 
 mod cancelling;

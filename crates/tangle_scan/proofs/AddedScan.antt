@@ -7,12 +7,11 @@ use Rattle.std.specs.List.{Contains, filter, range_with_len}
 use Rattle.std.proofs.lemmas.List.{get_or-map, length-map}
 use Rattle.std.proofs.lemmas.List.Elements.{All-get_or, All-map, Contains-get_or}
 use Rattle.kh_types.specs.Code.{Code}
-use Rattle.kh_types.proofs.Lists.{filter-range_all}
-use Rattle.dotted_surfaces.specs.Points.{discs}
-use Rattle.added_crossings.specs.Codes.{points_at}
-use Rattle.cell_complexes.specs.Alike.{AreMatched, HasNoDoubles}
-use Rattle.cell_complexes.proofs.ExchangedCubes.{range-contains}
-use Rattle.cell_complexes.proofs.Members.{Contains-kept}
+use Rattle.kh_types.proofs.Lists.{filter-range_all, range-contains}
+use Rattle.surface_laws.specs.Points.{discs}
+use Rattle.added_crossing_laws.specs.Codes.{points_at}
+use Rattle.cell_laws.specs.Alike.{AreMatched, HasNoDoubles}
+use Rattle.cell_laws.proofs.Members.{Contains-kept}
 use Rattle.tangle_maps.specs.Pairings.{paired_arcs}
 use Rattle.tangle_maps.specs.Sums.{HaveDotsBelow}
 use Rattle.scan_laws.specs.Scans as scans

@@ -9,7 +9,7 @@ use Rattle.std.proofs.lemmas.List.Concat.{flat_map-append}
 use Rattle.std.proofs.lemmas.List.Elements.{filter-append}
 use Rattle.std.proofs.lemmas.List.FromFn.{map-range_with_len_more, get_or-map-range_with_len, get_or-range_with_len, length-map-range_with_len, length-range_with_len}
 use Rattle.kh_types.proofs.Ranges.{range_around, range_more}
-use Rattle.added_crossings.specs.Codes.{closed_at}
+use Rattle.added_crossing_laws.specs.Codes.{closed_at}
 use Rattle.scan_laws.specs.Scans.{pairs_of}
 use Rattle.scan_laws.specs.Adding.{Origin, origin_of, origins_of, origins_with}
 use Rattle.crossing_maps.specs.declared.splitting.Split.{Split}

@@ -7,10 +7,10 @@ use Rattle.std.specs.List.{Contains, count_by, flat_map, range_with_len}
 use Rattle.std.proofs.lemmas.Bool.{eqb-true}
 use Rattle.std.proofs.lemmas.List.Elements.{All-contains, Contains-append_cases}
 use Rattle.kh_types.proofs.Lists.{count_by-map}
-use Rattle.added_crossings.specs.Codes.{closed_at}
-use Rattle.cell_complexes.specs.Alike.{HasNoDoubles}
-use Rattle.cell_complexes.proofs.Members.{Contains-flattened, Contains-made}
-use Rattle.cell_complexes.proofs.NoDoubles.{once-append, once-flat, once-map, once-range}
+use Rattle.added_crossing_laws.specs.Codes.{closed_at}
+use Rattle.cell_laws.specs.Alike.{HasNoDoubles}
+use Rattle.cell_laws.proofs.Members.{Contains-flattened, Contains-made}
+use Rattle.cell_laws.proofs.NoDoubles.{once-append, once-flat, once-map, once-range}
 use Rattle.scan_laws.specs.Scans.{Scan, first_object, pairs_of}
 use Rattle.scan_laws.specs.Adding.{Origin, origin_of, origins_with}
 use Rattle.scan_laws.proofs.Origins.{is_same, origins-test}

@@ -14,7 +14,7 @@ use Rattle.std.proofs.lemmas.List.Sums.{sum_by-cons, sum_by_push}
 use Rattle.std.proofs.lemmas.Option.{slice_get_past}
 use Rattle.kh_types.specs.Bits.{one_if}
 use Rattle.kh_types.proofs.Lists.{count_by-map}
-use Rattle.cell_complexes.proofs.Members.{Contains-cases, Contains-first, Contains-later}
+use Rattle.cell_laws.proofs.Members.{Contains-cases, Contains-first, Contains-later}
 use Rattle.dotted_maps.specs.declared.term.Term.{Term}
 use Rattle.tangle_maps.specs.Sums.{AreReduced}
 use Rattle.tangle_scan.specs.declared.column.Entry.{Entry}

@@ -13,11 +13,11 @@ use Rattle.kh_types.specs.Code.{Code}
 use Rattle.kh_types.specs.Rank.{inverse}
 use Rattle.kh_types.specs.Residues.{Same}
 use Rattle.kh_types.proofs.Residues.{same-equal}
-use Rattle.dotted_surfaces.specs.Points.{discs}
+use Rattle.surface_laws.specs.Points.{discs}
 use Rattle.dotted_maps.specs.declared.term.Term.{Term}
 use Rattle.dotted_maps.specs.Maps.{AreDotted, coefficient_in, composed_in, identity, scaled}
-use Rattle.added_crossings.specs.Codes.{points_at}
-use Rattle.cell_complexes.specs.Alike.{AreListed}
+use Rattle.added_crossing_laws.specs.Codes.{points_at}
+use Rattle.cell_laws.specs.Alike.{AreListed}
 use Rattle.scan_laws.specs.Scans.{HasDots, Scan, dot_sets, first_object, pairs_of}
 use Rattle.scan_laws.specs.Scans as scans
 use Rattle.scan_laws.specs.Eliminating.{IsEliminating, IsNumber, way_coefficient}

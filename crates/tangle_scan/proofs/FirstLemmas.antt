@@ -12,8 +12,8 @@ use Rattle.kh_types.proofs.AcceptedLemmas.{HasArcsTwice-accepted}
 use Rattle.kh_types.proofs.FilteredRanges.{filter-none}
 use Rattle.dotted_maps.specs.Maps.{coefficient_in}
 use Rattle.dotted_maps.specs.declared.term.Term.{Term}
-use Rattle.added_crossings.specs.Codes.{is_open}
-use Rattle.cell_complexes.proofs.NoDoubles.{once-range}
+use Rattle.added_crossing_laws.specs.Codes.{is_open}
+use Rattle.cell_laws.proofs.NoDoubles.{once-range}
 use Rattle.scan_laws.specs.Scans as scans
 use Rattle.scan_laws.specs.Scans.{Scan, dot_sets, first_object, first_scan}
 use Rattle.scan_laws.specs.Steps.{IsReached, IsScanStep}

@@ -9,10 +9,10 @@ use Rattle.std.proofs.lemmas.Bool.{and_left, and_right, cases_eq, cases_lt, eq-e
 use Rattle.std.proofs.lemmas.List.{get_or-map, get_or-set_other, get_or-set_same, get_or_past, length-map, length-set, map-set, set-get_or}
 use Rattle.std.proofs.lemmas.List.Elements.{All-cons, All-contains, All-get_or, All-map, All-nil, All-set}
 use Rattle.kh_types.proofs.Lists.{Contains-filter}
-use Rattle.cell_complexes.specs.Alike.{HasNoDoubles}
-use Rattle.cell_complexes.proofs.Members.{Contains-first, Contains-kept, Contains-later}
-use Rattle.cell_complexes.proofs.NoDoubles.{once-range, once-filter}
-use Rattle.cell_complexes.proofs.CellLists.{contains-range}
+use Rattle.cell_laws.specs.Alike.{HasNoDoubles}
+use Rattle.cell_laws.proofs.Members.{Contains-first, Contains-kept, Contains-later}
+use Rattle.cell_laws.proofs.NoDoubles.{once-range, once-filter}
+use Rattle.cell_laws.proofs.CellLists.{contains-range}
 use Rattle.scan_laws.proofs.Possible.{others}
 use Rattle.tangle_scan.specs.declared.column.Entry.{Entry}
 use Rattle.tangle_scan.specs.declared.object.Object.{Object}

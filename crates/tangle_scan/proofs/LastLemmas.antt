@@ -18,8 +18,8 @@ use Rattle.kh_types.specs.Residues.{HasInverses}
 use Rattle.kh_types.proofs.Lists.{Contains-filter}
 use Rattle.dotted_maps.specs.Maps.{coefficient_in}
 use Rattle.dotted_maps.specs.declared.term.Term.{Term}
-use Rattle.added_crossings.specs.Codes.{points_at}
-use Rattle.cell_complexes.proofs.Members.{Contains-kept}
+use Rattle.added_crossing_laws.specs.Codes.{points_at}
+use Rattle.cell_laws.proofs.Members.{Contains-kept}
 use Rattle.scan_laws.specs.Scans.{IsScanOf, Scan, dot_sets, pairs_of}
 use Rattle.scan_laws.specs.Steps.{IsLast}
 use Rattle.scan_laws.proofs.LastPoints.{nothing-open}

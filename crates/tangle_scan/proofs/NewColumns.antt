@@ -17,16 +17,16 @@ use Rattle.kh_types.proofs.Lists.{Contains-filter, Contains-flat_map, Contains-m
 use Rattle.kh_types.proofs.Residues.{same-equal}
 use Rattle.dotted_maps.specs.declared.term.Term.{Term}
 use Rattle.dotted_maps.specs.Maps.{coefficient_in}
-use Rattle.dotted_surfaces.specs.Surfaces.{value}
-use Rattle.added_crossings.specs.Codes.{closed_at}
-use Rattle.added_crossings.specs.Entries.{added_surface}
-use Rattle.cell_complexes.specs.Alike.{HasNoDoubles}
-use Rattle.cell_complexes.proofs.Matched.{place-once}
-use Rattle.cell_complexes.proofs.Members.{Contains-cases, Contains-first, Contains-kept, Contains-later}
+use Rattle.surface_laws.specs.Surfaces.{value}
+use Rattle.added_crossing_laws.specs.Codes.{closed_at}
+use Rattle.added_crossing_laws.specs.Entries.{added_surface}
+use Rattle.cell_laws.specs.Alike.{HasNoDoubles}
+use Rattle.cell_laws.proofs.Matched.{place-once}
+use Rattle.cell_laws.proofs.Members.{Contains-cases, Contains-first, Contains-kept, Contains-later}
 use Rattle.tangle_maps.specs.Sums.{HaveDotsBelow}
 use Rattle.scan_laws.specs.Scans.{Scan, pairs_of}
 use Rattle.scan_laws.specs.Adding.{Origin, added_coefficient, new_coefficient, origin_of, origins_with, saddle_coefficient}
-use Rattle.cell_complexes.proofs.CellLists.{contains-range}
+use Rattle.cell_laws.proofs.CellLists.{contains-range}
 use Rattle.scan_laws.proofs.Origins.{IsOrigin}
 use Rattle.tangle_scan.specs.declared.adding.Adding.{Adding}
 use Rattle.tangle_scan.specs.declared.column.Entry.{Entry}

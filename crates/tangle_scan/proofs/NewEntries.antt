@@ -10,9 +10,9 @@ use Rattle.std.proofs.lemmas.Bool.{eq-eqb, ne_eqb}
 use Rattle.std.proofs.lemmas.Result.{IfOk-weaker}
 use Rattle.std.proofs.lemmas.List.Elements.{filter-append}
 use Rattle.kh_types.proofs.Residues.{same-equal}
-use Rattle.dotted_surfaces.specs.Surfaces.{value}
+use Rattle.surface_laws.specs.Surfaces.{value}
 use Rattle.dotted_maps.specs.declared.term.Term.{Term}
-use Rattle.added_crossings.specs.Entries.{saddle_surface}
+use Rattle.added_crossing_laws.specs.Entries.{saddle_surface}
 use Rattle.tangle_maps.specs.Sums.{AreReduced, HaveDotsBelow}
 use Rattle.crossing_maps.specs.NewTerms.{AreAddedTerms, AreSaddleTerms, sets_behind}
 use Rattle.crossing_maps.specs.declared.splitting.Split.{Split}

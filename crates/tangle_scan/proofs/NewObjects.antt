@@ -12,9 +12,9 @@ use Rattle.kh_types.specs.Bits.{ones}
 use Rattle.kh_types.specs.Code.{Code}
 use Rattle.kh_types.proofs.BitLemmas.{ones-more}
 use Rattle.kh_types.proofs.Ranges.{range_more}
-use Rattle.added_crossings.specs.Codes.{closed_at, pairing_behind, points_at}
-use Rattle.added_crossings.proofs.Labels.{bit-below}
-use Rattle.added_crossings.specs.Pairings.{IsPairingOf}
+use Rattle.added_crossing_laws.specs.Codes.{closed_at, pairing_behind, points_at}
+use Rattle.added_crossing_laws.proofs.Labels.{bit-below}
+use Rattle.added_crossing_laws.specs.Pairings.{IsPairingOf}
 use Rattle.tangle_maps.specs.Pairings.{joins_of, paired_arcs}
 use Rattle.crossing_maps.specs.Sides.{IsSiteAt, IsSplit}
 use Rattle.crossing_maps.specs.Sites.{IsPlace}

@@ -11,13 +11,13 @@ use Rattle.kh_types.specs.Rank.{inverse}
 use Rattle.kh_types.specs.Residues.{Same}
 use Rattle.kh_types.proofs.DartPairs.{IsDart-at}
 use Rattle.kh_types.proofs.ListSums.{sum_by-alike, sum_by-none}
-use Rattle.dotted_surfaces.specs.Points.{AreAmong, ArePlaced, IsOpenPairing, discs, least_points}
+use Rattle.surface_laws.specs.Points.{AreAmong, ArePlaced, IsOpenPairing, discs, least_points}
 use Rattle.dotted_maps.specs.Composition.{composed}
 use Rattle.dotted_maps.specs.Maps.{AreDotted, coefficient_in, composed_in}
 use Rattle.dotted_maps.specs.declared.term.Term.{Term}
 use Rattle.dotted_maps.proofs.LeastPoints.{AreAmong-append, AreBelow-among, all-themselves}
-use Rattle.added_crossings.specs.Codes.{ends_before, is_open, points_at}
-use Rattle.added_crossings.proofs.Members.{All-contained, those-are}
+use Rattle.added_crossing_laws.specs.Codes.{ends_before, is_open, points_at}
+use Rattle.added_crossing_laws.proofs.Members.{All-contained, those-are}
 use Rattle.tangle_maps.specs.declared.pairing.TheConstants.{POINTS}
 use Rattle.tangle_maps.specs.Pairings.{ArePartners, joins_of, numbered, opened_points, paired_arcs}
 use Rattle.tangle_maps.proofs.PairedLemmas.{paired, paired-among}

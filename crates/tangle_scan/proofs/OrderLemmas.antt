@@ -2,7 +2,7 @@
 use Rattle.std.proofs.Common.{◌≡◌, ℕ, suc, ◌<◌, ◌∙◌, List, [], ◌∷◌, ◌++◌, length, get_or, take, drop, drop-cons, append_assoc, refl, sym, subst, ap, arith}
 use Rattle.std.specs.List.{remove}
 use Rattle.std.proofs.lemmas.List.{take-append-drop}
-use Rattle.cell_complexes.specs.Cubes.{IsReordered}
+use Rattle.order_laws.specs.Orders.{IsReordered}
 
 -- with those that are still to come after them, in any order, the ones that have been taken are all, in another order
 pub record IsTaken {A : Type 0} (xs taken left : List A) : Type 0 where

@@ -11,11 +11,10 @@ use Rattle.kh_types.specs.Code.{Code}
 use Rattle.kh_types.specs.Directions.{positive_at}
 use Rattle.kh_types.specs.Faces.{piece_count}
 use Rattle.kh_types.specs.Generators.{generators, generators_at, has_degrees}
-use Rattle.kh_types.specs.Table.{Row, dimension, table}
+use Rattle.kh_types.specs.Table.{Row, Table, dimension, table}
 use Rattle.kh_types.specs.declared.limits.TheConstants.{CROSSINGS}
 use Rattle.kh_types.proofs.AcceptedLemmas.{IsAccepted-is}
 use Rattle.circle_smoothing.proofs.GeneratorLemmas.{generator_count-le, length-generators}
-use Rattle.jones_sum.proofs.BlockTables.{table_with}
 use Rattle.code_passes.specs.Parts.{Parts, passes_through, slots_in}
 use Rattle.orient_arcs.specs.Renumbered.{number_in, order_of, renamed_crossing}
 use Rattle.union_laws.specs.Pieces.{IsCut, is_in_first_piece, kept_crossings, kept_parts, kept_places, other_pieces, part_of}
@@ -23,6 +22,10 @@ use Rattle.union_laws.specs.UnitedRows.{rows_product}
 use Rattle.union_laws.proofs.KeptParts.{IsCut-rest}
 use Rattle.tangle_scan.specs.CountedRows.{all_rows_by}
 use Rattle.tangle_scan.specs.Sides.{is_on_side}
+
+-- a number of elements with rows
+abbrev pub table_with : ℕ → List Row → Table
+table_with field rows = record { field = field; rows = rows }
 
 -- no arc joins the first piece to the others
 pub side-cut : (is_first : Bool) (crossings : List (List ℕ)) → IsCut (is_in_first_piece crossings) crossings

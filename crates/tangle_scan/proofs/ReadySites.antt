@@ -2,8 +2,8 @@
 use Rattle.std.proofs.Common.{◌≡◌, ℕ, ◌+◌, ◌<◌, ◌∙◌, List, [], length, sym, subst, ap₂}
 use Rattle.std.specs.Prelude.{slice_index_or}
 use Rattle.kh_types.specs.Code.{Code}
-use Rattle.added_crossings.specs.Codes.{points_at, step_at}
-use Rattle.added_crossings.specs.Steps.{near}
+use Rattle.added_crossing_laws.specs.Codes.{points_at, step_at}
+use Rattle.added_crossing_laws.specs.Steps.{near}
 use Rattle.tangle_maps.specs.declared.pairing.TheConstants.{POINTS}
 use Rattle.crossing_maps.specs.ListedPlaces.{IsArcs}
 use Rattle.crossing_maps.specs.Partners.{HasArcsBelow}

@@ -8,10 +8,10 @@ use Rattle.std.specs.List.{AllZip, Contains, count_by, filter}
 use Rattle.std.proofs.lemmas.Bool.{cases_Bool, eq-eqb}
 use Rattle.std.proofs.lemmas.List.Elements.{Contains-get_or}
 use Rattle.std.proofs.lemmas.List.Sums.{sum_by-cons}
-use Rattle.cell_complexes.specs.Alike.{HasNoDoubles}
-use Rattle.cell_complexes.proofs.Members.{Contains-cases, Contains-first, Contains-later}
-use Rattle.cell_complexes.proofs.NoDoubles.{first-new, once-first, once-later}
-use Rattle.cell_complexes.proofs.Places.{IsTest}
+use Rattle.cell_laws.specs.Alike.{HasNoDoubles}
+use Rattle.cell_laws.proofs.Members.{Contains-cases, Contains-first, Contains-later}
+use Rattle.cell_laws.proofs.NoDoubles.{first-new, once-first, once-later}
+use Rattle.cell_laws.proofs.Places.{IsTest}
 
 pub zip-append : {A B : Type 0} (R : A → B → Type 0) (xs more : List A) (ys others : List B) → AllZip R xs ys → AllZip R more others
     → AllZip R (xs ++ more) (ys ++ others)

@@ -5,7 +5,7 @@ use Rattle.std.specs.Global.{Vec}
 use Rattle.kh_types.specs.Code.{Code}
 use Rattle.kh_types.specs.Rank.{inverse}
 use Rattle.kh_types.specs.Residues.{Same}
-use Rattle.dotted_surfaces.specs.Points.{discs}
+use Rattle.surface_laws.specs.Points.{discs}
 use Rattle.dotted_maps.specs.declared.term.Term.{Term}
 use Rattle.dotted_maps.specs.Maps.{AreDotted, coefficient_in, composed_in}
 use Rattle.scan_laws.specs.Scans.{HasDots, Scan}

@@ -5,7 +5,7 @@ use Rattle.std.specs.Option.{option_map_or}
 use Rattle.kh_types.specs.Code.{Code, arc_count}
 use Rattle.kh_types.specs.Darts.{HasArcsTwice}
 use Rattle.dotted_maps.specs.declared.term.Term.{Term}
-use Rattle.added_crossings.specs.Codes.{points_at}
+use Rattle.added_crossing_laws.specs.Codes.{points_at}
 use Rattle.scan_laws.specs.Scans as scans
 use Rattle.scan_laws.specs.Scans.{Scan, first_object}
 use Rattle.tangle_maps.specs.declared.pairing.TheConstants.{POINTS}

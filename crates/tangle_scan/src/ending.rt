@@ -1,7 +1,7 @@
 //! The end of a scan.
 
 ghost use Rattle.std.specs.Prelude.{◌≡◌, All, length, IfOk};
-ghost use Rattle.cell_complexes.specs.Cubes.{IsReordered};
+ghost use Rattle.order_laws.specs.Orders.{IsReordered};
 ghost use Rattle.kh_types.specs.Table.{table};
 ghost use Rattle.scan_laws.specs.Steps.{IsLast};
 ghost use Rattle.tangle_maps.specs.declared.pairing.TheConstants.{POINTS};

@@ -2,7 +2,7 @@
 //! that it is one; which one is this project's rule.
 
 ghost use Rattle.std.specs.Prelude.{◌≡◌, ◌⊎◌, ◌<◌, ◌≤◌, length};
-ghost use Rattle.cell_complexes.specs.Cubes.{IsReordered};
+ghost use Rattle.order_laws.specs.Orders.{IsReordered};
 
 use arrayvec::ArrayVec;
 use kh_types::{CROSSINGS, Crossing, Diagram};

@@ -1,6 +1,6 @@
 //! Scans of diagrams in orders of the crossings that nobody would choose: they have the same tables.
 
-ghost use Rattle.cell_complexes.specs.Cubes.{IsReordered};
+ghost use Rattle.order_laws.specs.Orders.{IsReordered};
 
 use crate::scanning::{scan_table, scan_table_by};
 use crate::table::ScanRow;

@@ -1,13 +1,13 @@
 //! A diagram with its crossings in another order.
 
 ghost use Rattle.std.specs.Prelude.{◌≡◌, ◌≤◌, length};
-ghost use Rattle.cell_complexes.specs.Cubes.{IsReordered, listed_by};
+ghost use Rattle.order_laws.specs.Orders.{IsReordered, listed_by};
 ghost use Rattle.kh_types.specs.declared.limits.TheConstants.{CROSSINGS};
 
 use arrayvec::ArrayVec;
-use cell_complexes::laws::orders::reordered_codes_are_accepted;
 use kh_types::laws::diagrams::diagram_laws;
 use kh_types::{CROSSINGS, Crossing, Diagram, RawCode};
+use order_laws::laws::reordered_codes_are_accepted;
 
 /// The diagram with its crossings in another order.
 pub fn reordered(diagram: &Diagram, crossings: &[Crossing]) -> Diagram

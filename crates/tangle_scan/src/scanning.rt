@@ -2,7 +2,7 @@
 
 ghost use Rattle.std.specs.Prelude.{◌≡◌, IfOk};
 ghost use Rattle.kh_types.specs.Table.{table};
-ghost use Rattle.cell_complexes.specs.Cubes.{IsReordered};
+ghost use Rattle.order_laws.specs.Orders.{IsReordered};
 ghost use Rattle.union_laws.specs.Pieces.{first_piece, other_pieces};
 
 use crate::ending::table_of_finished;

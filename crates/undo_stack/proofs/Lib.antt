@@ -6,7 +6,6 @@ pub mod ListEnds
 pub mod HistorySteps
 pub mod MoveLemmas
 pub mod HistoryLemmas
-pub mod EditRuns
 pub mod EditedParts
 mod EditLines
 pub mod EditReadings

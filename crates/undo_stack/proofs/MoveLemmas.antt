@@ -4,9 +4,9 @@ use Rattle.std.specs.Prelude.{Option, Some, None, Result, Ok, Err, IfOk, ℤ}
 use Rattle.kh_types.specs.Acceptance.{accepted}
 use Rattle.kh_types.specs.Code.{Code, place_of}
 use Rattle.kh_types.specs.StateSum.{state_sum}
-use Rattle.kinks_and_fingers.specs.Drops.{without_finger, without_kink}
-use Rattle.kinks_and_fingers.specs.FingerAdd.{with_finger}
-use Rattle.kinks_and_fingers.specs.KinkAdds.{with_kink}
+use Rattle.kink_and_finger_laws.specs.Drops.{without_finger, without_kink}
+use Rattle.kink_and_finger_laws.specs.FingerAdd.{with_finger}
+use Rattle.kink_and_finger_laws.specs.KinkAdds.{with_kink}
 use Rattle.diagram_moves.specs.declared.change.Move.{Move}
 use Rattle.diagram_moves.specs.declared.change.Move.TheVariants.{KinkAdd, KinkDrop, FingerAdd, FingerDrop, Slide}
 use Rattle.diagram_moves.specs.declared.fault.MoveFault.{MoveFault}

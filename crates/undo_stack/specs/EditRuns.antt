@@ -1,4 +1,4 @@
--- What lines of an edit do to the undo machine (this project's rule).
+-- What lines of an edit do to the undo machine.
 use Rattle.std.specs.Prelude.{ℕ, ◌+◌, List, [], ◌∷◌, take, Option, None, Some, ok_or, Result, Ok, Err}
 use Rattle.kh_types.specs.Code.{Code}
 use Rattle.diagram_moves.specs.Moved.{moved}

@@ -1,5 +1,5 @@
 -- The lines of a script of edits: `r1 add A under plus`, `r1 drop C`, `r2 add A left B right`, `r2 drop C D`, `r3 C D E`,
--- `undo` and `redo` (this project's rule).
+-- `undo` and `redo`.
 use Rattle.std.specs.Prelude.{◌≡◌, ℕ, ◌≤◌, Bool, true, false, List, [], ◌∷◌, codes, Result}
 use Rattle.kh_lex.specs.Numerals.{WritesNumber}
 use Rattle.diagram_moves.specs.declared.change.Move.TheVariants.{KinkAdd, KinkDrop, FingerAdd, FingerDrop, Slide}

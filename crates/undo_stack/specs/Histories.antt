@@ -1,4 +1,4 @@
--- The undo machine: diagrams with a past and a future (this project's rule).
+-- The undo machine: diagrams with a past and a future.
 use Rattle.std.specs.Prelude.{◌-◌, List, [], ◌∷◌, ◌++◌, All, length, take, drop, slice_get, Option, option_map, Result, Ok, Err}
 use Rattle.kh_types.specs.Code.{Code}
 use Rattle.circular_buffer.specs.Buffer.{keep_last, last_item}

@@ -1,4 +1,4 @@
--- The lines of a schedule: `look W J`, `commit W` and `forget W` (this project's rule).
+-- The lines of a schedule: `look W J`, `commit W` and `forget W`.
 use Rattle.std.specs.Prelude.{◌≡◌, ℕ, ◌≤◌, List, [], ◌∷◌, codes, ℤ, Result}
 use Rattle.kh_types.specs.declared.limits.TheConstants.{WORKERS}
 use Rattle.undo_stack.specs.declared.schedule.ScheduleLine.{ScheduleLine}

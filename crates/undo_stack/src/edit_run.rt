@@ -1,7 +1,7 @@
 //! The lines of an edit, carried out.
 
-ghost use Rattle.std.specs.Prelude.{◌≡◌, length, Some, None, Ok, Err, IfOk, IfErr};
-ghost use Rattle.undo_stack.specs.EditRuns.{after_line, edit_outcome, edited};
+ghost use Rattle.std.specs.Prelude.{◌≡◌, Ok, Err, IfOk, IfErr};
+ghost use Rattle.undo_stack.specs.EditRuns.{after_line};
 
 use crate::edit_line::EditLine;
 use crate::editor::Editor;
@@ -16,29 +16,6 @@ pub enum EditFault {
     NothingToUndo,
     /// There is no future.
     NothingToRedo,
-}
-
-/// The first line that is refused, and why. Lines are counted from 0.
-#[derive(Clone, Copy, Debug, PartialEq, Eq)]
-pub struct EditStop {
-    pub line: usize,
-    pub fault: EditFault,
-}
-
-/// Carries out lines until one is refused.
-pub fn run_lines(editor: &mut Editor, lines: &[EditLine]) -> Result<(), EditStop>
-    ensures all { IfOk result (λ _.
-        edited lines.now editor.old ≡ edit_outcome editor.new (length lines.now) None) }
-    ensures stop { IfErr result (λ stop.
-        edited lines.now editor.old ≡ edit_outcome editor.new stop.line (Some stop.fault)) }
-{
-    for at in 0..lines.len() {
-        match carry_out(editor, lines[at]) {
-            Ok(()) => {}
-            Err(fault) => return Err(EditStop { line: at, fault }),
-        }
-    }
-    Ok(())
 }
 
 /// Carries out a line. Where it is refused, nothing changes.

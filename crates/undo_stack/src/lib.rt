@@ -18,7 +18,7 @@ mod stop;
 
 pub use edit_laws::{each_edit_has_one_reading, limits_of_edits, worked_edits};
 pub use edit_line::{EditLine, read_edit};
-pub use edit_run::{EditFault, EditStop, carry_out, run_lines};
+pub use edit_run::{EditFault, carry_out};
 pub use editor::{Editor, NothingToRedo, NothingToUndo};
 pub use history_laws::{
     histories_are_bounded, histories_keep_state_sums, limits_of_histories,

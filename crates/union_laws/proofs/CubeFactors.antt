@@ -1,7 +1,7 @@
 -- The cubes of codes are factors: their generators are told apart, stand once, and have signs that turn along edges.
 use Rattle.std.proofs.Common.{IsTrue, ap, ap₂, arith, Bool, true, false, length, refl, ℕ, ◌*◌, ◌+◌, ◌%◌, ◌<◌, ◌∙◌, ◌≡◌, ◌≢◌, ◌&&◌}
 use Rattle.std.specs.Prelude.{nat_eq}
-use Rattle.std.proofs.lemmas.Bool.{both_ways, eq-eqb, eqb-true, ne_eqb}
+use Rattle.std.proofs.lemmas.Bool.{both_ways, eq-eqb, eqb-true, ne_eqb, and_parts}
 use Rattle.std.proofs.lemmas.Bool.Decides.{nat_tests}
 use Rattle.kh_types.specs.Acceptance.{accepted}
 use Rattle.kh_types.specs.Bits.{ones}
@@ -9,23 +9,18 @@ use Rattle.kh_types.specs.Code.{Code}
 use Rattle.kh_types.specs.Generators.{Generator, generator_of, one_count}
 use Rattle.kh_types.specs.Residues.{HasInverses, Same}
 use Rattle.kh_types.proofs.Residues.{same-equal, same-multiple}
-use Rattle.cell_complexes.proofs.ExchangedCubes.{step-of}
-use Rattle.cell_complexes.proofs.NoDoubles.{once-generators}
-use Rattle.cell_complexes.proofs.Orders.{AreComplex-cube}
-use Rattle.cube_squares.proofs.Signs.{ones-set_below, power_sign, same_parity, signs-product}
+use Rattle.cell_laws.proofs.CubeCells.{AreComplex-cube, step-of}
+use Rattle.cell_laws.proofs.NoDoubles.{once-generators}
+use Rattle.square_laws.proofs.Signs.{ones-set_below, power_sign, same_parity, signs-product}
 use Rattle.union_laws.specs.Cubes.{first_factor, same_generator, second_factor, state_sign}
 use Rattle.product_laws.specs.Products.{AreTurned, IsFactor, IsTest}
 
 -- the test of generators
-both-true : (b c : Bool) → (b && c) ≡ true → (b ≡ true) × (c ≡ true)
-both-true true c is = (refl, is)
-both-true false c is = absurd (both_ways false refl is)
-
 pub generator-test : IsTest same_generator
 generator-test =
     record {
       one = λ x y passes.
-          let parts = both-true (nat_eq x.state y.state) (nat_eq x.label y.label) passes in
+          let parts = and_parts (nat_eq x.state y.state) (nat_eq x.label y.label) passes in
           ap₂ generator_of (eqb-true x.state y.state parts.0) (eqb-true x.label y.label parts.1);
       self = λ x. ap₂ (λ (b c : Bool). b && c) (eq-eqb x.state x.state refl) (eq-eqb x.label x.label refl);
     }

@@ -4,8 +4,8 @@ use Rattle.kh_types.specs.Acceptance.{accepted}
 use Rattle.kh_types.specs.Accepted.{IsDirected}
 use Rattle.kh_types.specs.Code.{Code}
 use Rattle.orient_arcs.proofs.Bridge.{IsDirected-renumbered}
-use Rattle.cell_complexes.specs.Cubes.{listed_by}
-use Rattle.cell_complexes.proofs.AnyOrder.{accepted-reordered}
+use Rattle.order_laws.specs.Orders.{listed_by}
+use Rattle.order_laws.proofs.AnyOrder.{accepted-reordered}
 use Rattle.link_algebra.specs.Unions.{union_of}
 use Rattle.link_algebra.proofs.UnitedDirected.{AreUnited-from, IsDirected-both}
 use Rattle.union_laws.specs.Pieces.{IsCut, kept_first, kept_parts, part_of}

@@ -12,12 +12,12 @@ use Rattle.kh_types.specs.Components.{component_of, components_of, passes_of}
 use Rattle.kh_types.proofs.AcceptedLemmas.{HasArcsTwice-accepted}
 use Rattle.kh_types.proofs.ClassLemmas.{classes-finest}
 use Rattle.kh_types.proofs.Heads.{HasNoSingleArcs-accepted}
-use Rattle.gluing.specs.Arcs.{arc_by_place}
+use Rattle.gluing_laws.specs.Arcs.{arc_by_place}
 use Rattle.code_passes.specs.Parts.{Parts, head_count}
 use Rattle.orient_arcs.proofs.PairedCodes.{some-head}
-use Rattle.cell_complexes.proofs.ExchangedBits.{exchanged, moved}
-use Rattle.cell_complexes.proofs.Orders.{reordered}
-use Rattle.cell_complexes.proofs.Shuffled.{IsShuffled-exchanged, components-shuffled}
+use Rattle.order_laws.proofs.ExchangedBits.{exchanged, moved}
+use Rattle.order_laws.proofs.Orders.{reordered}
+use Rattle.order_laws.proofs.Shuffled.{IsShuffled-exchanged, components-shuffled}
 use Rattle.link_algebra.proofs.UnitedCircles.{HoldsNames-accepted}
 use Rattle.link_algebra.proofs.UnitedComponents.{passes-small}
 use Rattle.union_laws.specs.Pieces.{IsCut, kept_first, kept_parts}

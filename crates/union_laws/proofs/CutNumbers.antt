@@ -10,8 +10,8 @@ use Rattle.std.proofs.lemmas.List.{get_or-append-add, get_or-map, get_or_append_
 use Rattle.kh_types.specs.Acceptance.{accepted}
 use Rattle.kh_types.specs.Code.{Code, IsArc, arc_count, arc_in}
 use Rattle.kh_types.proofs.Heads.{HasNoSingleArcs-accepted}
-use Rattle.gluing.specs.Arcs.{arc_by_place}
-use Rattle.gluing.specs.Codes.{IsRenumbered, name_count}
+use Rattle.gluing_laws.specs.Arcs.{arc_by_place}
+use Rattle.gluing_laws.specs.Codes.{IsRenumbered, name_count}
 use Rattle.code_passes.specs.Passes.{Pass}
 use Rattle.code_passes.specs.Parts.{ArePaired, Parts, head_count, parts_of, passes_through, slots_in}
 use Rattle.orient_arcs.specs.Renumbered.{number_in, order_of, renamed_crossing, renumber}
@@ -19,7 +19,7 @@ use Rattle.orient_arcs.proofs.Bridge.{number-arc, number-once, renamed-slot, slo
 use Rattle.orient_arcs.proofs.Members.{IsIn}
 use Rattle.orient_arcs.proofs.PairedCodes.{ArePaired-directed, head-arc, some-head}
 use Rattle.orient_arcs.proofs.PairedPasses.{counted-in, heads_of, in-counted}
-use Rattle.cell_complexes.specs.Cubes.{listed_by}
+use Rattle.order_laws.specs.Orders.{listed_by}
 use Rattle.link_algebra.specs.Unions.{raised_slots, union_of}
 use Rattle.link_algebra.proofs.UnitedCircles.{length-both, slot-raised}
 use Rattle.union_laws.specs.Pieces.{IsCut, kept_first, kept_parts, part_of}

@@ -16,7 +16,8 @@ use Rattle.kh_types.specs.Darts.{HasArcsTwice}
 use Rattle.kh_types.specs.Directions.{is_positive, is_positive_by_next, is_positive_by_order, is_positive_by_under, is_positive_in}
 use Rattle.kh_types.proofs.AcceptedLemmas.{HasArcsTwice-directed}
 use Rattle.kh_types.proofs.Heads.{HasNoSingleArcs-accepted}
-use Rattle.gluing.specs.Arcs.{arc_by_place}
+use Rattle.kh_types.proofs.Searches.{find-range_agree}
+use Rattle.gluing_laws.specs.Arcs.{arc_by_place}
 use Rattle.code_passes.specs.Parts.{slots_in}
 use Rattle.code_passes.proofs.SignRules.{find-first}
 use Rattle.orient_arcs.proofs.AcceptedParts.{over-apart}
@@ -33,7 +34,7 @@ use Rattle.union_laws.proofs.CutComponents.{components-kept, one-side}
 use Rattle.union_laws.proofs.CutNumbers.{length-other, length-part, length-parts}
 use Rattle.union_laws.proofs.KeptParts.{ArePaired-kept, IsCut-rest}
 use Rattle.union_laws.proofs.KeptPlaces.{length-first, place-back, place-below, place-front, place-once, place_in, slots-first}
-use Rattle.union_laws.proofs.KeptSearches.{find-alike, find-numbers, find-ordered}
+use Rattle.union_laws.proofs.KeptSearches.{find-numbers, find-ordered}
 
 -- the slots of the crossing at a place, by its number
 slots-at : (crossings : List (List ℕ)) (place : ℕ) → slots_of crossings (place + 1) ≡ slots_in crossings place
@@ -83,7 +84,7 @@ module _ (keep : ℕ → Bool) (code : Code) (holds : IsTrue (accepted code)) (c
         ap (λ (n : ℕ). find test (range_with_len 1 n)) (length-first keep crossings)
         ∙ find-numbers test (length crossings)
         ∙ ap (option_map (λ j. j + 1))
-        (find-alike (λ j. test (j + 1)) (λ j. meets slot (at j)) 0 (length crossings)
+        (find-range_agree (λ j. test (j + 1)) (λ j. meets slot (at j)) 0 (length crossings)
         (λ j from inside.
         ap (λ slots. nat_eq (component_of components (arc_in slots slot)) name)
         (slots-at first_kept j ∙ slots-first keep crossings j (omega (arith, inside)))))
@@ -94,7 +95,7 @@ module _ (keep : ℕ → Bool) (code : Code) (holds : IsTrue (accepted code)) (c
         let test = λ (c : ℕ). nat_eq (component_of components (arc_in (slots_of crossings c) slot)) name in
         find-numbers test (length crossings)
         ∙ ap (option_map (λ j. j + 1))
-        (find-alike (λ j. test (j + 1)) (meets slot) 0 (length crossings)
+        (find-range_agree (λ j. test (j + 1)) (meets slot) 0 (length crossings)
         (λ j from inside. ap (λ slots. nat_eq (component_of components (arc_in slots slot)) name) (slots-at crossings j))
         ∙ find-ordered keep crossings (meets slot) (keep (at k))
         (λ place inside passes.

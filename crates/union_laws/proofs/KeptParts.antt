@@ -15,7 +15,7 @@ use Rattle.kh_types.specs.Code.{Code, arc_in}
 use Rattle.kh_types.specs.Directions.{is_positive}
 use Rattle.kh_types.proofs.Heads.{HasNoSingleArcs-accepted}
 use Rattle.kh_types.proofs.ListSums.{sum_by-filter, sum_by-flat_map, sum_by-places, sum_by-plus, sum_by-range_alike, sum_by-some}
-use Rattle.gluing.specs.Arcs.{arc_by_place}
+use Rattle.gluing_laws.specs.Arcs.{arc_by_place}
 use Rattle.code_passes.specs.Passes.{Pass}
 use Rattle.code_passes.specs.Parts.{ArePaired, Parts, head_count, is_positive_at, over_pass, parts_of, passes_at, passes_through, slots_in, tail_count, under_pass}
 use Rattle.orient_arcs.proofs.PairedCodes.{ArePaired-directed}

@@ -10,8 +10,8 @@ use Rattle.std.proofs.lemmas.List.Filters.{length-filter_both}
 use Rattle.std.proofs.lemmas.List.FromFn.{length-range_with_len}
 use Rattle.code_passes.specs.Parts.{slots_in}
 use Rattle.orient_arcs.proofs.FirstArcs.{Passes-filter, ascending-filter}
-use Rattle.cell_complexes.specs.Cubes.{IsReordered}
-use Rattle.cell_complexes.proofs.Reordered.{reordered-map}
+use Rattle.order_laws.specs.Orders.{IsReordered}
+use Rattle.order_laws.proofs.Reordered.{reordered-map}
 use Rattle.union_laws.specs.Pieces.{kept_first, kept_places}
 
 -- one element more, which is put between two others

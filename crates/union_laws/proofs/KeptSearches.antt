@@ -12,14 +12,6 @@ use Rattle.kh_types.proofs.Ranges.{find-map}
 use Rattle.link_algebra.proofs.PartLemmas.{map-numbered}
 use Rattle.union_laws.proofs.KeptPlaces.{kept_order, length-order, map-places, place_in}
 
--- tests that agree on a range find the same
-pub find-alike : (p q : ℕ → Bool) (a n : ℕ) → ((k : ℕ) → a ≤ k → k < a + n → p k ≡ q k)
-    → find p (range_with_len a n) ≡ find q (range_with_len a n)
-find-alike p q a zero same = refl
-find-alike p q a (suc n) same =
-    ap₂ (λ b o. cond b (Some a) o) (same a (omega arith) (omega arith))
-    (find-alike p q (a + 1) n (λ k from below. same k (omega arith) (omega arith)))
-
 -- numbers from 1 are places, each more by 1
 pub range-later : (a n : ℕ) → range_with_len (a + 1) n ≡ map (λ k. k + 1) (range_with_len a n)
 range-later a n = sym (map-numbered (λ k. k) a n ∙ map-id (range_with_len (a + 1) n))

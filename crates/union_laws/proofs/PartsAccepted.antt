@@ -17,13 +17,13 @@ use Rattle.kh_types.proofs.AcceptedLemmas.{HasArcsTwice-directed, IsAccepted-is}
 use Rattle.kh_types.proofs.DartColours.{IsColoured-checkerboard}
 use Rattle.kh_types.proofs.DartPairs.{IsDartOf-first_dart, IsOtherDart-partner}
 use Rattle.kh_types.proofs.RangeCounts.{list_all-each}
+use Rattle.kh_types.proofs.JointNumbers.{inside-below, outside-below, bit-low, bit-high}
 use Rattle.face_walk.proofs.FewFaces.{face_count-le}
 use Rattle.link_algebra.specs.Unions.{union_of}
 use Rattle.link_algebra.proofs.UnitedAccepted.{component_count-both, face_count-both, piece_count-both}
 use Rattle.link_algebra.proofs.UnitedCircles.{length-both}
 use Rattle.link_algebra.proofs.UnitedComponents.{IsPart}
 use Rattle.link_algebra.proofs.UnitedDirected.{AreUnited, AreUnited-from}
-use Rattle.union_laws.proofs.MixedLabels.{bit-high, bit-low, high-below, low-below}
 
 -- a choice for a code, of whose crossings a part stands behind some others, and the choice that it is for the part
 module _ (before : ℕ) (part whole : List (List ℕ)) (choice own : ℕ) (is : IsPart before part whole) (twice : HasArcsTwice part)
@@ -126,14 +126,14 @@ module _ (first second : Code) (first_is : IsDirected first.crossings) (second_i
   checkerboard-first =
       let choice = is_whole.checkerboard.choice in
       IsCheckerboard-part 0 first.crossings whole choice (choice % 2 ^ n) are.one first_twice coloured
-      (λ place below. bit-low n choice place below ∙ (let e : place ≡ 0 + place = omega arith in ap (bit choice) e)) (low-below n choice)
+      (λ place below. bit-low n choice place below ∙ (let e : place ≡ 0 + place = omega arith in ap (bit choice) e)) (inside-below n choice)
 
   checkerboard-second : IsCheckerboard second.crossings
   checkerboard-second =
       let choice = is_whole.checkerboard.choice in
       IsCheckerboard-part n second.crossings whole choice (choice / 2 ^ n) are.two second_twice coloured
       (λ place below. bit-high n choice place)
-      (high-below n (length second.crossings) choice
+      (outside-below n (length second.crossings) choice
       (subst (λ (m : ℕ). choice < 2 ^ m) (length-both first second) is_whole.checkerboard.below))
 
   pub parts-accepted : IsTrue (accepted first) × IsTrue (accepted second)

@@ -18,18 +18,18 @@ use Rattle.kh_types.proofs.CountedClasses.{at-respects, below-range}
 use Rattle.kh_types.proofs.DartPairs.{IsOtherPlace-partner_at}
 use Rattle.kh_types.proofs.FilteredRanges.{filter-one}
 use Rattle.kh_types.proofs.Lists.{Contains-filter, Contains-range}
-use Rattle.gluing.specs.Arcs.{arc_by_place}
+use Rattle.gluing_laws.specs.Arcs.{arc_by_place}
 use Rattle.code_passes.specs.Parts.{ArePaired, Parts, slots_in}
 use Rattle.orient_arcs.specs.Renumbered.{renamed_crossing}
 use Rattle.orient_arcs.proofs.AlikeCrossings.{pieces-alike}
 use Rattle.orient_arcs.proofs.FirstArcs.{Passes-filter}
 use Rattle.face_walk.proofs.FaceLemmas.{IsNamed-pieces_of}
-use Rattle.cell_complexes.proofs.ExchangedBits.{exchanged, moved}
-use Rattle.cell_complexes.proofs.Orders.{reordered}
-use Rattle.cell_complexes.proofs.Shuffled.{IsShuffled-exchanged}
-use Rattle.cell_complexes.proofs.ShuffledDarts.{HasArcsTwice-shuffled}
-use Rattle.cell_complexes.proofs.ShuffledFaces.{piece_count-shuffled}
-use Rattle.cell_complexes.specs.Cubes.{listed_by}
+use Rattle.order_laws.proofs.ExchangedBits.{exchanged, moved}
+use Rattle.order_laws.proofs.Orders.{reordered}
+use Rattle.order_laws.proofs.Shuffled.{IsShuffled-exchanged}
+use Rattle.order_laws.proofs.ShuffledDarts.{HasArcsTwice-shuffled}
+use Rattle.order_laws.proofs.ShuffledFaces.{piece_count-shuffled}
+use Rattle.order_laws.specs.Orders.{listed_by}
 use Rattle.link_algebra.specs.Unions.{union_of}
 use Rattle.link_algebra.proofs.UnitedAccepted.{piece_count-both}
 use Rattle.link_algebra.proofs.UnitedDirected.{AreUnited-from}

@@ -15,7 +15,7 @@ use Rattle.kh_types.proofs.ClassLemmas.{classes-together}
 use Rattle.kh_types.proofs.CountedClasses.{below-range, respects-at}
 use Rattle.kh_types.proofs.DartPairs.{IsOtherPlace-partner_at, partner_at-only}
 use Rattle.kh_types.proofs.ListSums.{sum_by-some}
-use Rattle.gluing.specs.Arcs.{arc_by_place}
+use Rattle.gluing_laws.specs.Arcs.{arc_by_place}
 use Rattle.face_walk.specs.ClassNumbers.{class_number, least_numbers}
 use Rattle.face_walk.proofs.FaceLemmas.{IsNamed-pieces, IsNamed-pieces_of}
 use Rattle.face_walk.proofs.NumberLemmas.{class_number-counted, least_numbers-class_number}

@@ -9,9 +9,9 @@ use Rattle.kh_types.specs.Table.{dimension, table}
 use Rattle.kh_types.specs.declared.limits.TheConstants.{CROSSINGS}
 use Rattle.kh_types.proofs.Lists.{count_by-map}
 use Rattle.kh_types.proofs.RangeCounts.{count_by-alike}
-use Rattle.cell_complexes.specs.Cubes.{listed_by}
-use Rattle.cell_complexes.proofs.Orders.{dimension-same_signs}
-use Rattle.cell_complexes.proofs.Reordered.{reordered-count}
+use Rattle.order_laws.specs.Orders.{listed_by}
+use Rattle.order_laws.proofs.Orders.{dimension-same_signs}
+use Rattle.order_laws.proofs.Reordered.{reordered-count}
 use Rattle.link_algebra.specs.Unions.{union_of}
 use Rattle.link_algebra.proofs.UnitedCircles.{length-both}
 use Rattle.view_laws.proofs.Renumbered.{dimension-renumbered_code}

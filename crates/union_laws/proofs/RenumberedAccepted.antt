@@ -10,9 +10,9 @@ use Rattle.kh_types.specs.Code.{Code}
 use Rattle.kh_types.specs.Darts.{HasArcsTwice, arc_of, dart_at}
 use Rattle.kh_types.proofs.AcceptedLemmas.{HasArcsTwice-directed, IsAccepted-is}
 use Rattle.kh_types.proofs.DartPairs.{IsDart-at}
-use Rattle.gluing.specs.Alike.{AreAlike}
-use Rattle.gluing.specs.Arcs.{arc_by_place}
-use Rattle.gluing.specs.Codes.{IsRenumbered, name_count}
+use Rattle.gluing_laws.specs.Alike.{AreAlike}
+use Rattle.gluing_laws.specs.Arcs.{arc_by_place}
+use Rattle.gluing_laws.specs.Codes.{IsRenumbered, name_count}
 use Rattle.orient_arcs.proofs.AlikeCrossings.{AreAlike-renamed, IsCheckerboard-alike, component_count-alike, faces-alike, pieces-alike}
 
 -- the arc of a dart, by the place and the slot where it stands

@@ -15,10 +15,10 @@ use Rattle.kh_types.proofs.Residues.{same-equal}
 use Rattle.prime_field.specs.Residues.{IsSmallPrime}
 use Rattle.prime_field.specs.SmallFields.{field-small_prime}
 use Rattle.plain_matrix.proofs.FieldInverses.{inverses-field}
-use Rattle.cell_complexes.specs.Cells.{dimension_at}
-use Rattle.cell_complexes.specs.Cubes.{cube_of}
-use Rattle.cell_complexes.proofs.AlikeCells.{dimension-alike}
-use Rattle.cube_squares.proofs.Degrees.{coefficient-below}
+use Rattle.cell_laws.specs.Cells.{dimension_at}
+use Rattle.cell_laws.specs.Cubes.{cube_of}
+use Rattle.cell_laws.proofs.AlikeCells.{dimension-alike}
+use Rattle.square_laws.proofs.Degrees.{coefficient-below}
 use Rattle.link_algebra.proofs.UnitedSigns.{plus-both}
 use Rattle.link_algebra.proofs.UnitedSums.{minus-both}
 use Rattle.link_algebra.specs.Unions.{union_of}
@@ -30,9 +30,6 @@ use Rattle.product_laws.proofs.Squares.{AreComplex-product}
 use Rattle.product_laws.proofs.Turned.{dimension-turned}
 use Rattle.union_laws.proofs.CubeFactors.{AreTurned-cubes, factor-first, factor-second}
 use Rattle.union_laws.proofs.UnitedCubes.{AreAlike-united}
-
-pub inverses-small_prime : (p : ℕ) → IsSmallPrime p → HasInverses p
-inverses-small_prime p small = inverses-field p (field-small_prime p small)
 
 pub fits-state : (code : Code) (most : ℕ) (x : Generator) → IsTrue (accepted code)
     → 3 * length code.crossings + component_count code.crossings + code.loops ≤ most

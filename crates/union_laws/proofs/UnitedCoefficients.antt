@@ -15,14 +15,14 @@ use Rattle.kh_types.specs.Residues.{HasInverses, Same}
 use Rattle.kh_types.proofs.EdgeBits.{set-within}
 use Rattle.kh_types.proofs.ListSums.{sum_by-range_alike}
 use Rattle.kh_types.proofs.Residues.{same-equal}
-use Rattle.cell_complexes.proofs.ExchangedCubes.{IsMember, IsStepAt, coefficient-along, step-of}
-use Rattle.cube_squares.proofs.Signs.{power_sign, signs-product}
-use Rattle.cube_squares.proofs.TouchedCircles.{fits}
-use Rattle.link_algebra.proofs.UnitedCircles.{bit-first, bit-second, length-both, ones-both, state_of_both}
+use Rattle.kh_types.proofs.JointNumbers.{bit-inside, bit-outside, joint-inside, joint-outside, ones-joint}
+use Rattle.cell_laws.proofs.CubeCells.{IsMember, IsStepAt, coefficient-along, step-of}
+use Rattle.square_laws.proofs.Signs.{power_sign, signs-product}
+use Rattle.square_laws.proofs.TouchedCircles.{fits}
+use Rattle.link_algebra.proofs.UnitedCircles.{length-both, state_of_both}
 use Rattle.link_algebra.specs.Unions.{union_of}
 use Rattle.union_laws.specs.Cubes.{first_factor, same_generator, second_factor, state_sign, united}
 use Rattle.product_laws.specs.Products.{Factor, pair_coefficient}
-use Rattle.union_laws.proofs.MixedLabels.{high-of, low-of}
 use Rattle.product_laws.proofs.PairCoefficients.{by-first, by-neither, by-second}
 use Rattle.union_laws.proofs.UnitedEdges.{fits-first, fits-second, labels-one, labels-self, same_labels}
 use Rattle.union_laws.proofs.CubeFactors.{generator-test, other-state}
@@ -65,8 +65,8 @@ module _ (p : ℕ) (first second : Code) (field : HasInverses p) (first_is : IsT
   -- states
   states-apart : (a b c d : ℕ) → a < 2 ^ n → c < 2 ^ n → a + 2 ^ n * b ≡ c + 2 ^ n * d → (a ≡ c) × (b ≡ d)
   states-apart a b c d small small_too same = (
-    sym (low-of n a b small) ∙ ap (λ s. s % 2 ^ n) same ∙ low-of n c d small_too,
-    sym (high-of n a b small) ∙ ap (λ s. s / 2 ^ n) same ∙ high-of n c d small_too,
+    sym (joint-inside n a b small) ∙ ap (λ s. s % 2 ^ n) same ∙ joint-inside n c d small_too,
+    sym (joint-outside n a b small) ∙ ap (λ s. s / 2 ^ n) same ∙ joint-outside n c d small_too,
   )
 
   -- steps
@@ -74,7 +74,7 @@ module _ (p : ℕ) (first second : Code) (field : HasInverses p) (first_is : IsT
   step-first a c b l step =
       record {
         within = omega (arith, step.within, length-both first second);
-        zero_there = bit-first n a b l step.within ∙ step.zero_there;
+        zero_there = bit-inside n a b l step.within ∙ step.zero_there;
         behind = ap (λ e. e + 2 ^ n * b) step.behind ∙ turned a (2 ^ l) (2 ^ n * b);
       }
     where
@@ -86,7 +86,7 @@ module _ (p : ℕ) (first second : Code) (field : HasInverses p) (first_is : IsT
   step-second a b d l small step =
       record {
         within = omega (arith, step.within, length-both first second);
-        zero_there = bit-second n a b l small ∙ step.zero_there;
+        zero_there = bit-outside n a b l small ∙ step.zero_there;
         behind =
             ap (λ e. a + 2 ^ n * e) step.behind ∙ spread a (2 ^ n) b (2 ^ l)
             ∙ ap (λ e. a + 2 ^ n * b + e) (sym (pow-add 2 n l));
@@ -99,7 +99,7 @@ module _ (p : ℕ) (first second : Code) (field : HasInverses p) (first_is : IsT
       → (IsStepAt first a c l × (b ≡ d)) ⊎ ((k : ℕ) × IsStepAt second b d k × (a ≡ c))
   step-parts a b c d l small small_too step = elim (cases_lt l n) [
     | inl low ↦
-        let none : bit a l ≡ 0 = sym (bit-first n a b l low) ∙ step.zero_there in
+        let none : bit a l ≡ 0 = sym (bit-inside n a b l low) ∙ step.zero_there in
         let parts = states-apart c d (a + 2 ^ l) b small_too (set-within a l n low small none)
         (step.behind ∙ turned a (2 ^ n * b) (2 ^ l)) in
         inl (record { within = low; zero_there = none; behind = parts.0 }, sym parts.1)
@@ -113,7 +113,7 @@ module _ (p : ℕ) (first second : Code) (field : HasInverses p) (first_is : IsT
           k,
           record {
             within = omega (arith, high, step.within, length-both first second);
-            zero_there = sym (bit-second n a b k small) ∙ ap (bit (state_of_both first a b)) (sym e) ∙ step.zero_there;
+            zero_there = sym (bit-outside n a b k small) ∙ ap (bit (state_of_both first a b)) (sym e) ∙ step.zero_there;
             behind = parts.1;
           },
           sym parts.0,
@@ -151,7 +151,7 @@ module _ (p : ℕ) (first second : Code) (field : HasInverses p) (first_is : IsT
         (record { positive = omega arith; within = omega (arith, step.within) })
         ∙ ap (λ (b : Bool). f && b) (labels-same second y v is_y is_v same))
         (sum_by-range_alike (bit s) (bit x.state) 0 l
-        (λ k from below. bit-first n x.state y.state k (omega (arith, below, step.within)))) in
+        (λ k from below. bit-inside n x.state y.state k (omega (arith, below, step.within)))) in
         elim (cases_Bool (same_generator y v)) [
           | inl passes ↦
               same-equal p there (1 * coefficient p first x u % p) (by-first p first_cube second_cube x u y v passes)
@@ -192,7 +192,7 @@ module _ (p : ℕ) (first second : Code) (field : HasInverses p) (first_is : IsT
         ∙ fits-second first second first_is second_is x y u v is_x is_u (l + 1)
         (record { positive = omega arith; within = omega (arith, step.within) })
         ∙ ap (λ (b : Bool). f && b) (labels-same first x u is_x is_u same))
-        (ones-both n l x.state y.state is_x.state) in
+        (ones-joint n x.state y.state l is_x.state) in
         let other = other-state y v (differ y.state l v.state step.behind) in
         elim (cases_Bool (same_generator x u)) [
           | inl passes ↦

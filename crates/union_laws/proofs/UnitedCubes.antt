@@ -9,16 +9,17 @@ use Rattle.kh_types.specs.Differential.{coefficient}
 use Rattle.kh_types.specs.Generators.{Generator, generator_of, generators, one_count}
 use Rattle.kh_types.specs.Residues.{HasInverses}
 use Rattle.kh_types.proofs.Residues.{same-equal}
-use Rattle.cell_complexes.specs.Alike.{AreAlike, AreListed}
-use Rattle.cell_complexes.specs.Cubes.{cube_of}
-use Rattle.cell_complexes.proofs.ExchangedCubes.{IsMember, member-from, member-of}
-use Rattle.cell_complexes.proofs.NoDoubles.{once-generators}
-use Rattle.cell_complexes.proofs.Matched.{AreListed-matched}
-use Rattle.link_algebra.proofs.UnitedCircles.{length-both, ones-both, state_of_both}
+use Rattle.kh_types.proofs.JointNumbers.{joint-parts, inside-below, outside-below, joint-inside, joint-outside, joint-below, ones-joint}
+use Rattle.cell_laws.specs.Alike.{AreAlike, AreListed}
+use Rattle.cell_laws.specs.Cubes.{cube_of}
+use Rattle.cell_laws.proofs.CubeCells.{IsMember, member-from, member-of}
+use Rattle.cell_laws.proofs.NoDoubles.{once-generators}
+use Rattle.cell_laws.proofs.Matched.{AreListed-matched}
+use Rattle.link_algebra.proofs.UnitedCircles.{length-both, state_of_both}
 use Rattle.link_algebra.specs.Unions.{union_of}
 use Rattle.union_laws.specs.Cubes.{first_factor, low_count, mixed, second_factor, united}
 use Rattle.product_laws.specs.Products.{Factor, all_pairs, product_complex}
-use Rattle.union_laws.proofs.MixedLabels.{both-below, first_of, first_of-below, first_of-mixed, halves, high-below, high-of, low-below, low-of, mixed-apart, mixed-below, ones-mixed, second_of, second_of-below, second_of-mixed}
+use Rattle.union_laws.proofs.MixedLabels.{first_of, first_of-below, first_of-mixed, mixed-apart, mixed-below, ones-mixed, second_of, second_of-below, second_of-mixed}
 use Rattle.product_laws.proofs.PairLists.{pairs-contain, pairs-once, pairs-parts}
 use Rattle.union_laws.proofs.UnitedLabels.{count-both, count-first, count-second}
 use Rattle.union_laws.proofs.UnitedCoefficients.{coefficient-united}
@@ -70,7 +71,7 @@ module _ (p : ℕ) (first second : Code) (field : HasInverses p) (first_is : IsT
       record {
         state =
             subst (λ k. state_of_both first a b < 2 ^ k) (sym (length-both first second))
-            (both-below n (length second.crossings) a b is_x.state is_y.state);
+            (joint-below n (length second.crossings) a b is_x.state is_y.state);
         label =
             subst (λ k. mixed (low_count first a) (low_count second b) first.loops x.label y.label < 2 ^ k)
             (sym (both-count a b is_x.state))
@@ -80,13 +81,13 @@ module _ (p : ℕ) (first second : Code) (field : HasInverses p) (first_is : IsT
       }
 
   back-state : (s : ℕ) → state_of_both first (s % 2 ^ n) (s / 2 ^ n) ≡ s
-  back-state s = sym (halves n s)
+  back-state s = sym (joint-parts n s)
 
   back-members : (g : Generator) → IsMember both g → IsMember first (back g).0 × IsMember second (back g).1
   back-members g is =
       let a = g.state % 2 ^ n in
       let b = g.state / 2 ^ n in
-      let small = low-below n g.state in
+      let small = inside-below n g.state in
       let P = low_count first a in
       let Q = low_count second b in (
         record {
@@ -103,7 +104,7 @@ module _ (p : ℕ) (first second : Code) (field : HasInverses p) (first_is : IsT
       )
     where
       states-high : (s : ℕ) → s < 2 ^ (n + length second.crossings) → s / 2 ^ n < 2 ^ length second.crossings
-      states-high s below = high-below n (length second.crossings) s below
+      states-high s below = outside-below n (length second.crossings) s below
 
   listed : AreListed (united first second) (all_pairs (generators first) (generators second)) (generators both)
   listed =
@@ -131,7 +132,7 @@ module _ (p : ℕ) (first second : Code) (field : HasInverses p) (first_is : IsT
             let P = low_count first a in
             let Q = low_count second b in
             let below = subst (λ k. z.0.label < 2 ^ k) (first-count a b is_x.state) is_x.label in
-            ap₂ (apart (united first second z).label) (low-of n a b is_x.state) (high-of n a b is_x.state)
+            ap₂ (apart (united first second z).label) (joint-inside n a b is_x.state) (joint-outside n a b is_x.state)
             ∙ ap₂ (λ k l. (generator_of a k, generator_of b l)) (first_of-mixed P Q first.loops z.0.label z.1.label below)
             (second_of-mixed P Q first.loops z.0.label z.1.label below);
       })
@@ -141,7 +142,7 @@ module _ (p : ℕ) (first second : Code) (field : HasInverses p) (first_is : IsT
       → one_count both (joint x y).state ≡ one_count first x.state + one_count second y.state
   ones-united x y is_x =
       ap (λ k. ones k (state_of_both first x.state y.state)) (length-both first second)
-      ∙ ones-both n (length second.crossings) x.state y.state is_x.state
+      ∙ ones-joint n x.state y.state (length second.crossings) is_x.state
 
   labels-united : (x y : Generator) → IsMember first x
       → ones (circle_count both (joint x y).state) (joint x y).label

@@ -11,19 +11,20 @@ use Rattle.kh_types.specs.Code.{Code, IsCrossing, arc_count}
 use Rattle.kh_types.specs.Differential.{changes_labels, is_merge, is_split, is_touched, keeps_labels, label_of, touched}
 use Rattle.kh_types.specs.Generators.{Generator}
 use Rattle.kh_types.proofs.Ranges.{range-append}
-use Rattle.cell_complexes.proofs.ExchangedCubes.{IsMember}
-use Rattle.cube_squares.proofs.LabelNumbers.{label_of-name_at, name_at}
-use Rattle.cube_squares.proofs.TouchedCircles.{fits}
+use Rattle.cell_laws.proofs.CubeCells.{IsMember}
+use Rattle.square_laws.proofs.LabelNumbers.{label_of-name_at, name_at}
+use Rattle.square_laws.proofs.TouchedCircles.{fits}
 use Rattle.std.proofs.lemmas.Nat.Bits.{same_from_bits_below}
 use Rattle.std.proofs.lemmas.Simd.{map-map}
 use Rattle.link_algebra.proofs.ClassParts.{lifted, range-lifted}
 use Rattle.link_algebra.proofs.UnitedCircles.{state_of_both}
 use Rattle.link_algebra.specs.Unions.{union_of}
-use Rattle.union_laws.proofs.ListTests.{all-same, map-same, range-bounds}
+use Rattle.union_laws.proofs.ListTests.{range-bounds}
 use Rattle.union_laws.proofs.UnitedLabels.{label-first, label-first_loop, label-second, label-second_loop}
 use Rattle.union_laws.specs.Cubes.{united}
 use Rattle.union_laws.proofs.UnitedNames.{names-first_loops, names-second_loops}
 use Rattle.union_laws.proofs.UnitedTouches.{all-names, name-bounds, name-bounds_second, touched-all, touched-all_second, touched-bounds, touched-bounds_second, touched-first, touched-second, touched-second_before, untouched-loop}
+use Rattle.view_laws.proofs.Tests.{map-agree, all-agree}
 
 -- every circle has the same label in two generators
 abbrev pub same_labels : Code → Generator → Generator → Bool
@@ -33,7 +34,7 @@ pub labels-self : (code : Code) (x : Generator) → same_labels code x x ≡ tru
 labels-self code x = by (circle_names code x.state)
   where
     by : (names : List ℕ) → list_all (λ circle. nat_eq (label_of code x circle) (label_of code x circle)) names ≡ true
-    by names = all-same (λ circle. nat_eq (label_of code x circle) (label_of code x circle)) (λ circle. true) names
+    by names = all-agree (λ circle. nat_eq (label_of code x circle) (label_of code x circle)) (λ circle. true) names
         (λ c has. eq-eqb (label_of code x c) (label_of code x c) refl) ∙ all-true names
       where
         all-true : (zs : List ℕ) → list_all (λ z. true) zs ≡ true
@@ -87,22 +88,22 @@ module _ (first second : Code) (first_is : IsTrue (accepted first)) (second_is :
       ∙ ap₂ (λ u v. u && v)
       (list_all-append P A (lifted m B)
       ∙ ap₂ (λ u v. u && v)
-      (all-same P F A
+      (all-agree P F A
       (λ z has. let bounds = name-bounds first second first_is second_is a b small z has in on_first z bounds.0 bounds.1))
       (list_all-map P (λ x. m + x) B
-      ∙ all-same (λ w. P (m + w)) S B
+      ∙ all-agree (λ w. P (m + w)) S B
       (λ w has. let bounds = name-bounds_second first second first_is second_is a b small w has in on_second w bounds.0 bounds.1)))
       (ap (list_all P) (range-append c la lb)
       ∙ list_all-append P (range_with_len c la) (range_with_len (c + la) lb)
       ∙ ap₂ (λ u v. u && v)
       (shifted P c la
-      ∙ all-same (λ t. P (c + t)) (λ t. F (m + 1 + t)) (range_with_len 0 la)
+      ∙ all-agree (λ t. P (c + t)) (λ t. F (m + 1 + t)) (range_with_len 0 la)
       (λ t has.
       let e : c + t ≡ m + (k + 1 + t) = omega arith in
       ap P e ∙ on_loop t (omega (arith, (range-bounds 0 la t has).1)))
       ∙ sym (shifted F (m + 1) la))
       (shifted P (c + la) lb
-      ∙ all-same (λ t. P (c + la + t)) (λ t. S (k + 1 + t)) (range_with_len 0 lb)
+      ∙ all-agree (λ t. P (c + la + t)) (λ t. S (k + 1 + t)) (range_with_len 0 lb)
       (λ t has.
       let e : c + la + t ≡ m + (k + 1 + (la + t)) = omega arith in
       ap P e ∙ on_loop_too t (omega (arith, (range-bounds 0 lb t has).1)))
@@ -190,12 +191,12 @@ module _ (first second : Code) (first_is : IsTrue (accepted first)) (second_is :
       changes-first =
           ap₂ (λ (before after : List ℕ). is_merge before after || is_split before after)
           (ap (map (label_of both G)) (touched-all first second first_is second_is x.state y.state is_x.state crossing is)
-          ∙ map-same (label_of both G) (label_of first x) (touched first x.state crossing)
+          ∙ map-agree (label_of both G) (label_of first x) (touched first x.state crossing)
           (λ z has.
           let bounds = touched-bounds first second first_is second_is x.state y.state is_x.state crossing z is has in
           label-first first second first_is second_is x.state y.state is_x.state x.label y.label is_x.label z bounds.0 bounds.1))
           (ap (map (label_of both H)) (touched-all first second first_is second_is u.state v.state is_u.state crossing is)
-          ∙ map-same (label_of both H) (label_of first u) (touched first u.state crossing)
+          ∙ map-agree (label_of both H) (label_of first u) (touched first u.state crossing)
           (λ z has.
           let bounds = touched-bounds first second first_is second_is u.state v.state is_u.state crossing z is has in
           label-first first second first_is second_is u.state v.state is_u.state u.label v.label is_u.label z bounds.0 bounds.1))
@@ -247,13 +248,13 @@ module _ (first second : Code) (first_is : IsTrue (accepted first)) (second_is :
           ap₂ (λ (before after : List ℕ). is_merge before after || is_split before after)
           (ap (map (label_of both G)) (touched-all_second first second first_is second_is x.state y.state is_x.state crossing is)
           ∙ map-map (label_of both G) (λ z. m + z) (touched second y.state crossing)
-          ∙ map-same (λ w. label_of both G (m + w)) (label_of second y) (touched second y.state crossing)
+          ∙ map-agree (λ w. label_of both G (m + w)) (label_of second y) (touched second y.state crossing)
           (λ w has.
           let bounds = touched-bounds_second first second first_is second_is x.state y.state is_x.state crossing w is has in
           label-second first second first_is second_is x.state y.state is_x.state x.label y.label is_x.label w bounds.0 bounds.1))
           (ap (map (label_of both H)) (touched-all_second first second first_is second_is u.state v.state is_u.state crossing is)
           ∙ map-map (label_of both H) (λ z. m + z) (touched second v.state crossing)
-          ∙ map-same (λ w. label_of both H (m + w)) (label_of second v) (touched second v.state crossing)
+          ∙ map-agree (λ w. label_of both H (m + w)) (label_of second v) (touched second v.state crossing)
           (λ w has.
           let bounds = touched-bounds_second first second first_is second_is u.state v.state is_u.state crossing w is has in
           label-second first second first_is second_is u.state v.state is_u.state u.label v.label is_u.label w bounds.0 bounds.1))

@@ -18,19 +18,14 @@ use Rattle.kh_types.specs.declared.limits.TheConstants.{CROSSINGS, EXPONENT}
 use Rattle.kh_types.proofs.AcceptedLemmas.{IsAccepted-is}
 use Rattle.kh_types.proofs.ListSums.{sum_by-alike, sum_by-flat_map, sum_by-map, sum_by-turned, sum_by-zeros}
 use Rattle.kh_types.proofs.TableRows.{Contains-table, rows_within-are}
-use Rattle.cell_complexes.specs.Alike.{HasNoDoubles}
-use Rattle.cell_complexes.proofs.Members.{Contains-kept, Contains-made, sum_by-kept, sum_by-members}
-use Rattle.cell_complexes.proofs.NoDoubles.{once-filter, once-flat, once-map, sum_by-only}
+use Rattle.cell_laws.specs.Alike.{HasNoDoubles}
+use Rattle.cell_laws.proofs.Members.{Contains-kept, Contains-made, sum_by-kept, sum_by-members}
+use Rattle.cell_laws.proofs.NoDoubles.{once-filter, once-flat, once-map, sum_by-only}
 use Rattle.link_algebra.specs.Unions.{raised_slots, union_of}
+use Rattle.link_algebra.proofs.UnitedCircles.{length-both}
 use Rattle.product_laws.proofs.Counts.{from_minus-once}
 use Rattle.union_laws.specs.UnitedRows.{row_product, rows_product}
 use Rattle.union_laws.proofs.Unions.{dimension-union, unions-commute}
-
--- the other way round the table is the same
-length-union : (first second : Code) → length (union_of first second).crossings ≡ length first.crossings + length second.crossings
-length-union first second =
-    length-append first.crossings (map (raised_slots (arc_count first.crossings)) second.crossings)
-    ∙ ap (λ n. length first.crossings + n) (length-map second.crossings (raised_slots (arc_count first.crossings)))
 
 abbrev table_by : ℕ → (ℤ → List Row) → Table
 table_by p by = record { field = p; rows = flat_map by (from_minus EXPONENT) }
@@ -38,11 +33,12 @@ table_by p by = record { field = p; rows = flat_map by (from_minus EXPONENT) }
 abbrev row_of : ℤ → ℤ → ℕ → Row
 row_of j i d = record { j = j; i = i; dim = d }
 
+-- the other way round the table is the same
 pub tables-commute : (p : ℕ) (first second : Code) → HasInverses p → IsTrue (accepted first) → IsTrue (accepted second)
     → table p (union_of second first) ≡ table p (union_of first second)
 tables-commute p first second field first_is second_is =
     let turned : length second.crossings + length first.crossings ≡ length first.crossings + length second.crossings = omega arith in
-    let size = length-union second first ∙ turned ∙ sym (length-union first second) in
+    let size = length-both second first ∙ turned ∙ sym (length-both first second) in
     let rows : (j : ℤ) → rows_at p (union_of second first) j ≡ rows_at p (union_of first second) j =
     λ j. ap₂ (λ (n : ℕ) (row : ℤ → Row). filter is_shown (map row (from_minus n))) size
     (fun_ext (λ i. ap (row_of j i) (unions-commute p first second field first_is second_is i j))) in

@@ -15,21 +15,17 @@ use Rattle.kh_types.specs.Differential.{is_touched, touched}
 use Rattle.kh_types.proofs.AcceptedLemmas.{HasArcsTwice-accepted}
 use Rattle.kh_types.proofs.EdgeNames.{IsArc-slot}
 use Rattle.kh_types.proofs.Lists.{filter-map}
-use Rattle.cell_complexes.proofs.Members.{Contains-kept, Contains-made}
+use Rattle.kh_types.proofs.Tests.{nat_eq-plus}
+use Rattle.cell_laws.proofs.Members.{Contains-kept, Contains-made}
 use Rattle.link_algebra.proofs.ClassParts.{lifted}
 use Rattle.link_algebra.proofs.UnitedCircles.{length-both, state_of_both}
 use Rattle.link_algebra.proofs.UnitedComponents.{IsPart-first, IsPart-second}
 use Rattle.link_algebra.proofs.UnitedSigns.{same_test}
 use Rattle.link_algebra.specs.Unions.{union_of}
-use Rattle.union_laws.proofs.ListTests.{any-nothing, any-same, filter-nothing, filter-same, range-bounds}
+use Rattle.union_laws.proofs.ListTests.{any-nothing, any-same, filter-nothing, range-bounds}
 use Rattle.union_laws.proofs.UnitedLabels.{of-arc}
 use Rattle.union_laws.proofs.UnitedNames.{circle-first, circle-second, names-first_loops, names-loops, names-second_loops}
-
-raised_test : (n x y : ℕ) → nat_eq (n + x) (n + y) ≡ nat_eq x y
-raised_test n x y =
-    let e : n + x ≡ x + n = omega arith in
-    let f : n + y ≡ y + n = omega arith in
-    ap₂ nat_eq e f ∙ same_test x y n
+use Rattle.view_laws.proofs.Tests.{filter-agree}
 
 -- no circle behind the arcs is touched
 pub untouched-loop : (code : Code) (state crossing z : ℕ) → IsTrue (accepted code) → IsCrossing code.crossings crossing
@@ -116,7 +112,7 @@ module _ (first second : Code) (first_is : IsTrue (accepted first)) (second_is :
       (λ slot has.
       let bounds = range-bounds 0 4 slot has in
       ap (λ c. nat_eq c (m + w)) (circle-slot crossing slot is (omega (arith, bounds.1)))
-      ∙ raised_test m (circle_of (circles_of second b) (arc_in (slots_of second.crossings crossing) slot)) w)
+      ∙ nat_eq-plus m (circle_of (circles_of second b) (arc_in (slots_of second.crossings crossing) slot)) w)
 
   pub touched-second_before : (crossing z : ℕ) → IsCrossing second.crossings crossing → z ≤ arc_count first.crossings
       → is_touched (union_of first second) (state_of_both first a b) (length first.crossings + crossing) z ≡ false
@@ -206,7 +202,7 @@ module _ (first second : Code) (first_is : IsTrue (accepted first)) (second_is :
       ∙ filter-append t (A ++ lifted m B) R
       ∙ ap₂ (λ xs ys. xs ++ ys)
       (filter-append t A (lifted m B)
-      ∙ ap₂ (λ xs ys. xs ++ ys) (filter-same t (is_touched first a crossing) A (λ z has. touched-first crossing z is))
+      ∙ ap₂ (λ xs ys. xs ++ ys) (filter-agree t (is_touched first a crossing) A (λ z has. touched-first crossing z is))
       (filter-nothing t (lifted m B)
       (λ z has.
       let w = Contains-made (λ x. m + x) B z has in
@@ -229,7 +225,7 @@ module _ (first second : Code) (first_is : IsTrue (accepted first)) (second_is :
       ∙ ap₂ (λ xs ys. xs ++ ys)
       (filter-nothing t A (λ z has. touched-second_before crossing z is (name-bounds z has).1))
       (filter-map t (λ x. m + x) B
-      ∙ ap (lifted m) (filter-same (λ x. t (m + x)) (is_touched second b crossing) B (λ w has. touched-second crossing w is))))
+      ∙ ap (lifted m) (filter-agree (λ x. t (m + x)) (is_touched second b crossing) B (λ w has. touched-second crossing w is))))
       (filter-nothing t R
       (λ z has.
       let w = z - m in

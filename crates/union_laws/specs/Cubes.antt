@@ -4,7 +4,7 @@ use Rattle.kh_types.specs.Circles.{circles_of}
 use Rattle.kh_types.specs.CircleNumbers.{names_to}
 use Rattle.kh_types.specs.Code.{Code, arc_count}
 use Rattle.kh_types.specs.Generators.{Generator, generator_of, one_count}
-use Rattle.cell_complexes.specs.Cubes.{cube_of}
+use Rattle.cell_laws.specs.Cubes.{cube_of}
 use Rattle.product_laws.specs.Products.{Factor}
 
 -- a generator is another

@@ -3,7 +3,7 @@ use Rattle.std.specs.Prelude.{◌≡◌, ℕ, ◌+◌, ◌<◌, List, ◌++◌, 
 use Rattle.std.specs.List.{filter, range_with_len}
 use Rattle.kh_types.specs.Code.{Code}
 use Rattle.kh_types.specs.Directions.{is_positive}
-use Rattle.gluing.specs.Arcs.{arc_by_place}
+use Rattle.gluing_laws.specs.Arcs.{arc_by_place}
 use Rattle.code_passes.specs.Parts.{Parts, slots_in}
 use Rattle.orient_arcs.specs.Renumbered.{renumber}
 use Rattle.face_walk.specs.FaceNumbers.{piece_number}

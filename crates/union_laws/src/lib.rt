@@ -1,4 +1,4 @@
-//! The homology of disjoint unions, and of codes with loops. It has laws, and no code.
+//! The homology of disjoint unions, of codes with loops, and of codes in several pieces.
 #![tactic(auto)]
 
 pub mod laws;

@@ -1,4 +1,4 @@
--- A lock and its seats as the clauses of the calls see them. All of it is this project's rule.
+-- A lock and its seats as the clauses of the calls see them.
 use Rattle.std.specs.Prelude.{◌≡◌, ℕ, ◌<◌, List, [], ◌∷◌, ◌++◌, ◌⊎◌, length, Option, Some}
 use mathlib.Core.List.{IsPrefix}
 use Rattle.atomic_table.specs.Seated.{TableId}

@@ -1,4 +1,4 @@
--- Lists of places in a history, counted from 0, and sums over lists. The rule is this project's.
+-- Lists of places in a history, counted from 0, and sums over lists.
 use Rattle.std.specs.Prelude.{ℕ, ◌+◌, ◌<◌, List, [], ◌∷◌, length, if◌then◌else◌, nat_eq, nat_lt, nat_le}
 use Rattle.kh_types.specs.Bits.{one_if}
 

@@ -1,4 +1,4 @@
--- The rule of a lock: what holds of its two words, of the value at home and of all views between any two steps. It is this project's.
+-- The rule of a lock: what holds of its two words, of the value at home and of all views between any two steps.
 use Rattle.std.specs.Prelude.{◌≡◌, ℕ, ◌<◌, ◌≤◌, ◌^◌, ◌⊎◌, List, [], ◌∷◌, length, Some, IfSome}
 use mathlib.Core.Option.{some}
 use mathlib.Core.List.{IsPrefix}

@@ -9,22 +9,21 @@ use Rattle.kh_types.specs.Circles.{circle_count, circle_names}
 use Rattle.kh_types.specs.Code.{Code}
 use Rattle.kh_types.specs.Generators.{Generator, generator_of, generators}
 use Rattle.kh_types.proofs.Lists.{Contains-flat_map, Contains-later, Contains-map, Contains-range, range-contains}
-use Rattle.cell_complexes.specs.Alike.{AreListed, HasNoDoubles}
-use Rattle.cell_complexes.specs.Cubes.{cube_of}
-use Rattle.cell_complexes.specs.Layers.{Layer, Layers, cells_of, layer_of}
-use Rattle.cell_complexes.proofs.Matched.{AreListed-matched}
-use Rattle.cell_complexes.proofs.Members.{Contains-first, Contains-flattened, Contains-made}
-use Rattle.cell_complexes.proofs.NoDoubles.{first-new, once-append, once-later, once-map, once-range}
+use Rattle.cell_laws.specs.Alike.{AreListed, HasNoDoubles}
+use Rattle.cell_laws.specs.Cubes.{cube_of}
+use Rattle.cell_laws.specs.Layers.{Layer, Layers, cells_of, layer_of}
+use Rattle.cell_laws.proofs.Matched.{AreListed-matched}
+use Rattle.cell_laws.proofs.Members.{Contains-first, Contains-flattened, Contains-made}
+use Rattle.cell_laws.proofs.NoDoubles.{first-new, once-append, once-later, once-map, once-range, once-generators}
 use Rattle.view_laws.specs.Partitions.{seen, seen_count}
 use Rattle.view_laws.specs.Views.{HasCircles, IsView, View, circle_at, closed_at, joint_state, together}
 use Rattle.view_laws.specs.ViewLayers.{closed_of, degree_of_labels, generator_at, inside_of, label_of_all, object_of, objects_at, ones_of, outer_count, view_layers, view_objects}
-use Rattle.cell_complexes.proofs.CellLists.{cell-from, cell-of, cells-once}
-use Rattle.cell_complexes.proofs.Labels.{relabelled}
-use Rattle.view_laws.proofs.JointStates.{inside-below, joint-below, joint-inside, joint-outside, joint-parts, ones-joint, outside-below, parts-known}
+use Rattle.cell_laws.proofs.CellLists.{cell-from, cell-of, cells-once}
+use Rattle.cell_laws.proofs.Labels.{relabelled}
+use Rattle.kh_types.proofs.JointNumbers.{inside-below, joint-below, joint-inside, joint-outside, joint-parts, ones-joint, outside-below, parts-known}
 use Rattle.view_laws.proofs.Shown.{count-parts, parts}
-use Rattle.cell_complexes.proofs.SplitLabels.{ones-parts, part, part-below, parts-whole, whole, whole-below, whole-parts}
-use Rattle.view_laws.proofs.Steps.{generators-once}
-use Rattle.cell_complexes.proofs.ExchangedCubes.{IsMember, member-from, member-of}
+use Rattle.cell_laws.proofs.SplitLabels.{ones-parts, part, part-below, parts-whole, whole, whole-below, whole-parts}
+use Rattle.cell_laws.proofs.CubeCells.{IsMember, member-from, member-of}
 use Rattle.view_laws.proofs.Tests.{number-same}
 
 once-flat_on : {A B : Type 0} (f : A → List B) (xs : List A) → HasNoDoubles xs → ((x : A) → HasNoDoubles (f x))
@@ -250,7 +249,7 @@ module _ (code : Code) (view : View) (is : IsView code view) (circles : HasCircl
     cells-listed =
         AreListed-matched (cell_of code view) (generator_from code view) (cube_of p code plus minus).list (cells_of layers).list
         (record {
-          first_once = generators-once code;
+          first_once = once-generators code;
           second_once = cells-once layers (objects-once view);
           there = λ x has. cell-has x (member-from code x has);
           back_there = generator-has;

@@ -13,13 +13,12 @@ use Rattle.kh_types.specs.Differential.{label_of}
 use Rattle.kh_types.specs.Generators.{generator_of}
 use Rattle.kh_types.proofs.CircleNumbers.{IsCircle-of}
 use Rattle.kh_types.proofs.EdgeNames.{merges_or_splits}
-use Rattle.kh_types.proofs.Lists.{Contains-filter}
-use Rattle.cell_complexes.specs.Alike.{HasNoDoubles}
-use Rattle.cell_complexes.proofs.Members.{Contains-kept, sum_by-members}
-use Rattle.cell_complexes.proofs.NoDoubles.{once-range, once-filter}
+use Rattle.kh_types.proofs.Lists.{Contains-filter, range-within, within-range}
+use Rattle.cell_laws.specs.Alike.{HasNoDoubles}
+use Rattle.cell_laws.proofs.Members.{Contains-kept, sum_by-members}
+use Rattle.cell_laws.proofs.NoDoubles.{once-range, once-filter}
 use Rattle.view_laws.specs.Views.{HasCircles, circle_at}
-use Rattle.cell_complexes.proofs.Labels.{bit-small, mark, ones-marks}
-use Rattle.view_laws.proofs.Tests.{range-within, within-range}
+use Rattle.cell_laws.proofs.Labels.{bit-small, mark, ones-marks}
 
 pub HasCircles-accepted : (code : Code) → IsTrue (accepted code) → HasCircles code
 HasCircles-accepted code is =

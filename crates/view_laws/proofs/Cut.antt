@@ -9,19 +9,19 @@ use Rattle.kh_types.specs.Differential.{coefficient}
 use Rattle.kh_types.specs.Generators.{Generator}
 use Rattle.kh_types.proofs.EdgeBits.{set-within}
 use Rattle.kh_types.proofs.Residues.{same-equal}
-use Rattle.cell_complexes.specs.Alike.{AreAlike}
-use Rattle.cell_complexes.specs.Cubes.{cube_of}
-use Rattle.cell_complexes.specs.Layers.{Layers, cells_of, layer_coefficient}
+use Rattle.kh_types.proofs.Tests.{agree}
+use Rattle.cell_laws.specs.Alike.{AreAlike}
+use Rattle.cell_laws.specs.Cubes.{cube_of}
+use Rattle.cell_laws.specs.Layers.{Layers, cells_of, layer_coefficient}
 use Rattle.view_laws.specs.Partitions.{counts_labels, keeps_classes, saddle_number}
 use Rattle.view_laws.specs.Views.{HasCircles, IsView, View, closed_at, joint_state, together}
 use Rattle.view_laws.specs.ViewLayers.{generator_at, inside_of, object_of, outer_count, outer_number, relation_of, view_layers}
-use Rattle.cell_complexes.specs.Signs.{sign_of_power}
+use Rattle.cell_laws.specs.Signs.{sign_of_power}
 use Rattle.view_laws.proofs.Cells.{cell_of, cells-listed, closed_label, generator-home, homological-same, object-inside, quantum-same, seen_label}
-use Rattle.view_laws.proofs.JointStates.{bit-inside, bit-outside, inside-below, joint-inside, joint-outside, joint-parts, ones-joint, parts-known, set-inside, set-outside}
+use Rattle.kh_types.proofs.JointNumbers.{bit-inside, bit-outside, inside-below, joint-inside, joint-outside, joint-parts, ones-joint, parts-known, set-inside, set-outside}
 use Rattle.view_laws.proofs.SameClosed.{Changes, fits-seen}
 use Rattle.view_laws.proofs.Steps.{IsOuterStep, outer-one, outer-some}
-use Rattle.cell_complexes.proofs.ExchangedCubes.{IsMember, IsStepAt, coefficient-along, member-from, step-of}
-use Rattle.view_laws.proofs.Tests.{agree}
+use Rattle.cell_laws.proofs.CubeCells.{IsMember, IsStepAt, coefficient-along, member-from, step-of}
 
 -- what an edge does to circles
 pub edge-changes : (code : Code) → HasCircles code → (state place : ℕ) → place < length code.crossings → bit state place ≡ 0

@@ -14,12 +14,13 @@ use Rattle.kh_types.specs.Differential.{changes_labels, is_merge, is_split, is_t
 use Rattle.kh_types.specs.Edges.{TwoBecomeOne, is_other}
 use Rattle.kh_types.specs.Generators.{generator_of}
 use Rattle.kh_types.proofs.Lists.{Contains-filter}
-use Rattle.cell_complexes.proofs.Members.{Contains-first, Contains-kept, Contains-later, sum_by-members}
-use Rattle.cube_squares.proofs.TouchedCircles.{fits, one_in, two_in}
+use Rattle.kh_types.proofs.Tests.{agree, other-passes, other-differs}
+use Rattle.cell_laws.proofs.Members.{Contains-first, Contains-kept, Contains-later, sum_by-members}
+use Rattle.square_laws.proofs.TouchedCircles.{fits, one_in, two_in}
 use Rattle.view_laws.specs.Partitions.{is_kept}
 use Rattle.view_laws.specs.Views.{HasCircles, circle_at}
 use Rattle.view_laws.proofs.CircleNames.{circle-name, label-circle, label-small, name-from, name-of, names-once, ones-labels}
-use Rattle.view_laws.proofs.Tests.{agree, all-at, all-from, and-same, other-differs, other-passes, sum-taken}
+use Rattle.view_laws.proofs.Tests.{all-at, all-from, and-same, sum-taken}
 
 -- two points are on one circle
 abbrev pub same_at : Code → ℕ → ℕ → ℕ → Bool

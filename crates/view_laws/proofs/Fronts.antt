@@ -1,9 +1,7 @@
 -- One crossing brought to the front: the places of the crossings before and behind.
 use Rattle.std.proofs.lemmas.Bool.Decides.{nat_tests}
 use Rattle.std.proofs.Common.{◌≡◌, ◌≢◌, ℕ, zero, suc, ◌⊎◌, inl, inr, ◌+◌, ◌<◌, ◌≤◌, ◌∙◌, List, [], ◌∷◌, ◌++◌, length, get_or, take, drop, refl, sym, ap, arith}
-use Rattle.cell_complexes.specs.Cubes.{IsReordered}
 use Rattle.view_laws.specs.Fronts.{first_to, place_behind}
-use Rattle.cell_complexes.proofs.Reordered.{own-order}
 
 -- the place of the list that comes at a place of the others, when the one at a place is taken out
 pub past : ℕ → ℕ → ℕ
@@ -39,14 +37,6 @@ pub length-others : (k : ℕ) (xs : List (List ℕ)) → k < length xs → lengt
 length-others k [] below = absurd (omega (arith, below))
 length-others zero (x ∷ xs) below = omega arith
 length-others (suc k) (x ∷ xs) below = let rest = length-others k xs (omega (arith, below)) in omega (arith, rest)
-
-pub split-at : (k : ℕ) (xs : List (List ℕ)) → k < length xs → xs ≡ take k xs ++ (get_or xs k [] ∷ drop (suc k) xs)
-split-at k [] below = absurd (omega (arith, below))
-split-at zero (x ∷ xs) below = refl
-split-at (suc k) (x ∷ xs) below = ap (λ zs. x ∷ zs) (split-at k xs (omega (arith, below)))
-
-pub first-reordered : (k : ℕ) (xs : List (List ℕ)) → k < length xs → IsReordered xs (first_to k xs)
-first-reordered k xs below = (take k xs, drop (suc k) xs, split-at k xs below, own-order (take k xs ++ drop (suc k) xs))
 
 -- the place of the list that comes at a place, when the one at a place is first
 pub home : ℕ → ℕ → ℕ

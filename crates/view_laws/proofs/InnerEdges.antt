@@ -8,27 +8,27 @@ use Rattle.kh_types.specs.Code.{Code}
 use Rattle.kh_types.specs.Differential.{coefficient}
 use Rattle.kh_types.specs.Residues.{HasInverses}
 use Rattle.kh_types.proofs.EdgeBits.{set-within}
-use Rattle.cell_complexes.specs.Cells.{AreComplex, dimension_at}
-use Rattle.cell_complexes.specs.Cubes.{cube_of}
-use Rattle.cell_complexes.specs.Layers.{IsTimesIdentity, Layer, Layers, cells_of, layer_coefficient}
-use Rattle.cell_complexes.proofs.AlikeCells.{dimension-alike}
-use Rattle.cell_complexes.proofs.AlikeComplexes.{complex-alike}
-use Rattle.cube_squares.proofs.Degrees.{coefficient-below}
-use Rattle.cube_squares.proofs.LabelNumbers.{number_from}
-use Rattle.cube_squares.proofs.TouchedCircles.{fits}
+use Rattle.cell_laws.specs.Cells.{AreComplex, dimension_at}
+use Rattle.cell_laws.specs.Cubes.{cube_of}
+use Rattle.cell_laws.specs.Layers.{IsTimesIdentity, Layer, Layers, cells_of, layer_coefficient}
+use Rattle.cell_laws.proofs.AlikeCells.{dimension-alike}
+use Rattle.cell_laws.proofs.AlikeComplexes.{complex-alike}
+use Rattle.square_laws.proofs.Degrees.{coefficient-below}
+use Rattle.square_laws.proofs.LabelNumbers.{number_from}
+use Rattle.square_laws.proofs.TouchedCircles.{fits}
 use Rattle.view_laws.specs.Partitions.{counts_labels, keeps_classes, saddle_number, seen_count}
 use Rattle.view_laws.specs.Views.{HasCircles, IsInnerStep, IsView, SeeAlike, View, closed_at, joint_state, together}
 use Rattle.view_laws.specs.ViewLayers.{closed_of, inside_of, object_of, outer_count, outer_number, relation_of, seen_at, view_layers}
-use Rattle.cell_complexes.specs.Signs.{sign_of_power}
+use Rattle.cell_laws.specs.Signs.{sign_of_power}
 use Rattle.view_laws.proofs.Cells.{IsPart, cell_of, made-parts, made_at, object-closed, object-inside, seen_label, state-below}
 use Rattle.view_laws.proofs.Cut.{alike-cut, edge-changes}
-use Rattle.view_laws.proofs.JointStates.{bit-inside, inside-below, joint-inside, ones-inside, parts-known, set-inside, set-outside}
+use Rattle.kh_types.proofs.JointNumbers.{bit-inside, inside-below, joint-inside, ones-inside, parts-known, set-inside, set-outside}
 use Rattle.view_laws.proofs.SameClosed.{Changes, fits-seen}
 use Rattle.view_laws.proofs.Seen.{seen-alike}
 use Rattle.view_laws.proofs.Shown.{lab}
 use Rattle.view_laws.proofs.SmallCircles.{fits-merge, fits-split}
 use Rattle.view_laws.proofs.Steps.{outer-one, outer-some}
-use Rattle.cell_complexes.proofs.ExchangedCubes.{coefficient-along, step-of}
+use Rattle.cell_laws.proofs.CubeCells.{coefficient-along, step-of}
 
 -- sizes of coefficients
 sign-below : (p n : ℕ) → 1 < p → sign_of_power p n < p

@@ -10,25 +10,25 @@ use Rattle.kh_types.specs.Residues.{HasInverses}
 use Rattle.kh_types.proofs.EdgeBits.{set-within}
 use Rattle.kh_types.proofs.ListSums.{sum_by-alike}
 use Rattle.kh_types.proofs.Residues.{same-equal}
-use Rattle.cell_complexes.specs.Alike.{AreAlike}
-use Rattle.cell_complexes.specs.Cells.{dimension_at}
-use Rattle.cell_complexes.specs.Cubes.{cube_of}
-use Rattle.cell_complexes.specs.Layers.{Layer, Layers, cells_of, layer_coefficient}
-use Rattle.cell_complexes.proofs.AlikeCells.{dimension-alike}
-use Rattle.cell_complexes.proofs.Matched.{AreListed-matched}
-use Rattle.cell_complexes.proofs.NoDoubles.{map-map}
-use Rattle.cube_squares.proofs.LabelNumbers.{number_from}
+use Rattle.cell_laws.specs.Alike.{AreAlike}
+use Rattle.cell_laws.specs.Cells.{dimension_at}
+use Rattle.cell_laws.specs.Cubes.{cube_of}
+use Rattle.cell_laws.specs.Layers.{Layer, Layers, cells_of, layer_coefficient}
+use Rattle.cell_laws.proofs.AlikeCells.{dimension-alike}
+use Rattle.cell_laws.proofs.Matched.{AreListed-matched}
+use Rattle.cell_laws.proofs.NoDoubles.{map-map}
+use Rattle.square_laws.proofs.LabelNumbers.{number_from}
 use Rattle.view_laws.specs.Partitions.{AgreeOn, counts_labels, keeps_classes, saddle_number, seen}
 use Rattle.view_laws.specs.Views.{HasCircles, IsInnerStep, IsPlain, IsView, SeeAlike, View, plain_view, together}
 use Rattle.view_laws.specs.ViewLayers.{degree_of_labels, inside_of, label_of_seen, ones_of, outer_along, outer_count, outer_number, relation_of, seen_at, state_of, view_layers}
-use Rattle.cell_complexes.specs.Signs.{sign_of_power}
-use Rattle.cell_complexes.proofs.CellLists.{cell-from, cell-of, cells-once}
+use Rattle.cell_laws.specs.Signs.{sign_of_power}
+use Rattle.cell_laws.proofs.CellLists.{cell-from, cell-of, cells-once}
 use Rattle.view_laws.proofs.Cells.{objects-once, seen_label, state-below}
 use Rattle.view_laws.proofs.Cut.{edge-changes}
 use Rattle.view_laws.proofs.InnerEdges.{dimension-cut, inner-none, layers-below}
-use Rattle.view_laws.proofs.JointStates.{inside-below}
+use Rattle.kh_types.proofs.JointNumbers.{inside-below}
 use Rattle.view_laws.proofs.SameClosed.{Changes, fits-seen}
-use Rattle.cell_complexes.proofs.ExchangedCubes.{coefficient-along}
+use Rattle.cell_laws.proofs.CubeCells.{coefficient-along}
 use Rattle.view_laws.proofs.Tests.{number-same}
 use Rattle.view_laws.proofs.Seen.{saddle-alike, seen-alike}
 

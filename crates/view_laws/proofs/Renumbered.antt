@@ -15,24 +15,24 @@ use Rattle.kh_types.specs.Residues.{HasInverses}
 use Rattle.kh_types.specs.Table.{dimension}
 use Rattle.kh_types.proofs.AcceptedLemmas.{HasArcsTwice-accepted}
 use Rattle.kh_types.proofs.ClassLemmas.{classes-finest, classes-together}
-use Rattle.kh_types.proofs.Lists.{Contains-range}
+use Rattle.kh_types.proofs.Lists.{Contains-range, range-within, within-range}
 use Rattle.kh_types.proofs.ListSums.{sum_by-plus, sum_by-range_alike, sum_by-single, sum_by-some, sum_by-turned}
-use Rattle.gluing.specs.Arcs.{arc_by_place}
-use Rattle.gluing.specs.Codes.{HoldsArcs, IsRenumbered, arc_of_dart, name_count}
-use Rattle.gluing.specs.Glue.{renamed}
-use Rattle.gluing.proofs.CodeCircles.{dart_smoothings-below, smoothings_of-darts}
-use Rattle.gluing.proofs.DartPairs.{dart_smoothings}
-use Rattle.gluing.proofs.Renamed.{AreBelow-renamed}
-use Rattle.gluing.proofs.SlidCodes.{smoothings-hold}
-use Rattle.gluing.proofs.Stubs.{renamed-twice}
-use Rattle.cell_complexes.specs.Cells.{dimension_at}
-use Rattle.cell_complexes.specs.Cubes.{cube_of}
-use Rattle.cell_complexes.proofs.NoDoubles.{once-range}
+use Rattle.kh_types.proofs.Tests.{agree}
+use Rattle.gluing_laws.specs.Arcs.{arc_by_place}
+use Rattle.gluing_laws.specs.Codes.{HoldsArcs, IsRenumbered, arc_of_dart, name_count}
+use Rattle.gluing_laws.specs.Glue.{renamed}
+use Rattle.gluing_laws.proofs.CodeCircles.{dart_smoothings-below, smoothings_of-darts}
+use Rattle.gluing_laws.proofs.DartPairs.{dart_smoothings}
+use Rattle.gluing_laws.proofs.Renamed.{AreBelow-renamed}
+use Rattle.gluing_laws.proofs.SlidCodes.{smoothings-hold}
+use Rattle.gluing_laws.proofs.Stubs.{renamed-twice, Respects-from_renamed}
+use Rattle.cell_laws.specs.Cells.{dimension_at}
+use Rattle.cell_laws.specs.Cubes.{cube_of}
+use Rattle.cell_laws.proofs.NoDoubles.{once-range}
 use Rattle.view_laws.specs.Views.{HasCircles, IsPlain, SeeAlike, circle_at, plain_view}
 use Rattle.view_laws.proofs.CircleNames.{HasCircles-accepted}
 use Rattle.view_laws.proofs.PlainViews.{dimension-plain}
 use Rattle.view_laws.proofs.Seen.{found-first}
-use Rattle.view_laws.proofs.Tests.{agree, range-within, within-range}
 
 -- a function from the numbers below n to themselves that takes no value twice takes each
 module _ (n : ℕ) (f : ℕ → ℕ) (below : (x : ℕ) → x < n → f x < n) (apart : (x y : ℕ) → x < n → y < n → f x ≡ f y → x ≡ y) where
@@ -126,11 +126,6 @@ module _ (n : ℕ) (f : ℕ → ℕ) (below : (x : ℕ) → x < n → f x < n) (
       let here : get_or (range_with_len 0 n) k 0 ≡ k = get_or-range_with_len 0 n k 0 k_below ∙ omega arith in
       apart k x k_below x_below (ap f (sym here) ∙ eqb-true (f (get_or (range_with_len 0 n) k 0)) (f x) found.passes)
 
--- what pairs respect, under other numbers
-respects-forth : (g f : ℕ → ℕ) (pairs : List (ℕ × ℕ)) → Respects g (renamed f pairs) → Respects (λ x. g (f x)) pairs
-respects-forth g f [] respects = tt
-respects-forth g f (pair ∷ pairs) respects = (respects.0, respects-forth g f pairs respects.1)
-
 respects-back : (g f inverse : ℕ → ℕ) (n : ℕ) (pairs : List (ℕ × ℕ)) → AreBelow n pairs → ((x : ℕ) → x < n → inverse (f x) ≡ x)
     → Respects g pairs → Respects (λ z. g (inverse z)) (renamed f pairs)
 respects-back g f inverse n [] below home respects = tt
@@ -171,7 +166,7 @@ module _ (f : ℕ → ℕ) (old new : Code) (same : IsRenumbered f old new) (hol
       let class = λ (z : ℕ). slice_index (classes_of (name_count old) (renamed f pairs)) z in
       ap (λ cs. slice_index cs (f x)) (circles-new state)
       ∙ classes-finest (λ z. class (f z)) (name_count old) pairs
-      (respects-forth class f pairs (classes-together (name_count old) (renamed f pairs) (new-below state))) (old-below state)
+      (Respects-from_renamed class f pairs (classes-together (name_count old) (renamed f pairs) (new-below state))) (old-below state)
       x y x_below y_below one_circle
       ∙ ap (λ cs. slice_index cs (f y)) (sym (circles-new state))
 

@@ -11,16 +11,17 @@ use Rattle.kh_types.specs.CircleNumbers.{IsName}
 use Rattle.kh_types.specs.Code.{Code}
 use Rattle.kh_types.specs.Edges.{TwoBecomeOne}
 use Rattle.kh_types.specs.Generators.{generator_of}
-use Rattle.cell_complexes.proofs.Members.{Contains-made}
-use Rattle.cube_squares.proofs.LabelNumbers.{number_from}
-use Rattle.cube_squares.proofs.TouchedCircles.{fits}
+use Rattle.kh_types.proofs.Tests.{agree, nat_eq-plus}
+use Rattle.cell_laws.proofs.Members.{Contains-made}
+use Rattle.square_laws.proofs.LabelNumbers.{number_from}
+use Rattle.square_laws.proofs.TouchedCircles.{fits}
 use Rattle.view_laws.specs.Partitions.{counts_labels, is_kept, keeps_classes, label_in, seen_count}
 use Rattle.view_laws.specs.Views.{HasCircles, IsView, View, circle_at, closed_at, together}
 use Rattle.view_laws.proofs.CircleNames.{label-small}
 use Rattle.view_laws.proofs.EdgePoints.{counts_all, fits-points, keeps_point, kept-back, same_at}
 use Rattle.view_laws.proofs.Shown.{all-ones, are-points, closed-name, closed_part, count-parts, few-closed, lab, label-in, ones-closed, ones-seen, seen_part}
-use Rattle.view_laws.proofs.Tests.{agree, all-agree, all-from}
-use Rattle.cell_complexes.proofs.Labels.{bits-same}
+use Rattle.view_laws.proofs.Tests.{all-agree, all-from}
+use Rattle.cell_laws.proofs.Labels.{bits-same}
 
 -- along an edge two circles become one, or one becomes two
 abbrev pub Changes : Code → ℕ → ℕ → ℕ → Type 0
@@ -38,11 +39,6 @@ lt-more : (a m n : ℕ) → nat_lt (a + m) (a + n) ≡ nat_lt m n
 lt-more a m n =
     agree (nat_lt (a + m) (a + n)) (nat_lt m n) (λ passes. lt-ltb m n (omega (arith, ltb-true (a + m) (a + n) passes)))
     (λ passes. lt-ltb (a + m) (a + n) (omega (arith, ltb-true m n passes)))
-
-eq-more : (a m n : ℕ) → nat_eq (a + m) (a + n) ≡ nat_eq m n
-eq-more a m n =
-    agree (nat_eq (a + m) (a + n)) (nat_eq m n) (λ passes. eq-eqb m n (omega (arith, eqb-true (a + m) (a + n) passes)))
-    (λ passes. eq-eqb (a + m) (a + n) (omega (arith, eqb-true m n passes)))
 
 module _ (code : Code) (view : View) (is : IsView code view) (circles : HasCircles code) (before behind : ℕ)
     (before_below : before < 2 ^ length code.crossings) (behind_below : behind < 2 ^ length code.crossings)
@@ -164,7 +160,7 @@ module _ (code : Code) (view : View) (is : IsView code view) (circles : HasCircl
         ap₂ nat_eq ones_behind
         (ap₂ (λ x y. x + y) ones_before more
         ∙ grouped i (ones (seen_count r view.names) l) (one_if (nat_lt (seen_count r view.names) (seen_count s view.names))))
-        ∙ eq-more i (ones (seen_count s view.names) m)
+        ∙ nat_eq-plus i (ones (seen_count s view.names) m)
         (ones (seen_count r view.names) l + one_if (nat_lt (seen_count r view.names) (seen_count s view.names)))
       where
         grouped : (a b c : ℕ) → a + b + c ≡ a + (b + c)

@@ -6,14 +6,14 @@ use Rattle.std.proofs.lemmas.Bool.{both_ways, cases_Bool, eq-eqb, eqb-true}
 use Rattle.std.proofs.lemmas.List.{get_or_default}
 use Rattle.kh_types.specs.Bits.{bit, one_if, ones}
 use Rattle.kh_types.proofs.Lists.{Contains-filter}
-use Rattle.cell_complexes.specs.Alike.{HasNoDoubles}
-use Rattle.cell_complexes.proofs.Members.{Contains-cases, Contains-first, Contains-kept, Contains-later}
-use Rattle.cube_squares.proofs.LabelNumbers.{number_from}
+use Rattle.cell_laws.specs.Alike.{HasNoDoubles}
+use Rattle.cell_laws.proofs.Members.{Contains-cases, Contains-first, Contains-kept, Contains-later}
+use Rattle.square_laws.proofs.LabelNumbers.{number_from}
 use Rattle.view_laws.specs.Partitions.{AgreeOn, first_with, is_kept, label_in, saddle_number, seen}
-use Rattle.cell_complexes.proofs.Labels.{bit-number, place}
-use Rattle.cell_complexes.proofs.Places.{numbers-test, place-found}
+use Rattle.cell_laws.proofs.Labels.{bit-number, place}
+use Rattle.cell_laws.proofs.Places.{numbers-test, place-found}
 use Rattle.view_laws.proofs.Tests.{all-agree, filter-agree}
-use Rattle.cell_complexes.proofs.NoDoubles.{once-filter}
+use Rattle.cell_laws.proofs.NoDoubles.{once-filter}
 
 -- the first element that passes a test
 pub record IsFound (p : ℕ → Bool) (xs : List ℕ) : Type 0 where

@@ -12,19 +12,19 @@ use Rattle.kh_types.specs.Differential.{label_of}
 use Rattle.kh_types.specs.Generators.{generator_of}
 use Rattle.kh_types.proofs.Lists.{Contains-map}
 use Rattle.kh_types.proofs.ListSums.{sum_by-map}
-use Rattle.cell_complexes.specs.Alike.{HasNoDoubles}
-use Rattle.cell_complexes.proofs.Matched.{AreListed-matched}
-use Rattle.cell_complexes.proofs.Members.{Contains-made, sum_by-members}
-use Rattle.cell_complexes.proofs.NoDoubles.{first-new, map-map, once-append, once-first, once-later}
-use Rattle.cube_squares.proofs.LabelNumbers.{number_from}
+use Rattle.cell_laws.specs.Alike.{HasNoDoubles}
+use Rattle.cell_laws.proofs.Matched.{AreListed-matched}
+use Rattle.cell_laws.proofs.Members.{Contains-made, sum_by-members}
+use Rattle.cell_laws.proofs.NoDoubles.{first-new, map-map, once-append, once-first, once-later}
+use Rattle.square_laws.proofs.LabelNumbers.{number_from}
 use Rattle.view_laws.specs.Partitions.{label_in, seen}
 use Rattle.view_laws.specs.Views.{HasCircles, IsView, View, circle_at, closed_at, together}
 use Rattle.view_laws.proofs.CircleNames.{circle-name, label-circle, label-small, name-from, name-of, names-once, ones-labels}
 use Rattle.view_laws.proofs.EdgePoints.{ArePoints}
-use Rattle.view_laws.proofs.JointStates.{inside-below}
-use Rattle.cell_complexes.proofs.Labels.{ones-map}
+use Rattle.kh_types.proofs.JointNumbers.{inside-below}
+use Rattle.cell_laws.proofs.Labels.{ones-map}
 use Rattle.view_laws.proofs.Seen.{first, first-key, label-seen, seen-apart, seen-from, seen-of, seen-once}
-use Rattle.cell_complexes.proofs.SplitLabels.{AreParts, counts, part}
+use Rattle.cell_laws.proofs.SplitLabels.{AreParts, counts, part}
 
 pub once-few : (xs : List ℕ) → length xs ≤ 1 → HasNoDoubles xs
 once-few xs few k l d less within same = omega (arith, few, less, within)

@@ -9,25 +9,17 @@ use Rattle.kh_types.specs.Circles.{circle_count}
 use Rattle.kh_types.specs.Code.{Code}
 use Rattle.kh_types.specs.Generators.{Generator, generator_of, generators, generators_of, states}
 use Rattle.kh_types.proofs.ListSums.{sum_by-single, sum_by-some}
-use Rattle.cell_complexes.specs.Alike.{HasNoDoubles}
-use Rattle.cell_complexes.proofs.Members.{Contains-made}
-use Rattle.cell_complexes.proofs.NoDoubles.{once-flat, once-map, once-range}
+use Rattle.cell_laws.specs.Alike.{HasNoDoubles}
+use Rattle.cell_laws.proofs.Members.{Contains-made}
+use Rattle.cell_laws.proofs.NoDoubles.{once-flat, once-map, once-range}
 use Rattle.view_laws.specs.Partitions.{saddle_number}
 use Rattle.view_laws.specs.ViewLayers.{outer_along, outer_number}
-use Rattle.cell_complexes.specs.Signs.{sign_of_power}
+use Rattle.cell_laws.specs.Signs.{sign_of_power}
 
 state-of : (code : Code) (state : ℕ) (x : Generator) → Contains (generators_of code state) x → x.state ≡ state
 state-of code state x has =
     let made = Contains-made (generator_of state) (range_with_len 0 (2 ^ circle_count code state)) x has in
     sym (ap (λ (y : Generator). y.state) made.2)
-
-pub generators-once : (code : Code) → HasNoDoubles (generators code)
-generators-once code =
-    once-flat (generators_of code) (states code) (once-range 0 (2 ^ length code.crossings))
-    (λ state.
-    once-map (generator_of state) (range_with_len 0 (2 ^ circle_count code state)) (λ k l same. ap (λ (y : Generator). y.label) same)
-    (once-range 0 (2 ^ circle_count code state)))
-    (λ state other x has has_too. sym (state-of code state x has) ∙ state-of code other x has_too)
 
 -- outer steps
 pub record IsOuterStep (s t place : ℕ) : Type 0 where

@@ -6,10 +6,10 @@ use Rattle.std.proofs.lemmas.Bool.{and_from, and_parts, both_ways, cases_eq, eq-
 use Rattle.std.proofs.lemmas.List.Sums.{sum_by-cons}
 use Rattle.std.proofs.lemmas.List.FromFn.{length-range_with_len, get_or-range_with_len}
 use Rattle.kh_types.specs.Edges.{is_other}
-use Rattle.cell_complexes.specs.Alike.{HasNoDoubles}
-use Rattle.cell_complexes.proofs.Members.{Contains-cases, Contains-first, Contains-later, sum_by-kept}
-use Rattle.cell_complexes.proofs.NoDoubles.{first-new, once-later}
-use Rattle.cube_squares.proofs.LabelNumbers.{number_from}
+use Rattle.cell_laws.specs.Alike.{HasNoDoubles}
+use Rattle.cell_laws.proofs.Members.{Contains-cases, Contains-first, Contains-later, sum_by-kept}
+use Rattle.cell_laws.proofs.NoDoubles.{first-new, once-later}
+use Rattle.square_laws.proofs.LabelNumbers.{number_from}
 use Rattle.view_laws.specs.ViewLayers.{number_with}
 use Rattle.std.proofs.lemmas.Bool.Decides.{nat_tests}
 
@@ -44,18 +44,9 @@ map-agree f g [] same = refl
 map-agree {A} {B} f g (x ∷ xs) same =
     ap₂ (λ (y : B) (ys : List B). y ∷ ys) (same x (Contains-first x xs)) (map-agree f g xs (λ y has. same y (Contains-later x y xs has)))
 
--- tests that say the same
-pub agree : (a b : Bool) → (a ≡ true → b ≡ true) → (b ≡ true → a ≡ true) → a ≡ b
-agree true b forth back = sym (forth refl)
-agree false true forth back = back refl
-agree false false forth back = refl
-
 pub and-same : (a b c : Bool) → (a ≡ true → b ≡ c) → (a && b) ≡ (a && c)
 and-same true b c same = same refl
 and-same false b c same = refl
-
-pub same-tests : (x y z w : ℕ) → (x ≡ y → z ≡ w) → (z ≡ w → x ≡ y) → nat_eq x y ≡ nat_eq z w
-same-tests x y z w onward back = grind (arith, nat_tests)
 
 -- a sum, with one element taken out
 pub sum-taken : (f : ℕ → ℕ) (xs : List ℕ) (z : ℕ) → HasNoDoubles xs → Contains xs z
@@ -86,29 +77,6 @@ sum-taken f (x ∷ xs) z once has = elim (cases_eq x z) [
 
     equal : (y : ℕ) → is_other z y ≡ false → y ≡ z
     equal y fails = eqb-true y z (not-false (nat_eq y z) fails)
-
-pub other-passes : (z y : ℕ) → y ≢ z → is_other z y ≡ true
-other-passes z y other = ap not (ne_eqb y z other)
-
-pub other-differs : (z y : ℕ) → is_other z y ≡ true → y ≢ z
-other-differs z y passes same = both_ways true (sym passes ∙ ap not (eq-eqb y z same)) refl
-
--- the members of a range
-pub record IsWithin (a n x : ℕ) : Type 0 where
-  pub above : a ≤ x
-  pub below : x < a + n
-
-pub range-within : (a n x : ℕ) → Contains (range_with_len a n) x → IsWithin a n x
-range-within a n x (k, below, is) =
-    let size = length-range_with_len a n in
-    let within : k < n = omega (arith, below, size) in
-    let at : a + k ≡ x = sym (get_or-range_with_len a n k x within) ∙ is in
-    record { above = omega (arith, at); below = omega (arith, at, within) }
-
-pub within-range : (a n x : ℕ) → a ≤ x → x < a + n → Contains (range_with_len a n) x
-within-range a n x above below =
-    let size = length-range_with_len a n in
-    (x - a, omega (arith, above, below, size), get_or-range_with_len a n (x - a) x (omega (arith, above, below)) ∙ omega (arith, above))
 
 -- one number of bits under two names
 pub number-same : (bs : List ℕ) → number_with bs ≡ number_from bs

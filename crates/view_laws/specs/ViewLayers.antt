@@ -7,10 +7,10 @@ use Rattle.kh_types.specs.Code.{Code}
 use Rattle.kh_types.specs.Circles.{circle_names}
 use Rattle.kh_types.specs.Differential.{coefficient, label_of}
 use Rattle.kh_types.specs.Generators.{Generator, generator_of}
-use Rattle.cell_complexes.specs.Layers.{Layers}
+use Rattle.cell_laws.specs.Layers.{Layers}
 use Rattle.view_laws.specs.Partitions.{saddle_number, seen, seen_count}
 use Rattle.view_laws.specs.Views.{View, circle_at, joint_state, together}
-use Rattle.cell_complexes.specs.Signs.{sign_of_power}
+use Rattle.cell_laws.specs.Signs.{sign_of_power}
 
 -- the number of an object, by the state of the inner crossings and the label of what closes there; and both of them, by the number
 abbrev pub object_of : View → ℕ → ℕ → ℕ

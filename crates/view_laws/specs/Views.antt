@@ -6,7 +6,7 @@ use Rattle.kh_types.specs.Code.{Code, IsCrossing, place_of}
 use Rattle.kh_types.specs.Circles.{circles_of, circle_of}
 use Rattle.kh_types.specs.CircleNumbers.{IsName}
 use Rattle.kh_types.specs.Edges.{MergesOrSplits}
-use Rattle.cell_complexes.specs.Alike.{HasNoDoubles}
+use Rattle.cell_laws.specs.Alike.{HasNoDoubles}
 use Rattle.view_laws.specs.Partitions.{AgreeOn}
 
 -- a view of a code: how many of its crossings, the first ones, are inner ones; names, each of an arc or a loop of the code; and for

@@ -10,14 +10,14 @@ ghost use Rattle.kh_types.specs.Directions.{minus_count, plus_count};
 ghost use Rattle.kh_types.specs.Generators.{Generator};
 ghost use Rattle.kh_types.specs.Residues.{HasInverses};
 ghost use Rattle.kh_types.specs.Table.{dimension};
-ghost use Rattle.gluing.specs.Codes.{IsRenumbered};
-ghost use Rattle.cell_complexes.specs.Cells.{AreComplex, dimension_at};
-ghost use Rattle.cell_complexes.specs.Cubes.{cube_of};
-ghost use Rattle.cell_complexes.specs.Layers.{IsTimesIdentity, cells_of};
+ghost use Rattle.gluing_laws.specs.Codes.{IsRenumbered};
+ghost use Rattle.cell_laws.specs.Cells.{AreComplex, dimension_at};
+ghost use Rattle.cell_laws.specs.Cubes.{cube_of};
+ghost use Rattle.cell_laws.specs.Layers.{IsTimesIdentity, cells_of};
 ghost use Rattle.view_laws.specs.Partitions.{AgreeOn, label_in, saddle_number, seen, seen_count};
 ghost use Rattle.view_laws.specs.Views.{HasCircles, IsInnerStep, IsPlain, IsView, SeeAlike, View, joint_state, plain_view, together};
 ghost use Rattle.view_laws.specs.ViewLayers.{inside_of, label_of_seen, object_of, outer_count, outer_number, view_layers};
-ghost use Rattle.cell_complexes.specs.Signs.{sign_of_power};
+ghost use Rattle.cell_laws.specs.Signs.{sign_of_power};
 
 /// In an accepted code circles have names, and edges merge or split.
 pub fn accepted_codes_have_circles()

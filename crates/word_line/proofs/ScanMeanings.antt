@@ -20,11 +20,7 @@ use Rattle.word_line.specs.ScanCommands.{AsksFor, HasFieldSizes, NamesFields}
 use Rattle.word_line.specs.ScanReading.{fields_in, fields_of, scan_command_given}
 use Rattle.word_line.specs.Values.{IsFieldSize, NamesField}
 use Rattle.word_line.proofs.Meanings.{IsGiven-once, IsGiven-read, NamesField-read, given_no_dash, field_no_dash, of_given, read-IsGiven, read-NamesField}
-
--- a value that is made of another
-made : {X Y P : Type 0} (f : X → Y) (o : Option X) (y : Y) → option_map f o ≡ Some y → ((x : X) → o ≡ Some x → f x ≡ y → P) → P
-made f None y same this = absurd (none-some y same)
-made f (Some x) y same this = this x refl (same_Some (f x) y same)
+use Rattle.kh_lex.proofs.NumeralReads.{option_map_some}
 
 -- fields
 pub NamesFields-read : (value : Text) (given : Fields) → fields_of value ≡ Some given → NamesFields value given
@@ -34,7 +30,7 @@ NamesFields-read value given same = go (bytes_eq value (codes "all")) refl same
         → cond b (Some fields.All) (option_map (λ size. fields.One size) (field_of value)) ≡ Some given → NamesFields value given
     go true is same = subst (NamesFields value) (same_Some fields.All given same) ((bytes_eq-Decides value (codes "all")).0 is)
     go false is same =
-        made (λ size. fields.One size) (field_of value) given same (λ size is_size is_given.
+        option_map_some (λ size. fields.One size) (field_of value) given same (λ size is_size is_given.
         subst (NamesFields value) is_given (NamesField-read value size is_size))
 
 -- the name of a field is not `all`
@@ -61,7 +57,7 @@ fields_no_dash value fields.All names = subst HasNoDash (sym names) all_no_dash
 pub AsksFor-read : (names values : List Text) (command : ScanCommand) → length names ≤ 1 → length values ≤ 1
     → scan_command_given (slice_get names 0) (slice_get values 0) ≡ Some command → AsksFor names values command
 AsksFor-read [] values command one few same =
-    made (λ size. Alone size) (field_in (slice_get values 0)) command same (λ size is_size is.
+    option_map_some (λ size. Alone size) (field_in (slice_get values 0)) command same (λ size is_size is.
     subst (AsksFor [] values) is (refl, IsGiven-read NamesField field_of 2 NamesField-read values size few is_size))
 AsksFor-read (name ∷ []) values command one few same = go (bytes_eq name (codes "each")) refl same
   where
@@ -70,7 +66,7 @@ AsksFor-read (name ∷ []) values command one few same = go (bytes_eq name (code
         → AsksFor (name ∷ []) values command
     go true is same =
         let named : name ≡ codes "each" = (bytes_eq-Decides name (codes "each")).0 is in
-        made (λ given. Each given) (fields_in (slice_get values 0)) command same (λ given is_given is.
+        option_map_some (λ given. Each given) (fields_in (slice_get values 0)) command same (λ given is_given is.
         subst (AsksFor (name ∷ []) values) is
         (ap (λ n. n ∷ []) named, IsGiven-read NamesFields fields_of (fields.One 2) NamesFields-read values given few is_given))
     go false is same = absurd (none-some command same)

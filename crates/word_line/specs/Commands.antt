@@ -1,4 +1,4 @@
--- The command that words mean (this project's rule).
+-- The command that words mean.
 use Rattle.std.specs.Prelude.{◌≡◌, ℕ, List, [], ◌∷◌, ◌++◌, None}
 use Rattle.word_line.specs.declared.command.Command.{Command}
 use Rattle.word_line.specs.declared.command.Form.TheVariants.{Pd}

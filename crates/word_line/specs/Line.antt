@@ -1,4 +1,4 @@
--- The program's line of words, as `clap` sees it (this project's rule).
+-- The program's line of words, as `clap` sees it.
 use Rattle.std.specs.Prelude.{ℕ, List, true, codes, Option, Some}
 use Rattle.clap.specs.Walk.{Rule}
 use Rattle.clap.specs.Matches.{first_value}

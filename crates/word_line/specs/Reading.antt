@@ -1,4 +1,4 @@
--- The reading of the texts that a line gives, as the way of the code (this project's rule).
+-- The reading of the texts that a line gives, as the way of the code.
 use Rattle.std.specs.Prelude.{ℕ, nat_le, ◌&&◌, if◌then◌else◌, List, codes, Option, None, Some}
 use Rattle.std.specs.Option.{option_map, option_and_then}
 use Rattle.std.specs.Borrow.{Bor}

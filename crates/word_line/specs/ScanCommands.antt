@@ -1,4 +1,4 @@
--- What words ask of `kh-scan` (this project's rule).
+-- What words ask of `kh-scan`.
 use Rattle.std.specs.Prelude.{◌≡◌, ⊤, ℕ, List, [], ◌∷◌, ◌++◌, codes}
 use Rattle.std.specs.List.{All}
 use Rattle.word_line.specs.declared.scan_command.Fields.{Fields}

@@ -1,4 +1,4 @@
--- The line of words of `kh-scan`, as `clap` sees it (this project's rule).
+-- The line of words of `kh-scan`, as `clap` sees it.
 use Rattle.std.specs.Prelude.{Option, codes}
 use Rattle.clap.specs.Matches.{first_value}
 use Rattle.clap.specs.Simple.{App, new_rule, with_rule}

@@ -1,4 +1,4 @@
--- The reading of the texts that a line of `kh-scan` gives, as the way of the code (this project's rule).
+-- The reading of the texts that a line of `kh-scan` gives, as the way of the code.
 use Rattle.std.specs.Prelude.{ℕ, if◌then◌else◌, List, codes, Option, None, Some}
 use Rattle.std.specs.Option.{option_map}
 use Rattle.std.specs.Str.{bytes_eq}

@@ -1,4 +1,4 @@
--- What the words of a command mean (this project's rule).
+-- What the words of a command mean.
 use Rattle.std.specs.Prelude.{◌≡◌, ◌⊎◌, ⊤, ℕ, ◌+◌, ◌≤◌, Bool, true, false, if◌then◌else◌, List, [], ◌∷◌, codes, Option, Some, None}
 use Rattle.kh_lex.specs.Numerals.{WritesNumber}
 use Rattle.word_line.specs.declared.command.Task.{Task}

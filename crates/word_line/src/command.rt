@@ -3,7 +3,7 @@
 use prime_field::FieldSize;
 use std::alloc::AllocError;
 
-/// What a command is to do. Source: this project's rule.
+/// What a command is to do.
 #[derive(Clone, Copy, Debug, PartialEq, Eq)]
 pub enum Task {
     /// Write the homology table, and the Jones polynomial.
@@ -38,7 +38,7 @@ pub enum Task {
     Union,
 }
 
-/// A form of codes as text. Source: this project's rule.
+/// A form of codes as text.
 #[derive(Clone, Copy, Debug, PartialEq, Eq)]
 pub enum Form {
     /// A planar diagram text (Knot Atlas, "Planar Diagrams").
@@ -47,7 +47,7 @@ pub enum Form {
     Gauss,
 }
 
-/// A task with what it needs. Source: this project's rule.
+/// A task with what it needs.
 #[derive(Clone, Copy, Debug, PartialEq, Eq)]
 pub struct Command {
     /// What to do.
@@ -64,7 +64,7 @@ pub struct Command {
     pub mark: Option<u8>,
 }
 
-/// Why words give no command. Source: this project's rule.
+/// Why words give no command.
 #[derive(Clone, Copy, Debug, PartialEq, Eq)]
 pub enum WordStop {
     /// The words mean none.

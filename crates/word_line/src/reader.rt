@@ -17,7 +17,7 @@ use clap::error::ErrorKind;
 use kh_types::Words;
 use std::alloc::{AllocError, Global};
 
-/// The command that the words after the program's name give. Source: this project's rule.
+/// The command that the words after the program's name give.
 pub fn read_words(alloc: Global, words: &Words) -> Result<Command, WordStop>
     ensures command { IfOk result (IsCommand words.now) }
     ensures sizes { IfOk result (λ command. IsFieldSize command.field × AreWorkers command.workers) }

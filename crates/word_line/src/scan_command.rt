@@ -2,7 +2,7 @@
 
 use prime_field::FieldSize;
 
-/// Over which fields the tables of a list are made. Source: this project's rule.
+/// Over which fields the tables of a list are made.
 #[derive(Clone, Copy, Debug, PartialEq, Eq)]
 pub enum Fields {
     /// One field, of so many elements.
@@ -11,7 +11,7 @@ pub enum Fields {
     All,
 }
 
-/// What the words of `kh-scan` ask for. Source: this project's rule.
+/// What the words of `kh-scan` ask for.
 #[derive(Clone, Copy, Debug, PartialEq, Eq)]
 pub enum ScanCommand {
     /// The table of one diagram, over the field of so many elements.

@@ -9,7 +9,7 @@ use clap::{Arg, Command};
 use std::alloc::{AllocError, Global};
 
 /// One positional, which may be absent, and one option that takes a value; no help, no name of the
-/// program before the words. Source: this project's rule.
+/// program before the words.
 pub(crate) fn scan_line<'a>(alloc: Global) -> Result<Command<'a>, AllocError>
     ensures { IfOk result (λ command. app_of command ≡ scan_line) }
 {

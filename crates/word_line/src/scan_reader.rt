@@ -19,7 +19,7 @@ use kh_types::Words;
 use prime_field::FieldSize;
 use std::alloc::Global;
 
-/// What the words after the name of `kh-scan` ask for. Source: this project's rule.
+/// What the words after the name of `kh-scan` ask for.
 pub fn read_scan_words(alloc: Global, words: &Words) -> Result<ScanCommand, WordStop>
     ensures command { IfOk result (IsScanCommand words.now) }
     ensures sizes { IfOk result HasFieldSizes }

@@ -9,8 +9,7 @@ use kh_lex::number_of;
 use kh_types::WORKERS;
 use prime_field::FieldSize;
 
-/// The texts that a line gives: its one positional, and the values of its options. Source: this
-/// project's rule.
+/// The texts that a line gives: its one positional, and the values of its options.
 #[derive(Clone, Copy)]
 pub struct Given<'a> {
     /// The positional.
@@ -27,7 +26,7 @@ pub struct Given<'a> {
     pub mark: Option<&'a str>,
 }
 
-/// The command of the texts that a line gives. Source: this project's rule.
+/// The command of the texts that a line gives.
 pub fn command_given(given: &Given<'_>) -> Option<Command>
     ensures { result ≡ command_given (word_behind given.now.task) (word_behind given.now.field)
         (word_behind given.now.workers) (word_behind given.now.to) (word_behind given.now.number)

@@ -1,9 +1,10 @@
 -- Rows of seats that gain or lose one each.
-use Rattle.std.proofs.Common.{◌≡◌, ℕ, ◌+◌, ◌<◌, List, [], ◌∷◌, ◌++◌, length, take, drop, get_or, All, sym, ap, subst, arith, length-append, ◌∙◌}
+use Rattle.std.proofs.Common.{◌≡◌, ℕ, ◌+◌, ◌<◌, List, [], ◌∷◌, ◌++◌, length, map, take, drop, get_or, All, sym, ap, subst, arith, append_assoc, length-append, ◌∙◌}
+use Rattle.std.specs.Prelude.{reverse}
 use Rattle.std.specs.Global.{Vec}
 use Rattle.std.specs.List.{AllZip}
 use Rattle.std.proofs.lemmas.List.Elements.{All-push, AllZip-get_or, length_all_zip}
-use Rattle.std.proofs.lemmas.List.{drop_all}
+use Rattle.std.proofs.lemmas.List.{drop_all, map-append, reverse-append}
 use Rattle.std.proofs.Math.ListN.{set, get_or-append}
 use Rattle.std.proofs.Math.Seq.{get_or-append_seam, take-append_seam}
 use Rattle.version_lock.specs.Calls.{LockFacts, SeatFacts, IsSeatOf}
@@ -16,6 +17,24 @@ written n xs ys e size =
     let f : n ≡ length xs = omega arith in
     let none : drop (length xs) ys ≡ [] = drop_all (length xs) ys (omega arith) in
     rw none (rw f (take-append_seam xs []))
+
+-- of the origins one more, where the values have one less
+pub origins_more : {A O : Type 0} (origin : A → O) (origins more whole : List O) (values rest : List A) (value : A)
+    → origins ++ reverse (map origin values) ≡ whole → values ≡ rest ++ value ∷ [] → more ≡ origins ++ origin value ∷ []
+    → more ++ reverse (map origin rest) ≡ whole
+origins_more origin origins more whole values rest value h e f =
+    ap (λ (front : List _). front ++ reverse (map origin rest)) f
+    ∙ append_assoc origins (origin value ∷ []) (reverse (map origin rest))
+    ∙ sym (ap (λ (back : List _). origins ++ back)
+    (ap (λ (xs : List _). reverse (map origin xs)) e ∙ ap reverse (map-append origin rest (value ∷ []))
+    ∙ reverse-append (map origin rest) (origin value ∷ [])))
+    ∙ h
+
+-- the origins of all are those of the first, and that of the last
+pub origins_push : {A O : Type 0} (origin_of : A → O) (all front : List A) (last : A) (origin : O) → all ≡ front ++ last ∷ []
+    → origin_of last ≡ origin → map origin_of all ≡ map origin_of front ++ origin ∷ []
+origins_push origin_of all front last origin e is =
+    ap (map origin_of) e ∙ map-append origin_of front (last ∷ []) ∙ ap (λ (o : _). map origin_of front ++ o ∷ []) is
 
 seats_more : {O : Type 0} (n : ℕ) (locks : List (LockFacts O)) (lock : LockFacts O) → All (λ l. l.seats ≡ n) locks → lock.seats ≡ n
     → All (λ l. l.seats ≡ n) (locks ++ lock ∷ [])

@@ -1,4 +1,4 @@
--- What the cancellation of all blocks of a diagram comes to (this project's rule).
+-- What the cancellation of all blocks of a diagram comes to.
 use Rattle.std.specs.Prelude.{◌≡◌, ℕ, ◌≤◌, ℤ, List, length, map, All, Result, Ok, Err}
 use Rattle.std.specs.List.{AllZip, Contains}
 use Rattle.kh_types.specs.Code.{Code}

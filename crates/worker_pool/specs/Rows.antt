@@ -1,4 +1,4 @@
--- Rows of seats: a worker's seats, one at each of many locks (this project's rule).
+-- Rows of seats: a worker's seats, one at each of many locks.
 use Rattle.std.specs.Prelude.{◌≡◌, ◌+◌, List, [], ◌∷◌, ◌++◌, length, All}
 use Rattle.std.specs.Global.{Vec}
 use Rattle.std.specs.List.{AllZip}

@@ -1,4 +1,4 @@
--- Slots for the blocks of a diagram, one at each of some quantum degrees (this project's rule).
+-- Slots for the blocks of a diagram, one at each of some quantum degrees.
 use Rattle.std.specs.Prelude.{◌≡◌, ℕ, ◌<◌, ℤ, pos, List, [], length, slice_index_or, All, Option, None, IfSome}
 use Rattle.std.specs.List.{AllByRecursion, AllZip}
 use Rattle.kh_types.specs.Code.{Code}

@@ -1,4 +1,5 @@
-//! The blocks of a diagram, cancelled to zero by workers that take turns at them.
+//! The blocks of a diagram, cancelled to zero by one worker or by many that take turns at them, in
+//! threads under locks.
 #![tactic(auto)]
 
 mod all_blocks;

@@ -4,7 +4,7 @@ ghost use Rattle.std.specs.Prelude.{◌≡◌};
 ghost use Rattle.worker_pool.specs.Outcomes.{no_memory, size_limit};
 
 use cube_signs::SizeLimit;
-use jones_sum::Table;
+use homology_tables::Table;
 use kh_types::NoMemory;
 use prime_field::PrimeField;
 use shared_block::SharedBlock;

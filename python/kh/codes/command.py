@@ -44,43 +44,19 @@ does not say the hand: one of two mirror images is chosen. Nor does a Gauss code
 What was changed is said on standard error, and of a wrong code the line and the place; the others are still turned. At the end comes how
 many were read and how many were wrong, where there were several or one was wrong. The status is 1 where one was wrong.
 """
-import argparse
 import sys
 
+from ..commands import reader
 from . import turning
-
-
-def tell_fault(path, statement, fault):
-    """Says what is wrong with a code, and shows where."""
-    where, shown, column = statement.place(fault.place)
-    print(f"{path}:{where}: {fault.what}\n  {shown}\n  {' ' * column}^", file=sys.stderr)
-
-
-def tell_counts(path, right, wrong, keep):
-    """Says how many codes were read and how many not, where there is more to say than that the only one was."""
-    if wrong or right > 1:
-        what = "kept as it stands" if wrong == 1 else "kept as they stand"
-        of_wrong = f", {wrong} wrong and {what if keep else 'left out'}" if wrong else ""
-        print(f"{path}: {right} code{'' if right == 1 else 's'} read{of_wrong}", file=sys.stderr)
 
 
 def convert(path, text, words):
     """Writes the codes of a text, and says how many were wrong."""
-    right = wrong = 0
-    for it in turning.all_of(text, words.clockwise):
-        line = it.code
-        if it.fault:
-            wrong += 1
-            tell_fault(path, it.statement, it.fault)
-            line = " ".join(it.statement.shown.split())
-            if not words.keep:
-                continue
-        else:
-            right += 1
-        for said in it.said:
-            print(f"{path}:{it.line}: {it.name}: {said}", file=sys.stderr)
-        print(f"{it.name}\t{line}" if words.names else line)
-    tell_counts(path, right, wrong, words.keep)
+    wrong = 0
+    for it, line in turning.converted(path, text, lambda said: print(said, file=sys.stderr), words.clockwise, words.keep):
+        wrong += bool(it.fault)
+        if line:
+            print(f"{it.name}\t{line}" if words.names else line)
     return wrong
 
 
@@ -94,7 +70,7 @@ def text_of(path):
 
 
 def main():
-    parser = argparse.ArgumentParser(prog="kh-codes", description=__doc__, formatter_class=argparse.RawDescriptionHelpFormatter)
+    parser = reader(__doc__, "kh-codes")
     parser.add_argument("--clockwise", action="store_true", help="lists go clockwise")
     parser.add_argument("--names", action="store_true", help="write names before codes")
     parser.add_argument("--keep", action="store_true", help="write a wrong code as it stands, for kh to refuse")
@@ -105,4 +81,3 @@ def main():
     for path in words.files or ([] if words.link else ["-"]):
         wrong += convert("input" if path == "-" else path, text_of(path), words)
     sys.exit(1 if wrong else 0)
-

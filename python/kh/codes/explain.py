@@ -8,17 +8,15 @@ ANSWER is a file that has what it wrote; where it is empty the built program is 
 import os
 import re
 import shlex
-import subprocess
-import sys
 from typing import NamedTuple
 
 from ..places import TOP, built_file
-from . import refusals
+from ..programs import ran
+from . import refusals, turning
 from .pointing import MARGIN, is_plain, pointed, wrapped
 
 # The built programs of both scripts.
 PROGRAMS = {"kh": built_file("kh_main"), "kh-scan": built_file("scan_main")}
-KH_CODES = os.path.join(TOP, "tools", "kh-codes")
 KH_SCAN = os.path.join(TOP, "kh-scan")
 # The most bytes of a code and of a log with which the program is asked once more, the most of a code that `kh-codes` is asked about, and
 # the seconds that either may take.
@@ -87,29 +85,31 @@ def read(start, most):
     return given
 
 
-def ended(words, given):
-    """The status of a program that reads these bytes, and what it writes."""
-    came = subprocess.run(words, input=given, stdout=subprocess.PIPE, stderr=subprocess.DEVNULL, timeout=PATIENCE)
-    return came.returncode, came.stdout
-
-
 def answer(status, kept, source):
     """Whether what was written is about a second code, the first word of its line, and the others; None where that is not known."""
     if kept:
         with open(kept, "rb") as file:
             came, wrote = status, file.read(CODE_BYTES)
     else:
-        came, wrote = ended([PROGRAMS[source.name], *source.words], source.given)
+        came, wrote, _ = ran([PROGRAMS[source.name], *source.words], source.given, PATIENCE)
     found = ANSWER.fullmatch(wrote.decode(errors="replace"))
     return (bool(found[1]), found[2], found[3]) if found and came == status == STATUSES[found[2]] else None
+
+
+def count_of(part):
+    """How many codes `tools/kh-codes` reads in a text; none where one is wrong."""
+    try:
+        found = list(turning.all_of(part.decode("utf-8-sig")))
+    except UnicodeDecodeError:
+        return 0
+    return 0 if any(it.fault for it in found) else len(found)
 
 
 def in_another_form(source, part, refusal):
     """What `tools/kh-codes` can do with a code."""
     if refusal.startswith(NOT_MENDED) or not part.strip() or len(part) > FORM_BYTES:
         return
-    status, wrote = ended([sys.executable, KH_CODES], part)
-    count = wrote.count(b"\n") if status == 0 else 0
+    count = count_of(part)
     if count > 1 and source.name == "kh-scan":
         yield from wrapped(f"tools/kh-codes reads {count} codes in it, and kh-scan takes many by its command each:")
         yield f"{MARGIN}{called('tools/kh-codes')} {source.file} | {called(source.name, ['each', *source.words])}"

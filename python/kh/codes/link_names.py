@@ -1,4 +1,5 @@
 """Reads names of links: those of the reference, torus links, whose braids are made, and the unknot."""
+import difflib
 import json
 import os
 import re
@@ -24,6 +25,8 @@ NO_LINK = (
     "by Rolfsen's names (7^2_1) and {} by Thistlethwaite's, and torus links such as T(3,7): "
     "write a planar diagram, a DT code or a braid word"
 )
+# How many names are told that are near another one.
+NEAR = 3
 # How the diagram of a name stands to the one that the tables draw.
 HANDS = {
     "same": "as the Knot Atlas has it",
@@ -117,6 +120,23 @@ def fault_of(name, known, place):
     if meant:
         return codes.Fault(f"{name} has several directions: write {' or '.join(meant)}", place)
     return codes.Fault(NO_LINK.format(f"{directed[0]} to {directed[-1]}"), place)
+
+
+def near(name, names):
+    """Those of these names that may be meant by one that is none of them: other names of its link, else the same in other letters, else the
+    first that are written alike."""
+    known, names = reference(), [*names]
+    meant = [rest for it, rest in known.items() if it == name or it.startswith(name + "{")]
+    same = [it for it in names if known.get(it) in meant and not it.startswith(name + "{")]
+    written = {it.lower(): it for it in reversed(names)}
+    alike = difflib.get_close_matches(name.lower(), written, NEAR)
+    return same[:NEAR] or [written[it] for it in alike if it == name.lower()] or [written[it] for it in alike]
+
+
+def question(names):
+    """Whether one of these names is meant; nothing where there are none."""
+    *first, last = names or [""]
+    return f"is {' or '.join(filter(None, (', '.join(first), last)))} meant?" if last else ""
 
 
 def read(name, place, known):

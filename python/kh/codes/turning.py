@@ -73,3 +73,24 @@ def all_of(text, clockwise=False):
             yield Turned(name, code, said, statement.line, statement)
         except codes.Fault as fault:
             yield Turned(name, "", [], statement.line, statement, fault)
+
+
+def converted(path, text, say, clockwise=False, keep=False):
+    """Each code of a text with the line that it becomes, which is empty where it is wrong, or then its own text, where such are kept. What
+    there is to say is said line by line, and at the end how many were read and how many not, where there were several or one was wrong."""
+    right = wrong = 0
+    for it in all_of(text, clockwise):
+        if it.fault:
+            where, shown, column = it.statement.place(it.fault.place)
+            say(f"{path}:{where}: {it.fault.what}\n  {shown}\n  {' ' * column}^")
+            wrong += 1
+            yield it, " ".join(it.statement.shown.split()) if keep else ""
+            continue
+        for said in it.said:
+            say(f"{path}:{it.line}: {it.name}: {said}")
+        right += 1
+        yield it, it.code
+    if wrong or right > 1:
+        what = "kept as it stands" if wrong == 1 else "kept as they stand"
+        of_wrong = f", {wrong} wrong and {what if keep else 'left out'}" if wrong else ""
+        say(f"{path}: {right} code{'' if right == 1 else 's'} read{of_wrong}")

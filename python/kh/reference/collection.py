@@ -1,6 +1,6 @@
 """Compares all answers of a program with the reference, and counts them by what is said of them.
 
-An answer is a line of JSON in a file, with the name of a link as `name` and its table as one of the members that `forms.py` knows, and
+An answer is a line of JSON in a file, with the name of a link as `name` and its table as one of the members that `table_forms.py` knows, and
 `field` and `reduced` where they are to be said; or it is a file of a folder, named for the link, such as `8_19.txt`, or for the link and
 the field, such as `8_19.3.txt`, with a table in any form.
 """
@@ -10,24 +10,28 @@ import sys
 from collections import Counter
 from typing import NamedTuple
 
-from ..answers import Unreadable
-from .forms import INTEGRAL, RATIONAL, Reading, field_of, groups_of, j_is_first, read, read_value
+from ..commands import Unreadable
+from .table_forms import INTEGRAL, RATIONAL, Empty, Reading, field_of, groups_of, j_is_first, read, read_value
 from .stored import listed
-from .ways import AGREES, EXPLAINED, OTHER, TURNINGS, Comparison, Table, Verdict, sentence
+from .ways import AGREES, EXPLAINED, NEAREST, OTHER, TURNINGS, Comparison, Table, Verdict, sentence, short
 
 OVER = {RATIONAL: "Q", INTEGRAL: "Z"}
+NO_TABLE, NO_ANSWER = "no table", "no answer"
 # How many of the ways in which single answers are exact are tried for all of them.
 TRIED = 4
 ASK = "the numbers of their pairs may be i, j or j, i: --order ij or --order ji names it"
 
 
 class Answer(NamedTuple):
-    """An answer: where it stands, the link that it names, and what was read, or why nothing could be."""
+    """An answer: where it stands, the link that it names, and what was read, or why nothing could be; over what it is, where that is known
+    before it is read; and whether there is no answer."""
 
     where: str
     name: str
     reading: Reading
     fault: str = ""
+    field: object = None
+    is_none: bool = False
 
 
 def answers_of(path):
@@ -59,7 +63,7 @@ def of_line(where, line):
     except (ValueError, RecursionError):
         return Answer(where, name, None, "it is no JSON")
     except Unreadable as fault:
-        return Answer(where, name, None, str(fault))
+        return Answer(where, name, None, str(fault), None, isinstance(fault, Empty))
 
 
 def of_file(folder, name):
@@ -74,16 +78,21 @@ def of_file(folder, name):
         with open(os.path.join(folder, name), encoding="utf-8") as file:
             reading = read(file.read())
     except (Unreadable, UnicodeDecodeError) as fault:
-        return Answer(name, link, None, str(fault))
+        return Answer(name, link, None, str(fault), field, isinstance(fault, Empty))
     return Answer(name, link, reading if field is None else reading._replace(field=field))
 
 
 class Compared(NamedTuple):
-    """An answer that was compared: its link and field in words, the comparison, and what came of it."""
+    """An answer that was compared: its link, its field in words, the comparison, and what came of it."""
 
-    label: str
+    name: str
+    over: str
     comparison: Comparison
     verdict: Verdict
+
+    @property
+    def label(self):
+        return f"{self.name} {self.over}"
 
 
 class Collection:
@@ -92,9 +101,12 @@ class Collection:
     def __init__(self, answers, reference, words):
         self.answers, self.reference, self.words = answers, reference, words
         self.compared, self.unreadable, self.strangers, self.fields = [], [], [], {}
+        # (the links whose answers are no tables; and those without an answer, by the field in words and why)
+        self.faulty, self.without = [], {}
         self.is_first = self.order()
         for answer in answers:
             self.add(answer)
+        self.way, self.exact = self.one_way()
 
     def order(self):
         """Whether j stands first in the pairs of all answers, by those in which it can be told; nothing where none tells it, or not all
@@ -125,28 +137,80 @@ class Collection:
 
     def add(self, answer):
         """Compares an answer."""
-        if not answer.reading:
-            self.unreadable.append(f"{answer.where}{f', {answer.name}' if answer.name else ''}: {answer.fault}")
+        if not answer.reading and not answer.is_none:
+            self.refuse(answer, answer.fault)
             return
         if answer.name not in self.reference.lines:
             self.strangers.append(answer.name)
+            return
+        if answer.is_none:
+            over = "" if answer.field is None else over_words(answer.field, self.words.reduced)
+            self.without.setdefault((over, answer.fault), []).append(answer.name)
             return
         try:
             table = self.table(answer)
             comparison = Comparison(table, self.reference, answer.name)
         except Unreadable as fault:
-            self.unreadable.append(f"{answer.where}, {answer.name}: {fault}")
+            self.refuse(answer, fault)
             return
         self.fields.setdefault((table.field, table.is_reduced), set()).add(answer.name)
-        label = f"{answer.name} {over_words(table.field, table.is_reduced)}"
-        self.compared.append(Compared(label, comparison, comparison.verdict()))
+        over = over_words(table.field, table.is_reduced)
+        self.compared.append(Compared(answer.name, over, comparison, comparison.verdict()))
+
+    def refuse(self, answer, fault):
+        """Notes why an answer is no table."""
+        where = answer.where if answer.where.startswith(answer.name) else f"{answer.where}, {answer.name}"
+        self.unreadable.append(f"{where}: {fault}")
+        over = "" if answer.field is None else over_words(answer.field, self.words.reduced)
+        self.faulty.append((answer.name, over))
 
     def missing(self):
-        """What links of the reference have no answer, over each field for which there are answers."""
+        """The links of the reference that have no answer and are not told of yet, by the field in words, for each of those for which there
+        are answers, and why."""
+        found = {key: [*names] for key, names in self.without.items()}
+        told = {name for names in self.without.values() for name in names} | {name for name, _ in self.faulty}
         for (field, is_reduced), names in self.fields.items():
-            left = [name for name in self.reference.lines if name not in names and self.reference.wanted_if_any(name, field, is_reduced)]
+            seen = names | told
+            left = [it for it in self.reference.lines if it not in seen and self.reference.wanted_if_any(it, field, is_reduced)]
             if left:
-                yield f"{counted(len(left), 'link has', 'links have')} no answer {over_words(field, is_reduced)}: {self.some(left)}"
+                found.setdefault((over_words(field, is_reduced), ""), []).extend(left)
+        return found
+
+    def silent(self):
+        """A line for the links that have no answer, for each reason; the same ones over several fields are told once."""
+        alike = {}
+        for (over, why), names in self.missing().items():
+            alike.setdefault((why, tuple(names)), []).append(over)
+        for (why, names), overs in alike.items():
+            words = " ".join(filter(None, (counted(len(names), "link has", "links have"), "no answer", listed(overs))))
+            yield f"{words}{f', since {why}' if why else ''}: {self.some(names)}"
+
+    def links(self):
+        """What came of each link of the reference, in its order."""
+        found = {name: {} for name in self.reference.lines}
+        turned = {it.name for it in self.exact if it.verdict.kind != AGREES}
+        for it in self.compared:
+            found[it.name][it.over] = short(*self.way) if it.name in turned and it in self.exact else it.verdict.short
+        for name, over in self.faulty:
+            found.get(name, {})[over] = NO_TABLE
+        for (over, _), names in self.missing().items():
+            for name in names:
+                found[name][over] = NO_ANSWER
+        return {name: of_link(outcomes) for name, outcomes in found.items()}
+
+    def by_way(self):
+        """The links that agree, and those that are exact in the one way; a link that is its own image in it agrees."""
+        outcomes, word = self.links(), short(*self.way)
+        turned = [it for it in self.exact if it.verdict.kind != AGREES]
+        agreeing = [name for name, outcome in outcomes.items() if outcome == AGREES]
+        yield from self.naming("agree", agreeing)
+        yield from self.naming(word, [*dict.fromkeys(it.name if outcomes[it.name] == word else it.label for it in turned)])
+
+    def naming(self, word, names):
+        """A line with the first of these names, if there are any."""
+        if names:
+            more = len(names) - self.words.most
+            yield f"{word}: {', '.join(names[: self.words.most])}{f' and {more} more' if more > 0 else ''}"
 
     def some(self, names):
         """The first of these names, and how many more there are."""
@@ -188,22 +252,30 @@ class Collection:
     def lines(self):
         """What is said of all."""
         yield f"{len(self.of_kind(AGREES))} of {counted(len(self.compared), 'answer agrees', 'answers agree')}"
-        way, exact = self.one_way()
-        if way:
-            yield f"{len(exact)} of {len(self.compared)} are exact in one way: {sentence(*way)}"
-        yield from self.explained(exact)
-        others = [it for it in self.of_kind(OTHER) if it not in exact]
+        if self.way:
+            yield f"{len(self.exact)} of {len(self.compared)} are exact in one way: {sentence(*self.way)}"
+            yield from self.by_way()
+        yield from self.explained(self.exact)
+        others = [it for it in self.of_kind(OTHER) if it not in self.exact]
         rows = [f"{it.label}: {first_of(it.verdict.lines)}" for it in others]
         yield from self.listing(rows, "answer is another table", "answers are other tables")
         yield from self.listing(self.unreadable, "answer is no table", "answers are no tables")
         if self.strangers:
             yield f"{counted(len(self.strangers), 'answer is', 'answers are')} of no link of the reference: {self.some(self.strangers)}"
-        yield from self.missing()
+        yield from self.silent()
 
     def is_fine(self):
         """Whether all links have an answer that agrees."""
         agreeing = len(self.of_kind(AGREES))
-        return 0 < agreeing == len(self.compared) and not (self.unreadable or [*self.missing()])
+        return 0 < agreeing == len(self.compared) and not (self.unreadable or self.missing())
+
+
+def of_link(outcomes):
+    """What came of a link, by what came of it over each field: the one outcome, or those over each field where it does not agree."""
+    words = {*outcomes.values()}
+    if len(words) < 2:
+        return words.pop() if words else NO_ANSWER
+    return ", ".join(f"{word} {over}".rstrip() for over, word in sorted(outcomes.items()) if word != AGREES)
 
 
 def over_words(field, is_reduced):
@@ -216,7 +288,7 @@ def counted(count, one, many):
 
 def first_of(rows):
     """The first row that is another one, behind what is said before, and how many more there are."""
-    heads = [row for row in rows[:1] if row.endswith("there:")]
+    heads = [row for row in rows[:1] if row.startswith(NEAREST)]
     rows = [row for row in rows[len(heads) :] if not row.startswith("(")]
     more = f"; and {counted(len(rows) - 1, 'row', 'rows')} more" if len(rows) > 1 else ""
     return " ".join([*heads, rows[0]]) + more

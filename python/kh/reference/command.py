@@ -15,12 +15,12 @@ do not, or where something can not be read. `docs/REFERENCE.md` has the conventi
 import argparse
 import sys
 
-from ..answers import Unreadable, given
 from ..codes import link_names
+from ..commands import Unreadable, command, given, reader
 from ..places import reference_file
 from . import collection
 from .alone import doubts, terms_of
-from .forms import INTEGRAL, RATIONAL, field_of, groups_of, j_is_first, read
+from .table_forms import INTEGRAL, RATIONAL, field_of, groups_of, j_is_first, read
 from .stored import Reference
 from .ways import AGREES, MIRROR, TURNINGS, Comparison, Table, other_links
 
@@ -96,7 +96,7 @@ def count(text):
 
 
 def parsed():
-    parser = argparse.ArgumentParser(description=__doc__, formatter_class=argparse.RawDescriptionHelpFormatter)
+    parser = reader(__doc__)
     parser.add_argument("name", nargs="?", help="of a link of the reference")
     parser.add_argument("file", nargs="*", help="instead of standard input")
     parser.add_argument("--field", type=field_word, metavar="P", help="2, 3, 5, 7, 0 (rational) or Z; else what the text says, or 2")
@@ -112,6 +112,7 @@ def parsed():
     return words
 
 
+@command
 def main():
     words = parsed()
     lines, is_fine = (compare_all if words.all else try_alone if words.alone else compare_one)(words)

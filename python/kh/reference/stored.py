@@ -3,12 +3,16 @@
 Tables that are compared are dimensions by (size of the field, j, i). A table over the rational numbers has the size 0; one over the
 integers is compared over all fields.
 """
+import functools
 import json
 from typing import NamedTuple
 
-from ..answers import Unreadable
-from .forms import INTEGRAL, RATIONAL
+from ..commands import Unreadable
+from .table_forms import INTEGRAL, RATIONAL
 from .groups import over, ranks
+
+# The files of the reference.
+FILES = {"reference": "vectors.jsonl", "prime": "prime.jsonl", "large": "large.jsonl"}
 
 
 class Wanted(NamedTuple):
@@ -25,6 +29,13 @@ def listed(words):
     """Words in a row: one, two and three."""
     *first, last = map(str, words)
     return f"{', '.join(first)} and {last}" if first else last
+
+
+@functools.cache
+def diagrams(path):
+    """The planar diagrams of a file of vectors, by name."""
+    with open(path, encoding="utf-8") as file:
+        return {it["name"]: it["pd"] for it in map(json.loads, file) if "name" in it}
 
 
 class Reference:

@@ -3,14 +3,15 @@
 The reference's table is turned in eight ways, and shifted by a constant of j and of i. A way is told where the table is exact in it; where
 nothing is exact, the nearest way is told if it explains most of the differences, with the rows that are other ones in it.
 """
+import re
 from collections import Counter
 from typing import NamedTuple
 
-from .forms import INTEGRAL
+from .table_forms import INTEGRAL
 from .groups import has_torsion
 from .stored import given_tables, listed
 
-AGREES, EXPLAINED, OTHER = "agrees", "explained", "other"
+AGREES, EXPLAINED, OTHER = "agrees", "explained", "another table"
 # What each turning of the reference makes of the degrees (j, i), what comes of it, and what is said of a table that agrees with it.
 TURNINGS = [
     (lambda j, i: (j, i), "the reference", "the same table"),
@@ -22,8 +23,14 @@ TURNINGS = [
     (lambda j, i: (i, -j), "the reference with i before j, and j negated", "the columns are exchanged, and j is negated"),
     (lambda j, i: (-i, j), "the reference with i before j, and i negated", "the columns are exchanged, and i is negated"),
 ]
+# The same in few words.
+SHORT = [
+    "", "mirrored", "j negated", "i negated", "columns exchanged", "columns exchanged, mirrored", "columns exchanged, j negated",
+    "columns exchanged, i negated",
+]
 MIRROR, EXCHANGED, NEGATES_I = 1, 4, (1, 3, 5, 7)
 HOMOLOGY = "the groups are homology: torsion stands at i - 1 where the reference, in cohomology, has it at i"
+NEAREST, WORDS_BEFORE = "nearest is", re.compile("^(it|this) is ")
 INVERSES = "i and j are negated: q and t stand for the inverses of the reference's, and the link is not mirrored"
 # How many shifts of a turning are tried, how many names and rows are told.
 SHIFTS, NAMES, ROWS = 2, 3, 6
@@ -39,11 +46,12 @@ class Table(NamedTuple):
 
 
 class Verdict(NamedTuple):
-    """What is said of a table: whether it agrees, is explained or is another one, the lines, and the turning and the shift in which it is
-    exactly the one that is wanted, if it is in any."""
+    """What is said of a table: whether it agrees, is explained or is another one, the lines, the same in few words, and the turning and the
+    shift in which it is exactly the one that is wanted, if it is in any."""
 
     kind: str
     lines: list
+    short: str
     exact: tuple = None
 
 
@@ -69,10 +77,22 @@ class Way(NamedTuple):
             return HOMOLOGY if words == TURNINGS[0][2] else f"{words}; and {HOMOLOGY}"
         return words
 
+    def short(self):
+        """The same in few words."""
+        words = short(self.place, self.shift)
+        if self.is_homology and self.place not in NEGATES_I:
+            return f"{words}, as homology" if words else "as homology"
+        return words.replace("mirrored", "i and j negated") if self.is_homology and self.place == MIRROR else words
+
     def heading(self):
         """What is said before the rows that are other ones in this way."""
         words = f", and {shift_words(self.place, self.shift)}" if self.shift != (0, 0) else ""
-        return f"nearest is {TURNINGS[self.place][1]}{words}{', in homology' if self.is_homology else ''}; there:"
+        return f"{NEAREST} {TURNINGS[self.place][1]}{words}{', in homology' if self.is_homology else ''}:"
+
+    def name(self):
+        """What the reference's table, turned and shifted so, is called beside yours."""
+        words = "mirrored " if self.place == MIRROR else "turned " if self.place else "shifted " if self.shift != (0, 0) else ""
+        return f"the {words}reference"
 
     def explains(self, differences):
         """Whether this way explains the most of so many differences; a shift, which can be of any size, has to explain more."""
@@ -83,6 +103,11 @@ def shift_words(place, shift):
     """How j and i are shifted, where the columns of a turning may be exchanged."""
     j, i = shift[::-1] if place >= EXCHANGED else shift
     return " and ".join(f"{letter} shifted by {by}" for letter, by in (("j", j), ("i", i)) if by)
+
+
+def short(place, shift):
+    """How the reference is turned and shifted, in few words."""
+    return ", ".join(filter(None, (SHORT[place], shift_words(place, shift))))
 
 
 def sentence(place, shift, words=""):
@@ -96,12 +121,12 @@ def other_rows(table, other):
 
 
 def row_lines(table, other, words, is_exchanged=False):
-    """A line for each pair of degrees with another dimension."""
+    """A line for each pair of degrees with another dimension; the words have places for both dimensions."""
     lines, sizes = [], {key[0] for key in (*table, *other)}
     for key in other_rows(table, other):
         j, i = key[:0:-1] if is_exchanged else key[1:]
         where = f"over {key[0]} elements j" if len(sizes) > 1 else "j"
-        lines.append(f"{where} {j} i {i}: {table.get(key, 0)}, and {other.get(key, 0)} {words}")
+        lines.append(f"{where} {j} i {i}: {words.format(table.get(key, 0), other.get(key, 0))}")
     return lines
 
 
@@ -154,15 +179,17 @@ class Comparison:
         given = readings(self.table, self.sizes)[0]
         for it in self.wanted:
             if given == it.dimensions:
-                return Verdict(AGREES, agreement(it, self.table.field))
+                return Verdict(AGREES, agreement(it, self.table.field), AGREES)
         tried = [way for it in self.wanted for way in ways(self.table, self.sizes, it.dimensions)]
         exact = min((way for way in tried if not way.count), key=Way.rank, default=None)
-        is_turned = exact and exact.shift == (0, 0)
-        lines = [exact.sentence()] if is_turned else self.other_field() or self.other_kind()
-        if not lines and exact:
-            lines = [exact.sentence(), *self.reason(exact)]
+        way = exact and (exact.place, exact.shift)
+        lines = [] if exact and exact.shift == (0, 0) else self.other_field() or self.other_kind()
+        if exact and not lines:
+            return Verdict(EXPLAINED, [exact.sentence(), *self.reason(exact)], exact.short(), way)
         lines = lines or other_links(self.table, self.reference)
-        return Verdict(EXPLAINED, lines, exact and (exact.place, exact.shift)) if lines else Verdict(OTHER, self.nearest(tried))
+        if not lines:
+            return Verdict(OTHER, self.nearest(tried), OTHER)
+        return Verdict(EXPLAINED, lines, WORDS_BEFORE.sub("", lines[0].partition(", and not")[0].partition(", which")[0]), way)
 
     def agrees_in(self, place, shift):
         """Whether the table is exact in this way."""
@@ -204,12 +231,14 @@ class Comparison:
 
     def reason(self, way):
         """Why a table may be shifted so."""
+        if way.place or way.shift == (0, 0):
+            return []
         line = next(iter(self.reference.need(self.name).values()))
         plus, minus = line.get("plus", 0), line.get("minus", 0)
-        if way.place == 0 and way.shift == (2 * minus - plus, minus):
+        if way.shift == (2 * minus - plus, minus):
             return ["so are the degrees of the cube, without the numbers n+ and n- of crossings"]
         components = sum(coefficient for _, coefficient in line.get("jones", []))
-        if way.place == 0 and components > 2 and way.shift[0] == 3 * way.shift[1] and way.shift[1] % 2 == 0:
+        if components > 2 and way.shift[0] == 3 * way.shift[1] and way.shift[1] % 2 == 0:
             return ["so it is where components are turned round that link the others"]
         return []
 
@@ -221,8 +250,9 @@ class Comparison:
         best = min(fitting, key=Way.rank, default=as_it_stands)
         if best.rank()[1:] == (False, False, 0):
             it = self.wanted[plain.index(best)]
-            return row_lines(best.table, best.other, f"in the reference{' ' if it.marks else ''}{it.marks}") + doubt(it, best)
-        return [best.heading(), *row_lines(best.table, best.other, "there", best.place >= EXCHANGED)]
+            words = f"{{}}, and {{}} in the reference{' ' if it.marks else ''}{it.marks}"
+            return row_lines(best.table, best.other, words) + doubt(it, best)
+        return [best.heading(), *row_lines(best.table, best.other, f"yours {{}}, {best.name()} {{}}", best.place >= EXCHANGED)]
 
 
 def agreement(wanted, field):

@@ -5,7 +5,7 @@
 import re
 from typing import NamedTuple
 
-from ..answers import Unreadable, given
+from ..commands import Unreadable, given
 from .planar import walk_from
 
 ITEM = re.compile(r"X\[(\d+), ?(\d+), ?(\d+), ?(\d+)\]")

@@ -2,20 +2,19 @@
 
 No shell is used, and no words are passed on but those of the table.
 """
-import contextlib
 import os
-import signal
 import subprocess
-import tempfile
 from concurrent.futures import ThreadPoolExecutor
-from typing import NamedTuple
 
-from ..answers import Unreadable
+from .. import programs
+from ..commands import Unreadable
 from ..places import TOP, built_file
+from ..programs import ANSWERED, TOO_LARGE, Answer
+from ..tables import FIELDS
 
-KH, KH_CODES = (os.path.join(TOP, *path) for path in (["kh"], ["tools", "kh-codes"]))
 BUILT, BUILT_SCAN = map(built_file, ("kh_main", "scan_main"))
-FIELDS = (2, 3, 5, 7)
+# (the script of a checkout asks the interpreter where nothing is built)
+KH = os.path.join(TOP, "kh") if TOP else BUILT
 CHECK, CONVERT, GAUSS, DRAW, JONES, EDIT, MIRROR, REVERSE = (
     ("check",), ("convert",), ("convert", "--to", "gauss"), ("draw",), ("jones",), ("edit",), ("mirror",), ("reverse",)
 )
@@ -23,19 +22,8 @@ HOMOLOGY = {field: ("homology", "--field", str(field)) for field in FIELDS}
 # The words of `kh-scan`, which takes no command for one diagram.
 SCANNED = {field: words[1:] for field, words in HOMOLOGY.items()}
 COMMANDS = {CHECK, CONVERT, GAUSS, DRAW, JONES, EDIT, MIRROR, REVERSE, *HOMOLOGY.values()}
-ANSWERED, TOO_LARGE, MOVE_REFUSED = 0, 6, 7
 # The most bytes that `kh` takes as a code.
 MOST_BYTES = 65_536
-# The processes that run.
-RUNNING = set()
-
-
-class Answer(NamedTuple):
-    """The status of a run, what it wrote, and what it said on standard error."""
-
-    status: int
-    wrote: str
-    said: str
 
 
 class Refusal(Unreadable):
@@ -46,39 +34,13 @@ class Refusal(Unreadable):
         self.answer = answer
 
 
-def begun(words, file, given):
-    """A process that reads a text from this file, in a session of its own."""
-    file.write(given.encode(errors="replace"))
-    file.seek(0)
-    return subprocess.Popen(words, stdin=file, stdout=subprocess.PIPE, stderr=subprocess.PIPE, start_new_session=True)
-
-
-def end(process):
-    """Ends a process, and what it has begun, which is of its session."""
-    with contextlib.suppress(ProcessLookupError):
-        os.killpg(process.pid, signal.SIGKILL)
-
-
-def end_all():
-    """Ends all that still runs."""
-    for process in list(RUNNING):
-        end(process)
-
-
 def ran(words, given, seconds):
     """What these words write, given a text, in so many seconds at most. (`./kh` shows the place of a fault where its input is a file.)"""
-    with tempfile.TemporaryFile() as file, begun(words, file, given) as process:
-        RUNNING.add(process)
-        try:
-            wrote, said = process.communicate(timeout=seconds)
-        except BaseException as stop:
-            end(process)
-            if isinstance(stop, subprocess.TimeoutExpired):
-                raise Unreadable(f"it takes longer than {seconds} seconds") from stop
-            raise
-        finally:
-            RUNNING.discard(process)
-    return Answer(process.returncode, wrote.decode(errors="replace"), said.decode(errors="replace"))
+    try:
+        status, *texts = programs.ran(words, given.encode(errors="replace"), seconds, subprocess.PIPE)
+    except subprocess.TimeoutExpired as stop:
+        raise Unreadable(f"it takes longer than {seconds} seconds") from stop
+    return Answer(status, *(it.decode(errors="replace") for it in texts))
 
 
 class Kh:

@@ -2,7 +2,7 @@
 
 `drawing` makes a picture of them, and `page_figure.py` the drawing of a page.
 """
-from ..answers import Unreadable
+from ..commands import Unreadable
 from .arcs import in_order, leaving_darts, numbers_of
 from .labels import arrows_of, around, beside, name_of, page_of, placed
 from .page import colour_class, number_text, path_of, picture, text_at

@@ -7,7 +7,8 @@ import math
 from collections import Counter
 from typing import NamedTuple
 
-from ..answers import Unreadable
+from ..commands import Unreadable
+from ..laurent import Polynomial
 from .planar import classes
 
 # The crossings up to which all states are counted, up to which they are listed, and up to which they are drawn.
@@ -81,7 +82,7 @@ def refuse_other_sum(states, degrees, jones):
     sums = Counter()
     for (j, i), them in by_degrees(states, degrees).items():
         sums[j] += (-1 if i % 2 else 1) * sum(count for _, count, _ in them)
-    if {j: count for j, count in sums.items() if count} != jones:
+    if Polynomial(sums) != jones:
         raise Unreadable("the generators of the states do not add up to the Jones line")
 
 

@@ -1,5 +1,5 @@
 """Tables as grids, as the Knot Atlas has them: j down from the greatest, i across; as text, as a picture and as a table of HTML."""
-from ..answers import Unreadable, euler, jones_from
+from ..commands import Unreadable
 from .page import picture, text_at, text_width
 
 BETWEEN = "    "
@@ -14,7 +14,7 @@ STAR = "* not the same over all these fields: torsion"
 
 def ranges(tables):
     """The quantum degrees that the rows have, from the greatest, and the homological degrees of the columns."""
-    degrees = [pair for table in tables for pair in table.dimensions]
+    degrees = [pair for table in tables for pair in table]
     if not degrees:
         return [], []
     high, low = max(j for j, _ in degrees), min(j for j, _ in degrees)
@@ -23,16 +23,21 @@ def ranges(tables):
 
 def differing(tables):
     """The pairs of degrees at which the tables have not all one dimension."""
-    pairs = {pair for table in tables for pair in table.dimensions}
-    return {pair for pair in pairs if len({table.dimensions.get(pair, 0) for table in tables}) > 1}
+    pairs = {pair for table in tables for pair in table}
+    return {pair for pair in pairs if len({table[pair] for table in tables}) > 1}
 
 
 def refuse_other_links(tables):
     """Refuses tables that stand side by side and can not be of one diagram."""
-    if len({tuple(jones_from(table).items()) for table in tables}) > 1 or len({table.mark for table in tables}) > 1:
+    if len({table.jones for table in tables}) > 1 or len({table.mark for table in tables}) > 1:
         raise Unreadable("these are tables of more than one diagram")
-    if len({j % 2 for table in tables for j, _ in table.dimensions}) > 1:
+    if len({j % 2 for table in tables for j, _ in table}) > 1:
         raise Unreadable("the quantum degrees are even and odd")
+
+
+def euler(table):
+    """The Euler characteristic of each row other than 0."""
+    return {j: count for (j, _), count in table.euler.terms.items()}
 
 
 def title(table):
@@ -41,7 +46,7 @@ def title(table):
 
 def cell(table, pair, stars):
     """What stands in a cell: the dimension above 0, or any that differs, and whether it does."""
-    dimension = table.dimensions.get(pair, 0)
+    dimension = table[pair]
     return (str(dimension) if dimension or pair in stars else ""), pair in stars
 
 
@@ -131,7 +136,7 @@ def told(tables):
     """What the picture shows, in words."""
     parts = []
     for table in tables:
-        cells = [f"{table.dimensions[j, i]} at j {j} and i {i}" for j, i in sorted(table.dimensions)]
+        cells = [f"{dimension} at j {j} and i {i}" for j, i, dimension in table.rows]
         parts.append(f"Dimensions {title(table)}: {', '.join(cells) or 'none above 0'}.")
     return " ".join([*parts, *([f"Not the same over all fields at {pairs_told(tables)}."] if differing(tables) else [])])
 

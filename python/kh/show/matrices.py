@@ -7,7 +7,7 @@ categorification of the Jones polynomial, section 3).
 import itertools
 from typing import NamedTuple
 
-from ..answers import Unreadable
+from ..commands import Unreadable
 from .generators import State, edges_of
 
 PLUS, MINUS = 1, -1

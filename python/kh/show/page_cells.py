@@ -1,7 +1,7 @@
 """The cells of the table on a page: what is told of each, its generators, the matrices into it and out of it, and what these come to."""
 from html import escape
 
-from .asking import FIELDS
+from ..tables import FIELDS
 from .generators import MOST_LISTED
 from .matrices import PLUS, Differential, divisors, generators_at, rank, refuse_other_ranks
 from .page import number_text
@@ -55,7 +55,7 @@ class Cells:
         """Refuses tables that are not what the matrices come to, as no answer of `kh` is."""
         for table in self.sheet.tables:
             for pair, them in self.lists.items():
-                refuse_other_ranks(len(them), self.ranks(pair, table.field), table.dimensions.get(pair, 0), pair)
+                refuse_other_ranks(len(them), self.ranks(pair, table.field), table[pair], pair)
 
     def generators(self, pair):
         """The generators of a cell, drawn where they are few."""
@@ -127,7 +127,7 @@ def ranks_told(sheet, generators):
     table, told, rank_of = sheet.tables[0] if sheet.tables else None, {}, {}
     for j, i in sorted(generators) if table else []:
         count, into = sum(many for _, many, _ in generators[j, i]), rank_of.get((j, i - 1), 0)
-        rank_of[j, i] = out = count - into - table.dimensions.get((j, i), 0)
+        rank_of[j, i] = out = count - into - table[j, i]
         sum_of = f"{count} − {out} − {into} = {count - out - into}"
         told[j, i] = f"Over {table.field} elements: {sum_of}, the ranks out of it and into it taken away."
     return told

@@ -5,18 +5,18 @@ import json
 import os
 from html import escape
 
-from ..answers import euler
+from ..laurent import divided
 from .generators import MOST_DRAWN, MOST_LISTED, edges_of
+from .grids import euler, ranges
 from .page import CLASSES, COLOURS
 from .page_cells import cells_of, ranks_told
 from .page_cube import cube_of
 from .page_figure import SIGNS, Figure, crossing_view, drawing_of, smoothing_view
 from .page_scan import scan_section
 from .page_texts import (
-    EDGES, circles_told, counts_told, fields_told, generators_told, jones_html, knot_atlas_html, listed, poincare_html, power, signed,
-    state_link,
+    EDGES, circles_told, counts_told, fields_told, generators_told, knot_atlas_html, listed, polynomial_html, power, signed, state_link,
 )
-from .sheet import alike, divided
+from .sheet import alike
 
 # The columns from which on a grid is set in small letters.
 BROAD = 12
@@ -64,12 +64,10 @@ class Grid:
 
     def __init__(self, sheet):
         self.sheet, self.generators = sheet, sheet.generators()
-        pairs = [pair for table in sheet.tables for pair in table.dimensions]
-        self.rows = list(range(max(j for j, _ in pairs), min(j for j, _ in pairs) - 1, -2)) if pairs else []
-        self.columns = list(range(min(i for _, i in pairs), max(i for _, i in pairs) + 1)) if pairs else []
+        self.rows, self.columns = ranges(sheet.tables)
 
     def dimensions(self, pair):
-        return [table.dimensions.get(pair, 0) for table in self.sheet.tables]
+        return [table[pair] for table in self.sheet.tables]
 
     def has_torsion(self, pair):
         return len(set(self.dimensions(pair))) > 1
@@ -83,7 +81,7 @@ class Grid:
 
     def cell(self, table, pair):
         """A cell of a table's grid."""
-        count, star = table.dimensions.get(pair, 0), self.has_torsion(pair)
+        count, star = table[pair], self.has_torsion(pair)
         if not self.is_told(pair):
             return "<td></td>"
         shown = f"{count}*" if star else str(count) if count else "·"
@@ -115,13 +113,12 @@ class Grid:
 
 def plain_grid(table, name):
     """The grid of a table alone."""
-    rows, columns = ({at[side] for at in table.dimensions} for side in (0, 1))
-    columns = range(min(columns), max(columns) + 1) if columns else []
+    rows, columns = ranges([table])
     head = "".join(f'<th scope="col">{signed(it)}</th>' for it in columns)
     lines = [f'<table class="grid{many(columns)}"><caption>{name}</caption>']
     lines.append(f'<thead><tr><th scope="col">j \\ i</th>{head}</tr></thead><tbody>')
-    for j in range(max(rows), min(rows) - 1, -2) if rows else []:
-        cells = "".join(f"<td>{table.dimensions.get((j, i), '')}</td>" for i in columns)
+    for j in rows:
+        cells = "".join(f"<td>{table[j, i] or ''}</td>" for i in columns)
         lines.append(f'<tr><th scope="row">{signed(j)}</th>{cells}</tr>')
     return "\n".join([*lines, "</tbody></table>"])
 
@@ -152,12 +149,11 @@ def table_section(grid):
 
 def polynomial_section(sheet):
     """The Jones polynomial in its forms, and the Poincaré polynomials."""
-    rows = [("Jones, unnormalised", jones_html(sheet.jones))]
-    quotient = divided(sheet.jones)
+    rows, quotient = [("Jones, unnormalised", polynomial_html(sheet.jones))], divided(sheet.jones)
     if quotient:
-        rows.append((f"divided by {power('q', 1)} + {power('q', -1)}", jones_html(quotient)))
+        rows.append((f"divided by {power('q', 1)} + {power('q', -1)}", polynomial_html(quotient)))
         rows.append((f"in t, with q = {signed('-')}t<sup>1/2</sup>", knot_atlas_html(quotient)))
-    rows += [(f"Poincaré, {fields_told(fields)}", poincare_html(table)) for fields, table in alike(sheet.tables)]
+    rows += [(f"Poincaré, {fields_told(fields)}", polynomial_html(table.poincare())) for fields, table in alike(sheet.tables)]
     lines = "".join(f"<dt>{name}</dt><dd>{text}</dd>" for name, text in rows)
     return f'<dl class="polynomials">{lines}</dl><p class="note">As <code>kh</code> writes it: <code>{escape(sheet.jones_line)}</code></p>'
 

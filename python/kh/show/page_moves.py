@@ -8,8 +8,9 @@ import re
 from collections import Counter
 from typing import NamedTuple
 
-from ..answers import Unreadable
-from .asking import ANSWERED, EDIT, MOVE_REFUSED
+from ..commands import Unreadable
+from ..programs import ANSWERED, MOVE_REFUSED
+from .asking import EDIT
 from .planar import classes
 
 # A line of a script that makes, undoes or redoes a move.

@@ -1,7 +1,7 @@
 """The scan of a diagram on a page, step by step: the crossing that comes, objects and maps, what is cancelled, and the count at the end."""
 from collections import Counter
 
-from ..answers import Unreadable
+from ..commands import Unreadable
 from .page import number_text
 from .page_figure import box_text
 from .page_texts import counted, fields_told, signed
@@ -85,7 +85,7 @@ def items(figure, table):
             head = f"<h3>What is left of it</h3><p>{told}. A way through what was cancelled is added to the maps between the others.</p>"
             found.append(f"{head}{so_far(figure, count)}{picture(left, order, [], f'left behind crossing {count}: {told}')}")
         last = left
-    if last.maps or count_of(sheet, last) != table.dimensions:
+    if last.maps or table != count_of(sheet, last):
         raise Unreadable(f"the scan over {p} elements does not count what the table has")
     return [*found, f"<h3>The count</h3>{last_told(sheet, last)}"]
 
@@ -95,7 +95,7 @@ def scan_section(figure):
     tables = {table.field: table for table in figure.sheet.tables}
     if not figure.count or not tables:
         return ""
-    fields = [2] + ([3] if tables[2].dimensions != tables[3].dimensions else [])
+    fields = [2] + ([3] if [*tables[2].rows] != tables[3].rows else [])
     lists = [(field, items(figure, tables[field])) for field in fields]
     if any(found is None for _, found in lists):
         return f'<p class="note">A step of the scan has more than {MOST} objects, and is not drawn.</p>'

@@ -1,7 +1,7 @@
 """What a served page has beside that of a file: the form for codes, the moves with their undo and redo, and what did not change."""
 from html import escape
 
-from .asking import FIELDS
+from ..tables import FIELDS
 from .page_figure import Figure
 from .page_html import page_of, plain_grid, section, whole
 from .page_moves import KINDS
@@ -66,7 +66,7 @@ def table_told(before, now, base):
     """What became of the table."""
     if before.limit or now.limit:
         return f"The table is not computed: {escape(now.limit or before.limit)}."
-    alike = all(one.dimensions == other.dimensions for one, other in zip(before.tables, now.tables))
+    alike = all(one == other for one, other in zip(before.tables, now.tables))
     fields = ", ".join(map(str, FIELDS[:-1])) + f" and {FIELDS[-1]}"
     stays = f'The table stays: <a href="{base}/theorem">proved</a>. ' if alike else ""
     return f"{stays}The table over {fields} elements, computed anew, is {'the same' if alike else 'another one'}."

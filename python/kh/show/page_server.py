@@ -16,8 +16,9 @@ import threading
 import urllib.parse
 from typing import NamedTuple
 
+from ..commands import Unreadable, given
+from ..places import DOCS
 from . import page_served, page_theorem
-from ..answers import Unreadable, given
 from .asking import MOST_BYTES
 from .page_html import policy
 from .page_session import TURNS, Busy
@@ -56,6 +57,7 @@ class Handler(http.server.BaseHTTPRequestHandler):
     """One request on a connection of its own."""
 
     server_version, sys_version, protocol_version, timeout = "kh-page", "", "HTTP/1.0", SECONDS
+    server: "Server"
 
     def handle(self):
         # (whoever sends a byte now and then is not waited for)
@@ -154,7 +156,7 @@ class Handler(http.server.BaseHTTPRequestHandler):
         if path == "/theorem":
             return Reply(200, HTML, page_theorem.theorem_page(base, HEAD))
         if path[1:] in page_theorem.pictures():
-            return Reply(200, SVG, given([os.path.join(page_theorem.DOCS, path[1:])]))
+            return Reply(200, SVG, given([os.path.join(DOCS, path[1:])]))
         number, what, move = self.step(session, path)
         if what == "":
             return Reply(200, HTML, page_served.step_page(session, base, number, HEAD))

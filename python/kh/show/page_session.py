@@ -3,18 +3,20 @@
 A step never changes: a move makes another one, so that the browser's way back is the way back. As many are kept as have room.
 """
 import re
-import sys
 import threading
 from collections import OrderedDict
 from typing import NamedTuple
 
-from ..answers import Unreadable, read_drawing
+from ..codes import turning
+from ..commands import Unreadable
+from ..programs import ANSWERED
 from .arcs import crossings_of
-from .asking import ANSWERED, CONVERT, DRAW, KH_CODES, MIRROR, REVERSE, Refusal, ran
+from .asking import CONVERT, DRAW, MIRROR, REVERSE, Refusal
 from .figure import Diagram, svg_of
 from .page_figure import Change, Figure, preview_of
 from .page_moves import LINE, MOST_LINES, accepted, behind
 from .sheet import sheet_of
+from .slices import read_drawing
 
 # How many steps are kept, how many sheets with their moves, and how long a request waits for the one before it.
 MOST_STEPS, MOST_SHEETS, WAIT = 2_000, 24, 120
@@ -120,12 +122,12 @@ class Session:
         is that of the first."""
         if BARE.fullmatch(text):
             text = f"PD[{', '.join(CROSSING.findall(text))}]"
-        came = ran([sys.executable, KH_CODES, "--names"], text, self.kh.seconds)
-        said = re.sub(r"^input: .*\n", "", re.sub(r"^input:(?=\d)", "line ", came.said, flags=re.M), flags=re.M)
-        if not came.wrote:
+        told = []
+        lines = [(it.name, line) for it, line in turning.converted("input", text, told.append) if line]
+        said = "".join(f"{re.sub(r'^input:', 'line ', it)}\n" for it in told if not it.startswith("input: "))
+        if not lines:
             raise Unreadable(said.strip() or "there is no code in this text")
-        lines = came.wrote.splitlines()
-        name, _, code = lines[0].partition("\t")
+        name, code = lines[0]
         if len(lines) > 1:
             said += f"Of {len(lines)} codes the first is shown.\n"
         try:

@@ -37,23 +37,18 @@ def sum_of(terms):
     return "".join(parts) or "0"
 
 
-def jones_html(jones):
-    """A polynomial in q, by exponents."""
-    return sum_of([(jones[exponent], power("q", exponent)) for exponent in sorted(jones)])
+def polynomial_html(polynomial):
+    """A polynomial in q and t."""
+    return sum_of([(count, power("q", j) + power("t", i)) for (j, i), count in polynomial.terms.items()])
 
 
 def knot_atlas_html(jones):
     """The same in t, with q = -t^(1/2)."""
     terms = []
-    for exponent in sorted(jones):
+    for (exponent, _), count in jones.terms.items():
         half = f"{exponent}/2" if exponent % 2 else exponent // 2
-        terms.append((-jones[exponent] if exponent % 2 else jones[exponent], power("t", half)))
+        terms.append((-count if exponent % 2 else count, power("t", half)))
     return sum_of(terms)
-
-
-def poincare_html(table):
-    """The Poincaré polynomial of a table: for each pair of degrees the dimension times q^j t^i."""
-    return sum_of([(table.dimensions[j, i], power("q", j) + power("t", i)) for j, i in sorted(table.dimensions)])
 
 
 def listed(texts, last="and"):

@@ -7,11 +7,10 @@ import os
 import re
 from html import escape
 
-from ..answers import given
-from ..places import TOP
+from ..commands import given
+from ..places import DOCS
 from .page_html import whole
 
-DOCS = os.path.join(TOP, "docs")
 FILE = os.path.join(DOCS, "INVARIANCE.md")
 PICTURE = re.compile(r"!\[([^\]]*)\]\((pictures/[\w-]+\.svg)\)")
 # What stands in a line: code, a link, bold and slanted letters.

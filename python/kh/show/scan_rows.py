@@ -3,7 +3,7 @@ import math
 from html import escape
 
 from .page import number_text as near
-from .scan import PLAIN, discs, number_at
+from .scan import PLAIN, discs
 
 STEP, AHEAD = 170, 40
 ROUND, SMALL = 27, 15

@@ -2,10 +2,13 @@
 import re
 from typing import NamedTuple
 
-from ..answers import Unreadable, jones_of, read_drawing, read_tables
+from ..commands import Unreadable
+from ..laurent import Polynomial, jones_of
+from ..tables import FIELDS, Table
 from .arcs import crossings_of
-from .asking import CHECK, CONVERT, DRAW, FIELDS, GAUSS, JONES
+from .asking import CHECK, CONVERT, DRAW, GAUSS, JONES
 from .generators import MOST_COUNTED, Degrees, by_degrees, refuse_other_sum, states_of
+from .slices import read_drawing
 
 COUNTS = re.compile(
     r"accepted crossings (?P<crossings>\d+) plus (?P<plus>\d+) minus (?P<minus>\d+) components (?P<components>\d+) "
@@ -16,7 +19,7 @@ SIGNS = re.compile(r"Signs\[([-\d, ]*)\]")
 
 class Sheet(NamedTuple):
     """The name of a diagram; its code as `kh convert` writes it, its crossings, their signs, how many loops; the counts of `check` by
-    their words; the slices of its drawing; its Jones line and that by exponents; its tables, or the line of the limit; its states, where
+    their words; the slices of its drawing; its Jones line, and what it says; its tables, or the line of the limit; its states, where
     these are counted."""
 
     name: str
@@ -27,7 +30,7 @@ class Sheet(NamedTuple):
     counts: dict
     slices: list
     jones_line: str
-    jones: dict
+    jones: Polynomial
     tables: list
     limit: str
     states: list
@@ -46,9 +49,10 @@ def sheet_of(kh, text, name=""):
     code = kh.answer(CONVERT, text).strip()
     signs = SIGNS.search(kh.answer(GAUSS, code))
     jones_line = kh.answer(JONES, code).strip()
+    tables, limit = tables_of(kh, code)
     sheet = Sheet(
         name, code, crossings_of(code, "the answer"), [int(it) for it in re.findall(r"-?\d+", signs[1] if signs else "")],
-        counts["loops"], counts, read_drawing(kh.answer(DRAW, code)), jones_line, jones_of(jones_line), *tables_of(kh, code), [],
+        counts["loops"], counts, read_drawing(kh.answer(DRAW, code)), jones_line, jones_of(jones_line), tables, limit, [],
     )
     if len(sheet.signs) != len(sheet.crossings) or sheet.signs.count(1) != counts["plus"]:
         raise Unreadable("the signs of the Gauss code are not those that were counted")
@@ -65,7 +69,7 @@ def tables_of(kh, code):
         text, is_table = kh.table(field, code, scanned)
         if not is_table:
             return [], text.strip()
-        tables += read_tables(text)
+        tables += Table.all_of(text)
     return tables, ""
 
 
@@ -73,18 +77,5 @@ def alike(tables):
     """The tables in groups that have the same dimensions: the fields of each, and one of its tables."""
     groups = {}
     for table in tables:
-        groups.setdefault(tuple(sorted(table.dimensions.items())), []).append(table)
+        groups.setdefault(tuple(table.items()), []).append(table)
     return [([it.field for it in them], them[0]) for them in groups.values()]
-
-
-def divided(jones):
-    """The Jones polynomial divided by that of the unknot, q + q^-1, by exponents; nothing where there is a rest."""
-    left, found = dict(jones), {}
-    while left and len(found) <= 200:
-        least = min(left)
-        count = found[least + 1] = left.pop(least)
-        left[least + 2] = left.get(least + 2, 0) - count
-        left = {exponent: it for exponent, it in left.items() if it}
-        if left and max(left) > max(jones):
-            return None
-    return found if not left else None

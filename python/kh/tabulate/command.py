@@ -38,7 +38,7 @@ from collections import Counter
 from ..places import built_file
 from . import lists, queries
 from .chosen import Chosen, in_parts
-from .programs import KH, KINDS, LIMIT_OF_CUBES, SCAN, Answer, Lost, Single, Task, try_program
+from .tasks import KH, KINDS, LIMIT_OF_CUBES, SCAN, Answer, Lost, Single, Task, try_program
 from .results import ANSWERED, COLUMNS, OLDER, ROW, Fault, Keeper, open_database, open_to_read, rebuild, together
 from .streams import Scans, in_runs
 from .telling import Progress, Tally
@@ -216,7 +216,6 @@ def write(words):
     every = ANSWERED.replace("links cross join", of_list, 1) if chosen else ANSWERED
     if not words.json:
         print(line_of(COLUMNS))
-    count = 0
     for row in database.execute(f"select {ROW} from {every} order by {'place' if chosen else 'links.id'}, field"):
         print(json.dumps(dict(zip(COLUMNS, row))) if words.json else line_of(row))
     if chosen:

@@ -1,14 +1,10 @@
 """Reads the lists of `kh-tabulate`, line by line, however long they are."""
 import itertools
-import os
-import subprocess
 import sys
 
-from ..codes import statements
-from ..places import TOP
+from ..codes import statements, turning
 from .results import Fault
 
-CODES = [os.path.join(TOP, "tools", "kh-codes")] if TOP else [sys.executable, "-c", "from kh.codes.command import main; main()"]
 INPUT = "-"
 
 
@@ -28,15 +24,14 @@ def of_lines(lines):
 
 def of_table(path, is_told):
     """The name and the code of each row of a table with a heading, as `tools/kh-codes` reads it."""
-    said = None if is_told else subprocess.DEVNULL
-    words = [*CODES, "--names", "--keep", path]
-    with subprocess.Popen(words, stdout=subprocess.PIPE, stderr=said, text=True, encoding="utf-8") as codes:
-        try:
-            yield from of_lines(codes.stdout)
-            if codes.wait() not in (0, 1):
-                raise Fault(f"{path} can not be read")
-        finally:
-            codes.kill()
+    with open(path, encoding="utf-8-sig") as file:
+        text = file.read()
+
+    def say(said):
+        if is_told:
+            print(said, file=sys.stderr)
+
+    yield from ((it.name, line) for it, line in turning.converted(path, text, say, keep=True) if is_link(line))
 
 
 def is_heading(line):

@@ -10,8 +10,9 @@ import sys
 from itertools import groupby
 from typing import Callable, NamedTuple
 
-from .programs import TABLE
-from .results import ANSWERED, Fault, dimensions_of, text_of
+from ..commands import Unreadable
+from ..tables import Table, of_short_rows
+from .results import ANSWERED, Fault, text_of
 
 FIELDS = (2, 3, 5, 7)
 # The lines of `kh-scan each` before its answers.
@@ -87,7 +88,7 @@ def digest(texts):
 
 def mirror_text(text):
     """The table of the mirror image: over a field the dimension at j, i is that at -j, -i."""
-    return text_of({(-j, -i): dimension for (j, i), dimension in dimensions_of(text).items()})
+    return text_of({(-j, -i): dimension for (j, i), dimension in of_short_rows(text).items()})
 
 
 class Mirrors:
@@ -172,7 +173,7 @@ def torsion(asked, counts):
     """The pairs of degrees at which a link has not one dimension over all of its fields, with the dimensions over each; of a prime, those
     where the dimension over it is greater than over another field."""
     for (name, code), results in links_of(asked):
-        tables = {it.field: dimensions_of(it.text) for it in answered(results)}
+        tables = {it.field: of_short_rows(it.text) for it in answered(results)}
         if len(tables) < 2 or asked.prime and asked.prime not in tables:
             counts["unknown"] += 1
             continue
@@ -197,16 +198,17 @@ def refused(asked, counts):
 
 def given_tables(text, fields):
     """The texts of the tables of standard input over these fields, or all, as results have them: those of one link, in frames or without."""
-    text, found = FRAMED.sub("", text), {}
-    for it in TABLE.finditer(text):
-        field, rows = int(it[0].split()[3]), it[1].replace("j ", "").replace(" i ", " ").replace(" dim ", " ")
-        if found.setdefault(field, rows) != rows:
-            raise Fault(f"standard input has two tables over {field} elements; those of one link are wanted")
-    if not found or TABLE.sub("", text).strip():
-        raise Fault("standard input has no tables, as kh-scan and kh homology write them")
+    found = {}
+    try:
+        for it in Table.all_of(FRAMED.sub("", text)):
+            if it.mark is not None or found.setdefault(it.field, it) != it:
+                told = f"two tables over {it.field} elements; those of one link are wanted" if it.mark is None else "a reduced table"
+                raise Fault(f"standard input has {told}")
+    except Unreadable:
+        raise Fault("standard input has no tables, as kh-scan and kh homology write them") from None
     if fields and not set(fields) & set(found):
         raise Fault(f"standard input has tables over other fields: {listed(found)}")
-    return {field: rows.replace("\n", "; ")[:-2] for field, rows in found.items() if not fields or field in fields}
+    return {field: text_of(table) for field, table in found.items() if not fields or field in fields}
 
 
 def links_with(asked, tables):

@@ -16,6 +16,8 @@ import os
 import pathlib
 import sqlite3
 
+from ..tables import of_short_rows
+
 COLUMNS = ("name", "code", "field", "status", "table_rows", "jones", "refusal", "seconds", "program")
 LISTED = ", ".join(COLUMNS)
 # What results of an older version, which do not say their program, were made by.
@@ -135,12 +137,6 @@ def older_columns(database):
     return LISTED if has_programs else LISTED.replace("program", f"'{OLDER}'")
 
 
-def dimensions_of(text):
-    """The dimensions by degrees (j, i) of the text of a table."""
-    rows = [tuple(map(int, row.split())) for row in text.split(";")] if text else []
-    return {(j, i): dimension for j, i, dimension in rows}
-
-
 def text_of(dimensions):
     """The text of a table."""
     return "; ".join(f"{j} {i} {dimension}" for (j, i), dimension in sorted(dimensions.items()))
@@ -193,7 +189,7 @@ class Keeper:
 
 def add_degrees(database, number, text):
     try:
-        rows = [(number, j, i, dimension) for (j, i), dimension in dimensions_of(text).items()]
+        rows = [(number, j, i, dimension) for (j, i), dimension in of_short_rows(text).items()]
     except ValueError:
         raise Fault(f"this is no table: {text[:80]}") from None
     database.executemany("insert into degrees values (?, ?, ?, ?)", rows)

@@ -12,14 +12,13 @@ import subprocess
 import time
 from collections import deque
 
-from ..programs import FIRST, HEAD
-from .programs import SCAN, WHILE, Single, Task, begun, end_group, out_of_time, result_of
+from ..programs import FIRST, HEAD, PART, begun, end
+from ..tables import FIELDS
+from .tasks import SCAN, WHILE, Single, Task, out_of_time, result_of
 from .results import Fault
 
-FIELDS = (2, 3, 5, 7)
-# The seconds of work that a process is given ahead, and how many codes at most; the bytes that are read at once.
+# The seconds of work that a process is given ahead, and how many codes at most.
 AHEAD, MOST = 0.1, 64
-PART = 65_536
 # How long a process that has closed its output, or that has nothing more to read, has to end.
 GRACE = 5
 BLANK = " \t\r"
@@ -76,7 +75,7 @@ class Stream:
     def end(self):
         """Ends the process, if there is one."""
         if self.program:
-            end_group(self.program)
+            end(self.program)
             self.program.wait()
             self.program.stdout.close()
             self.program.stdin.close()

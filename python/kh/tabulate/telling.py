@@ -3,7 +3,7 @@ import sys
 import time
 from collections import Counter
 
-from .programs import Lost
+from .tasks import Lost
 
 # What a result is counted as, by its status; and the statuses to end with where results are missing, and where none was answered.
 COUNTED = {0: "answered", 1: "refused", 6: "too large"}

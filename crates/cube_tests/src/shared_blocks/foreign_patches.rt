@@ -3,11 +3,11 @@
 //! is the same over all four fields.
 
 use super::{block_of_hopf_link, take_turns};
-use cancel_step::Pivot;
 use cube_signs::check_size;
 use known_links::{FIGURE_EIGHT, HOPF, diagram_of};
 use prime_field::{F2, F3, F5, F7, PrimeField};
 use shared_block::{CommitAnswer, SharedBlock, blocks_of};
+use sparse_block::Pivot;
 use std::alloc::Global;
 use std::process::Abort;
 use std::test::Fail;

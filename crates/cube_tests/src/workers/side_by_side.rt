@@ -1,4 +1,4 @@
-//! Workers side by side.
+//! One worker goes on while others are held.
 
 ghost use Rattle.std.specs.Prelude.{◌≤◌};
 
@@ -25,7 +25,7 @@ fn a_worker_goes_on_while_others_are_held(rt: HostRuntime) -> Result<(), Fail> {
     Ok(())
 }
 
-/// Holds all workers but one, so many.
+/// So many workers are held, and one is not.
 fn check_held<R: Threads + Wait + Sync + Abort>(
     rt: &R,
     alloc: Global,

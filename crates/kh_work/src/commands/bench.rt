@@ -3,26 +3,27 @@
 
 ghost use Rattle.std.specs.Prelude.{◌≡◌, ◌++◌, IfOk, string_bytes};
 ghost use Rattle.word_line.specs.Values.{AreWorkers};
-ghost use Rattle.jones_sum.specs.Tables.{total_of};
+ghost use Rattle.homology_tables.specs.Tables.{total_of};
 ghost use Rattle.kh_work.specs.Bench.{bench_counts, bench_lines, bench_reply};
 ghost use Rattle.kh_work.specs.Drafts.{AwaitsWorkers, reply_in};
-ghost use Rattle.kh_replies.specs.Jones.{jones_line};
-ghost use Rattle.kh_replies.specs.Replies.{reply_of};
-ghost use Rattle.kh_replies.specs.declared.status.Status.{Status};
+ghost use Rattle.kh_runs.specs.Homology.{jones_line};
+ghost use Rattle.kh_runs.specs.Replies.{reply_of};
+ghost use Rattle.kh_runs.specs.declared.status.Status.{Status};
 
 use crate::draft::Draft;
 use braid_maker::from_number;
 use braid_maker::laws::numbers_give_small_diagrams;
 use circle_smoothing::CountedDiagram;
 use cube_signs::SmallDiagram;
-use jones_sum::Table;
-use kh_replies::{Reply, Status, jones_line, reply_made, too_large_number};
+use homology_tables::Table;
+use kh_replies::{jones_line, too_large_number};
+use kh_runs::{Reply, Status, reply_made};
 use kh_types::NoMemory;
 use prime_field::FieldSize;
 use std::alloc::Global;
 
 /// A number, how many crossings, loops and generators its diagram has, and the dimension of its
-/// homology. Source: this project's rule.
+/// homology.
 #[derive(Clone, Copy)]
 pub struct BenchCounts {
     /// The number.
@@ -38,7 +39,6 @@ pub struct BenchCounts {
 }
 
 /// The reply to a number, whose homology table is still to be made where a diagram has the number.
-/// Source: this project's rule.
 pub fn draft_of_bench(
     alloc: Global,
     field: FieldSize,
@@ -62,7 +62,7 @@ pub fn draft_of_bench(
 }
 
 /// The lines of the counts and of the sum of all dimensions of the homology table, and the Jones
-/// line, which is read from the counts of the diagram's states. Source: this project's rule.
+/// line, which is read from the counts of the diagram's states.
 pub fn reply_with_dimension(
     alloc: Global,
     number: u32,

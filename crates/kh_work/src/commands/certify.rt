@@ -10,13 +10,13 @@ ghost use Rattle.kh_work.specs.Certify.{IsCertifyReply};
 
 use cancel_log::write_log;
 use cube_signs::check_size;
-use kh_replies::{Reply, Status, reply_made, too_many_generators};
+use kh_replies::too_many_generators;
+use kh_runs::{Reply, Status, reply_made};
 use kh_types::{Diagram, NoMemory};
 use prime_field::{FieldSize, over_field};
 use std::alloc::Global;
 
 /// The reply to a diagram: a log over the field of so many elements, made on the caller's thread.
-/// Source: this project's rule.
 pub fn reply_to_certify(
     alloc: Global,
     field: FieldSize,

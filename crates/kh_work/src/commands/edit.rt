@@ -7,14 +7,14 @@ ghost use Rattle.undo_stack.specs.declared.edit_run.EditFault.{EditFault};
 ghost use Rattle.kh_work.specs.Edit.{IsEditReply, diagram_line, edit_reply, numbered_line, refusal_line};
 
 use super::edit_refusals::edit_refusal;
-use kh_replies::{Reply, Status, refused_line, reply_made, too_many_lines};
+use kh_runs::{Reply, Status, refused_line, reply_made, too_many_lines};
 use kh_types::{Diagram, NoMemory};
 use pd_code::print_pd;
 use std::alloc::Global;
 use undo_stack::{EditFault, EditLine, Editor, SCRIPT_LINES, ScriptStop, carry_out, read_edit};
 
 /// The reply to a diagram and the text of a script: the diagram after each line that has words, up
-/// to the first that is refused. Source: this project's rule.
+/// to the first that is refused.
 pub fn reply_to_edit(alloc: Global, diagram: &Diagram, script: &[u8]) -> Result<Reply, NoMemory>
     requires short { length script.now ≤ INPUT_BYTES }
     ensures { IfOk result (λ reply. IsEditReply diagram.now script.now reply) }

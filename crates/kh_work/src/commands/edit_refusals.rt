@@ -8,7 +8,7 @@ use kh_types::{CROSSINGS, NoMemory};
 use std::alloc::Global;
 use undo_stack::EditFault;
 
-/// The words for why a line is refused. Source: this project's rule.
+/// The words for why a line is refused.
 pub fn edit_refusal(alloc: Global, fault: EditFault) -> Result<String, NoMemory>
     ensures { IfOk result (λ words. string_bytes words ≡ edit_refusal fault) }
 {

@@ -5,15 +5,16 @@ ghost use Rattle.kh_types.specs.Table.{table_text};
 ghost use Rattle.word_line.specs.Values.{AreWorkers};
 ghost use Rattle.kh_work.specs.Drafts.{AwaitsWorkers, reply_in};
 ghost use Rattle.kh_work.specs.Homology.{homology_reply};
-ghost use Rattle.kh_replies.specs.Jones.{jones_line};
-ghost use Rattle.kh_replies.specs.Replies.{reply_of};
-ghost use Rattle.kh_replies.specs.declared.status.Status.{Status};
+ghost use Rattle.kh_runs.specs.Homology.{jones_line};
+ghost use Rattle.kh_runs.specs.Replies.{reply_of};
+ghost use Rattle.kh_runs.specs.declared.status.Status.{Status};
 
 use crate::draft::Draft;
 use circle_smoothing::CountedDiagram;
 use cube_signs::SmallDiagram;
-use jones_sum::Table;
-use kh_replies::{Reply, Status, jones_line, reply_made, too_many_generators};
+use homology_tables::Table;
+use kh_replies::{jones_line, too_many_generators};
+use kh_runs::{Reply, Status, reply_made};
 use kh_types::{Diagram, NoMemory};
 use prime_field::FieldSize;
 use std::alloc::Global;
@@ -41,8 +42,7 @@ pub fn draft_of_homology(
     }
 }
 
-/// The reply with the text of a homology table of a diagram and the Jones line. Source: this
-/// project's rule.
+/// The reply with the text of a homology table of a diagram and the Jones line.
 pub fn reply_with_table(
     alloc: Global,
     counted: &CountedDiagram,
@@ -55,7 +55,7 @@ pub fn reply_with_table(
 }
 
 /// The text of a table of a diagram, and the Jones line behind it, which is read from the counts of
-/// the diagram's states. Source: this project's rule.
+/// the diagram's states.
 pub fn text_with_table(
     alloc: Global,
     counted: &CountedDiagram,

@@ -5,17 +5,18 @@ ghost use Rattle.std.specs.Prelude.{◌≡◌, ◌≤◌, ◌++◌, true, IfErr,
 ghost use Rattle.circle_smoothing.specs.GeneratorCounts.{generator_count};
 ghost use Rattle.circle_smoothing.specs.declared.limits.TheConstants.{GENERATORS};
 ghost use Rattle.kh_types.specs.Table.{table_text};
-ghost use Rattle.kh_replies.specs.Jones.{jones_line};
-ghost use Rattle.kh_replies.specs.Replies.{reply_of};
-ghost use Rattle.kh_replies.specs.declared.status.Status.{Status};
+ghost use Rattle.kh_runs.specs.Homology.{jones_line};
+ghost use Rattle.kh_runs.specs.Replies.{reply_of};
+ghost use Rattle.kh_runs.specs.declared.status.Status.{Status};
 ghost use Rattle.kh_work.specs.Reduced.{mark_line, reduced_reply};
 ghost use Rattle.reduced_cube.specs.Reduced.{is_mark, reduced_table};
 ghost use Rattle.reduced_cube.specs.Stops.{IsReducedStop};
 
 use crate::commands::text_with_table;
 use circle_smoothing::CountedDiagram;
-use jones_sum::Table;
-use kh_replies::{Reply, Status, refused_mark, reply_made, too_many_generators};
+use homology_tables::Table;
+use kh_replies::too_many_generators;
+use kh_runs::{Reply, Status, refused_mark, reply_made};
 use kh_types::{Diagram, NoMemory};
 use prime_field::{FieldSize, over_field};
 use reduced_cube::{ReducedStop, reduced_table};

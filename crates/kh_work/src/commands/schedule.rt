@@ -12,10 +12,9 @@ ghost use Rattle.undo_stack.specs.Schedule.{HasWorker};
 use circle_smoothing::CountedDiagram;
 use commit_core::{Answer, Event, run_events};
 use cube_signs::SmallDiagram;
-use jones_sum::Table;
-use kh_replies::{
-    Reply, Status, jones_line, refused_line, reply_made, too_many_generators, too_many_lines,
-};
+use homology_tables::Table;
+use kh_replies::{jones_line, too_many_generators};
+use kh_runs::{Reply, Status, refused_line, reply_made, too_many_lines};
 use kh_types::{Diagram, NoMemory, WORKERS};
 use prime_field::{FieldSize, PrimeField, over_field};
 use std::alloc::Global;
@@ -23,7 +22,7 @@ use table_text::print_table;
 use undo_stack::{SCRIPT_LINES, ScheduleLine, ScriptStop, read_schedule};
 
 /// The reply to a diagram and the text of a script: the answer to each line that has words, and
-/// then the text of `homology`. Source: this project's rule.
+/// then the text of `homology`.
 pub fn reply_to_schedule(
     alloc: Global,
     field: FieldSize,

@@ -2,18 +2,19 @@
 
 ghost use Rattle.std.specs.Prelude.{◌≡◌, ◌≤◌, IfOk, length};
 ghost use Rattle.cancel_log.specs.declared.limits.TheConstants.{LOG_BYTES};
-ghost use Rattle.kh_replies.specs.Replies.{reply_of};
-ghost use Rattle.kh_replies.specs.declared.status.Status.{Status};
+ghost use Rattle.kh_runs.specs.Replies.{reply_of};
+ghost use Rattle.kh_runs.specs.declared.status.Status.{Status};
 ghost use Rattle.kh_work.specs.Verify.{IsVerifyReply, cause_word, verified_text};
 
 use cancel_log::{LogCause, LogStop, verify_log};
-use jones_sum::Table;
-use kh_replies::{Reply, Status, refused_log_line, reply_made, too_many_generators};
+use homology_tables::Table;
+use kh_replies::too_many_generators;
+use kh_runs::{Reply, Status, refused_log_line, reply_made};
 use kh_types::NoMemory;
 use std::alloc::Global;
 use table_text::print_table;
 
-/// The reply to the text of a log. Source: this project's rule.
+/// The reply to the text of a log.
 pub fn reply_to_verify(alloc: Global, text: &[u8]) -> Result<Reply, NoMemory>
     requires { length text.now ≤ LOG_BYTES }
     ensures { IfOk result (IsVerifyReply text.now) }

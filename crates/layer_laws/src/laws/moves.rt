@@ -2,8 +2,8 @@
 
 ghost use Rattle.std.specs.Prelude.{◌≡◌, ℕ, ◌<◌, ℤ, true};
 ghost use Rattle.kh_types.specs.Residues.{HasInverses};
-ghost use Rattle.cell_complexes.specs.Cells.{dimension_at};
-ghost use Rattle.cell_complexes.specs.Layers.{Layers, cells_of};
+ghost use Rattle.cell_laws.specs.Cells.{dimension_at};
+ghost use Rattle.cell_laws.specs.Layers.{Layers, cells_of};
 ghost use Rattle.layer_laws.specs.Cuts.{IsCut, IsLikeOne};
 ghost use Rattle.layer_laws.specs.Slid.{AreFiveLeft, IsMeasured, is_near, kind_after, kind_before, kind_of_bigon};
 

@@ -2,8 +2,8 @@
 
 ghost use Rattle.std.specs.Prelude.{◌≡◌, ℕ, ℤ};
 ghost use Rattle.kh_types.specs.Residues.{HasInverses};
-ghost use Rattle.cell_complexes.specs.Cells.{AreComplex, dimension_at};
-ghost use Rattle.cell_complexes.specs.Layers.{Layers, cells_of};
+ghost use Rattle.cell_laws.specs.Cells.{AreComplex, dimension_at};
+ghost use Rattle.cell_laws.specs.Layers.{Layers, cells_of};
 ghost use Rattle.layer_laws.specs.Renamed.{AreRenamed};
 
 /// Layers whose objects correspond, with the same labels, degrees and coefficients up to a sign for

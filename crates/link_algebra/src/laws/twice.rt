@@ -7,7 +7,7 @@ ghost use Rattle.kh_types.specs.Code.{Code, IsCrossing};
 ghost use Rattle.kh_types.specs.Directions.{is_positive};
 ghost use Rattle.kh_types.specs.StateSum.{state_sum};
 ghost use Rattle.kh_types.specs.Table.{dimension};
-ghost use Rattle.gluing.specs.Alike.{AreAlike};
+ghost use Rattle.gluing_laws.specs.Alike.{AreAlike};
 ghost use Rattle.prime_field.specs.Residues.{IsSmallPrime};
 ghost use Rattle.link_algebra.specs.Mirrors.{EntersInOrder, mirror_of, mirror_parts, reversal_of};
 

@@ -12,7 +12,7 @@ ghost use Rattle.kh_types.specs.StateSum.{state_sum};
 ghost use Rattle.code_passes.specs.Parts.{Parts, ArePaired};
 ghost use Rattle.orient_arcs.specs.Renumbered.{renumber};
 ghost use Rattle.orient_arcs.specs.Alike.{HasNamesBelow};
-ghost use Rattle.gluing.specs.Alike.{AreAlike};
+ghost use Rattle.gluing_laws.specs.Alike.{AreAlike};
 
 /// An injective renaming leaves crossings alike, and so does renumbering.
 pub fn renamed_crossings_are_alike()

@@ -12,7 +12,7 @@ ghost use Rattle.orient_arcs.specs.Alike.{IsOf};
 ghost use Rattle.orient_arcs.specs.OtherNames.{IsNamedBy, KeepsComponents};
 ghost use Rattle.orient_arcs.specs.Renumbered.{AreInOrder, AreOrdered, named_components, order_of, number_in, renumber};
 
-/// A renumbered code is a directed code, in which the over strand of each crossing goes the way
+/// Paired parts are renumbered to a directed code, in which the over strand of each crossing goes the way
 /// that the parts say; so each crossing keeps its sign, one whose over pass is a component of one
 /// arc excepted.
 pub fn renumbered_codes_are_directed()

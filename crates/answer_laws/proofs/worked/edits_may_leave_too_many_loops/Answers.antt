@@ -4,7 +4,7 @@ use Rattle.std.specs.Prelude.{[]}
 use Rattle.kh_types.specs.Acceptance.{accepted, first_fault}
 use Rattle.kh_types.specs.WorkedCodes.{curl, empty_link, slots_with}
 use Rattle.diagram_moves.specs.Moved.{moved}
-use Rattle.kh_replies.proofs.TextFaults.{few_loops-read}
+use Rattle.kh_inputs.proofs.TextFaults.{few_loops-read}
 use Rattle.answer_laws.proofs.PrintedCodes.{IsDiagramText-planar}
 use Rattle.answer_laws.proofs.SmallCodes.{AreFour}
 use Rattle.answer_laws.proofs.worked.edits_may_leave_too_many_loops.Goals as goal

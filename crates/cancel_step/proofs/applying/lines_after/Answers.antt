@@ -6,7 +6,8 @@ use Rattle.sparse_block.specs.Entries.{Entry, AreEntries, entries_of, value_at}
 use Rattle.cancel_step.specs.Copies.{line_across}
 use Rattle.cancel_step.specs.Sides.{line_on, other_side, place_on}
 use Rattle.cancel_step.specs.declared.side.Side.{Side}
-use Rattle.cancel_step.proofs.AcrossLemmas.{entry-below, line_more, value-below}
+use Rattle.cancel_step.proofs.AcrossLemmas.{entry-below, line_more}
+use Rattle.sparse_block.proofs.EntryValues.{value-below}
 use Rattle.cancel_step.proofs.SideLemmas.{entries-on, pivot-on, size_on}
 use Rattle.cancel_step.proofs.applying.lines_after.Given.{Over}
 use Rattle.cancel_step.proofs.applying.lines_after.Goals.{After-place_on}

@@ -3,7 +3,8 @@ use Rattle.std.proofs.lemmas.Int.{ints}
 use Rattle.kh_types.specs.Complex.{Pivot}
 use Rattle.sparse_block.specs.Changes.{PlacedLine}
 use Rattle.cancel_step.specs.Copies.{Copied, split_parts}
-use Rattle.cancel_step.specs.Foreign.{FindsLeast, ShowsBetween}
+use Rattle.sparse_block.specs.Least.{FindsLeast}
+use Rattle.cancel_step.specs.Foreign.{ShowsBetween}
 use Rattle.cancel_step.specs.declared.side.Side.{Side}
 use Rattle.cancel_step.proofs.CopiedLemmas.{copied-lines}
 use Rattle.cancel_step.proofs.SideLemmas.{size_on}

@@ -3,7 +3,8 @@ use Rattle.std.proofs.lemmas.Int.{ints}
 use Rattle.std.proofs.lemmas.List.{take_all}
 use Rattle.sparse_block.specs.Changes.{PlacedLine, placed}
 use Rattle.sparse_block.specs.Entries.{AreEntries}
-use Rattle.cancel_step.specs.Foreign.{FindsLeast, ShowsIn}
+use Rattle.sparse_block.specs.Least.{FindsLeast}
+use Rattle.cancel_step.specs.Foreign.{ShowsIn}
 use Rattle.cancel_step.specs.Sides.{IsOtherOn}
 use Rattle.cancel_step.proofs.ForeignLemmas.{finds-more}
 use Rattle.cancel_step.proofs.comparing.in_lines.Goals as goal

@@ -1,5 +1,6 @@
 use Rattle.std.proofs.Common.{take}
-use Rattle.cancel_step.specs.Foreign.{FindsLeast, ShowsIn}
+use Rattle.sparse_block.specs.Least.{FindsLeast}
+use Rattle.cancel_step.specs.Foreign.{ShowsIn}
 use Rattle.cancel_step.specs.Sides.{IsOtherOn}
 use Rattle.cancel_step.proofs.comparing.in_lines.Given as goal
 

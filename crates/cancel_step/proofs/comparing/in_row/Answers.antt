@@ -5,7 +5,8 @@ use Rattle.sparse_block.specs.Changes.{PlacedLine, placed}
 use Rattle.sparse_block.specs.Complexes.{place_count}
 use Rattle.sparse_block.specs.Entries.{AreEntries}
 use Rattle.sparse_block.proofs.ReadingLemmas.{row-entries}
-use Rattle.cancel_step.specs.Foreign.{FindsLeast, IsOtherRowAt}
+use Rattle.sparse_block.specs.Least.{FindsLeast}
+use Rattle.cancel_step.specs.Foreign.{IsOtherRowAt}
 use Rattle.cancel_step.proofs.ForeignLemmas.{row-alike, row-unlike}
 use Rattle.cancel_step.proofs.comparing.in_row.Goals as goal
 

@@ -1,6 +1,7 @@
 use Rattle.std.proofs.Common.{◌≡◌, ℤ, sym, subst, arith, to_z, of_z, w16}
 use Rattle.std.proofs.lemmas.Int.{ints}
-use Rattle.cancel_step.specs.Foreign.{FindsLeast, ShowsBetween}
+use Rattle.sparse_block.specs.Least.{FindsLeast}
+use Rattle.cancel_step.specs.Foreign.{ShowsBetween}
 use Rattle.cancel_step.proofs.ForeignLemmas.{finds-between}
 use Rattle.cancel_step.proofs.comparing.other_line.Goals as goal
 

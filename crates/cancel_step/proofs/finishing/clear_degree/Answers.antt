@@ -1,11 +1,10 @@
-use Rattle.std.proofs.lemmas.Bool.Decides.{nat_tests}
+use Rattle.std.proofs.lemmas.Bool.Decides.{nat_tests, leb_tells}
 use Rattle.std.proofs.Common.{◌≡◌, ℤ, [], inl, inr, subst, arith, to_z, of_z, w16}
 use Rattle.std.proofs.lemmas.Int.{ints}
-use Rattle.std.proofs.lemmas.Bool.Decides.{leb_tells}
 use Rattle.sparse_block.specs.Complexes.{column_of, place_count}
 use Rattle.sparse_block.specs.Entries.{entries_of}
 use Rattle.sparse_block.proofs.PastLemmas.{column-past}
-use Rattle.cancel_step.proofs.FinishLemmas.{comes-both, complex-comes, empty-comes, places-comes}
+use Rattle.sparse_block.proofs.ComesLemmas.{comes-both, complex-comes, empty-comes, places-comes}
 use Rattle.cancel_step.proofs.finishing.clear_degree.Goals as goal
 
 pub returns-in_err-clear_column-clause-history : goal.returns-in_err-clear_column-clause-history

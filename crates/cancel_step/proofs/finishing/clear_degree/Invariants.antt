@@ -1,7 +1,7 @@
 use Rattle.std.proofs.Common.{◌≡◌, ℕ, ◌<◌, []}
 use Rattle.sparse_block.specs.Complexes.{column_of}
 use Rattle.sparse_block.specs.Entries.{entries_of}
-use Rattle.cancel_step.specs.Histories.{ComesByCancelling}
+use Rattle.sparse_block.specs.Histories.{ComesByCancelling}
 use Rattle.cancel_step.proofs.finishing.clear_degree.Given as goal
 
 abbrev pub invariant-columns : goal.invariant-columns

@@ -1,11 +1,11 @@
-use Rattle.std.proofs.lemmas.Bool.Decides.{nat_tests}
+use Rattle.std.proofs.lemmas.Bool.Decides.{nat_tests, leb_tells}
 use Rattle.std.proofs.Common.{◌≡◌, ◌∙◌, ℤ, pos, ◌-ℤ◌, inl, inr, ap, arith, to_z, of_z, w16}
 use Rattle.std.proofs.lemmas.Int.{ints}
-use Rattle.std.proofs.lemmas.Bool.Decides.{leb_tells}
 use Rattle.sparse_block.specs.Complexes.{column_of, high_of}
 use Rattle.sparse_block.specs.Entries.{entries_of}
 use Rattle.cancel_step.proofs.ReadingLemmas.{zero-from_degrees}
-use Rattle.cancel_step.proofs.FinishLemmas.{comes-both, complex-comes, degrees-comes, empty_down-comes, high-comes}
+use Rattle.sparse_block.proofs.ComesLemmas.{comes-both, complex-comes, degrees-comes, high-comes}
+use Rattle.cancel_step.proofs.FinishLemmas.{empty_down-comes}
 use Rattle.cancel_step.proofs.finishing.finish.Goals as goal
 
 pub degree_down-degree-requires : goal.degree_down-degree-requires

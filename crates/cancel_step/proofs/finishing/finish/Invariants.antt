@@ -1,5 +1,5 @@
 use Rattle.std.proofs.Common.{◌≡◌}
-use Rattle.cancel_step.specs.Histories.{ComesByCancelling}
+use Rattle.sparse_block.specs.Histories.{ComesByCancelling}
 use Rattle.cancel_step.proofs.ReadingLemmas.{AreEmptyDown}
 use Rattle.cancel_step.proofs.finishing.finish.Given as goal
 

@@ -4,7 +4,8 @@ use Rattle.std.proofs.lemmas.List.{take_all}
 use Rattle.prime_field.specs.Residues.{inverse_mod, product_mod}
 use Rattle.sparse_block.specs.Changes.{PlacedLine, placed}
 use Rattle.sparse_block.specs.Entries.{AreEntries}
-use Rattle.cancel_step.proofs.AcrossLemmas.{cleared_more, entries_with-are, value-below}
+use Rattle.cancel_step.proofs.AcrossLemmas.{cleared_more, entries_with-are}
+use Rattle.sparse_block.proofs.EntryValues.{value-below}
 use Rattle.cancel_step.proofs.updating.lines_cleared.Goals as goal
 
 pub of-pivot-requires : goal.of-pivot-requires

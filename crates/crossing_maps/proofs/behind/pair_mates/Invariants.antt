@@ -1,6 +1,6 @@
 use Rattle.std.proofs.Common.{◌≡◌, take}
 use Rattle.std.specs.List.{fold}
-use Rattle.added_crossings.specs.Steps.{pairs_at}
+use Rattle.added_crossing_laws.specs.Steps.{pairs_at}
 use Rattle.crossing_maps.specs.Partners.{paired_up}
 use Rattle.crossing_maps.proofs.behind.pair_mates.Given as goal
 

@@ -1,6 +1,6 @@
 use Rattle.std.proofs.Common.{◌≡◌, take}
 use Rattle.std.specs.List.{flat_map, fold, range_with_len}
-use Rattle.added_crossings.specs.Steps.{pairs_at}
+use Rattle.added_crossing_laws.specs.Steps.{pairs_at}
 use Rattle.tangle_maps.specs.declared.pairing.TheConstants.{POINTS}
 use Rattle.crossing_maps.specs.Partners.{paired_up}
 use Rattle.crossing_maps.proofs.behind.paired_by.Given as goal

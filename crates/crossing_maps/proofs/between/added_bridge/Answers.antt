@@ -1,5 +1,5 @@
 use Rattle.std.proofs.Common.{◌∙◌, sym, subst, arith}
-use Rattle.added_crossings.specs.Codes.{points_at}
+use Rattle.added_crossing_laws.specs.Codes.{points_at}
 use Rattle.tangle_maps.specs.declared.pairing.TheConstants.{POINTS}
 use Rattle.crossing_maps.specs.Bridges.{IsBridgeAt}
 use Rattle.crossing_maps.specs.ListedPlaces.{IsArcs}

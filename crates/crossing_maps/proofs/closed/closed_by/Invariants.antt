@@ -1,7 +1,7 @@
 use Rattle.std.proofs.Common.{◌≡◌, ◌≤◌, take, length}
 use Rattle.std.specs.List.{filter}
 use Rattle.kh_types.specs.Classes.{is_least}
-use Rattle.added_crossings.specs.Steps.{is_none_in}
+use Rattle.added_crossing_laws.specs.Steps.{is_none_in}
 use Rattle.crossing_maps.proofs.closed.closed_by.Given as goal
 
 abbrev pub invariant-arcs : goal.invariant-arcs

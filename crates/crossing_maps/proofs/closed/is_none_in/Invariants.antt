@@ -1,5 +1,5 @@
 use Rattle.std.proofs.Common.{◌≡◌, take, true}
-use Rattle.added_crossings.specs.Steps.{is_none_in}
+use Rattle.added_crossing_laws.specs.Steps.{is_none_in}
 use Rattle.crossing_maps.proofs.closed.is_none_in.Given as goal
 
 abbrev pub invariant-arcs : goal.invariant-arcs

@@ -1,5 +1,5 @@
-use Rattle.dotted_surfaces.specs.Points.{discs}
-use Rattle.added_crossings.specs.Codes.{points_at}
+use Rattle.surface_laws.specs.Points.{discs}
+use Rattle.added_crossing_laws.specs.Codes.{points_at}
 use Rattle.crossing_maps.proofs.AddedTerms.{added-terms}
 use Rattle.crossing_maps.proofs.Labelled.{labelled-there}
 use Rattle.crossing_maps.proofs.maps.added_map.Goals as goal

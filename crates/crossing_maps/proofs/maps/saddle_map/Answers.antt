@@ -1,5 +1,5 @@
 use Rattle.std.proofs.Common.{map}
-use Rattle.added_crossings.specs.Codes.{saddle_strips}
+use Rattle.added_crossing_laws.specs.Codes.{saddle_strips}
 use Rattle.crossing_maps.specs.NewTerms.{first_end}
 use Rattle.crossing_maps.proofs.AddedTerms.{saddle-terms}
 use Rattle.crossing_maps.proofs.Labelled.{labelled-there}

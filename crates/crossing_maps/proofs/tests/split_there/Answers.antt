@@ -1,6 +1,6 @@
 use Rattle.std.proofs.Common.{subst}
 use Rattle.kh_types.specs.WorkedCodes.{trefoil}
-use Rattle.added_crossings.specs.Pairings.{IsPairingOf}
+use Rattle.added_crossing_laws.specs.Pairings.{IsPairingOf}
 use Rattle.tangle_maps.specs.Pairings.{joins_of}
 use Rattle.crossing_maps.proofs.Composable.{slots-numbered}
 use Rattle.crossing_maps.proofs.PairedPartners.{partners-paired}

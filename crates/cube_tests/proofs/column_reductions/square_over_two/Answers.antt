@@ -1,4 +1,4 @@
-use Rattle.cancel_step.proofs.WorkedInputs.{square-two}
+use Rattle.column_reduction.proofs.WorkedInputs.{square-two}
 use Rattle.cube_tests.proofs.column_reductions.square_over_two.Goals as goal
 
 pub square-requires : goal.square-requires

@@ -3,7 +3,7 @@ use Rattle.sparse_block.specs.Entries.{entry_at}
 use Rattle.sparse_block.specs.Inside.{entries_in}
 use Rattle.sparse_block.proofs.WorkedLemmas.{columns-made}
 use Rattle.sparse_block.specs.Complexes.{MakeComplex}
-use Rattle.cancel_step.proofs.WorkedInputs.{three-can}
+use Rattle.column_reduction.proofs.WorkedInputs.{three-can}
 use Rattle.cube_tests.proofs.column_reductions.three_rows.Goals as goal
 
 pub by_columns-requires : goal.by_columns-requires

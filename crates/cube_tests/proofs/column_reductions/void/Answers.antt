@@ -2,7 +2,7 @@ use Rattle.std.proofs.Common.{[], ◌∷◌, ap, pos, sym, subst₂}
 use Rattle.sparse_block.specs.Inside.{entries_in}
 use Rattle.sparse_block.proofs.WorkedLemmas.{columns-made}
 use Rattle.sparse_block.specs.Complexes.{MakeComplex}
-use Rattle.cancel_step.proofs.WorkedInputs.{void-can}
+use Rattle.column_reduction.proofs.WorkedInputs.{void-can}
 use Rattle.cube_tests.proofs.column_reductions.void.Goals as goal
 
 pub by_columns-requires : goal.by_columns-requires

@@ -1,5 +1,5 @@
 use Rattle.std.proofs.Common.{◌∙◌, ℕ, ap, ap₂, sym, subst}
-use Rattle.kinks_and_fingers.specs.Drops.{without_finger}
+use Rattle.kink_and_finger_laws.specs.Drops.{without_finger}
 use Rattle.orient_arcs.specs.Renumbered.{renumber}
 use Rattle.diagram_moves.specs.Joinable.{AreReady}
 use Rattle.diagram_moves.proofs.DropLemmas.{fingers_are_ready}

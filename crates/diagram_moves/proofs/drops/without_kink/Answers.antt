@@ -1,6 +1,6 @@
 use Rattle.std.proofs.Common.{◌∙◌, ℕ, ap, sym, subst}
 use Rattle.kh_types.specs.Code.{place_of}
-use Rattle.kinks_and_fingers.specs.Drops.{without_finger}
+use Rattle.kink_and_finger_laws.specs.Drops.{without_finger}
 use Rattle.code_passes.specs.Parts.{Parts}
 use Rattle.orient_arcs.specs.Renumbered.{renumber}
 use Rattle.diagram_moves.specs.Joinable.{AreReady}

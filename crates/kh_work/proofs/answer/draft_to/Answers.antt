@@ -1,5 +1,5 @@
 use Rattle.std.proofs.Common.{◌∙◌, ap, Err}
-use Rattle.kh_replies.proofs.SourceAnswers.{AnswersSource-blind}
+use Rattle.kh_runs.proofs.SourceAnswers.{AnswersSource-blind}
 use Rattle.kh_work.specs.Answer.{IsAnswer}
 use Rattle.kh_work.specs.ByteLimits.{byte_limit}
 use Rattle.kh_work.proofs.AnswerLemmas.{IsBlindAnswer-command, IsBlindAnswer-usage, AnswersWords-command, IsReadOut-command, usage_reads_nothing}

@@ -1,6 +1,6 @@
 use Rattle.std.proofs.Common.{sym, subst}
-use Rattle.kh_replies.specs.Replies.{Reply}
-use Rattle.kh_replies.specs.DiagramReplies.{IsDiagramReply}
+use Rattle.kh_runs.specs.Replies.{Reply}
+use Rattle.kh_inputs.specs.DiagramReplies.{IsDiagramReply}
 use Rattle.kh_work.specs.Answer.{IsCodeReply}
 use Rattle.kh_work.specs.Drafts.{reply_in}
 use Rattle.kh_work.proofs.ReplyLemmas.{IsDiagramReply-read, IsDiagramReply-refused}

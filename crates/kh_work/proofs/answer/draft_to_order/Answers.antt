@@ -1,5 +1,5 @@
 use Rattle.std.proofs.Common.{sym}
-use Rattle.kh_replies.proofs.SourceAnswers.{AnswersSource-blind}
+use Rattle.kh_runs.proofs.SourceAnswers.{AnswersSource-blind}
 use Rattle.kh_work.specs.Answer.{IsInputReply}
 use Rattle.kh_work.proofs.AnswerLemmas.{AnswersOrder-long}
 use Rattle.kh_work.proofs.answer.draft_to_order.Goals as goal

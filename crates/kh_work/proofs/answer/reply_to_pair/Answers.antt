@@ -1,7 +1,7 @@
 use Rattle.std.proofs.Common.{sym, subst}
-use Rattle.kh_replies.specs.Replies.{Reply}
-use Rattle.kh_replies.specs.DiagramReplies.{IsDiagramReply}
-use Rattle.kh_replies.specs.Union.{IsUnionReply}
+use Rattle.kh_runs.specs.Replies.{Reply}
+use Rattle.kh_inputs.specs.DiagramReplies.{IsDiagramReply}
+use Rattle.kh_work.specs.Union.{IsUnionReply}
 use Rattle.kh_work.proofs.ReplyLemmas.{IsDiagramReply-read, IsDiagramReply-refused}
 use Rattle.kh_work.proofs.answer.reply_to_pair.Goals as goal
 

@@ -1,6 +1,6 @@
 use Rattle.std.proofs.Common.{sym, subst}
-use Rattle.kh_replies.specs.Replies.{Reply}
-use Rattle.kh_replies.specs.DiagramReplies.{IsDiagramReply}
+use Rattle.kh_runs.specs.Replies.{Reply}
+use Rattle.kh_inputs.specs.DiagramReplies.{IsDiagramReply}
 use Rattle.kh_work.specs.Answer.{IsScriptedReply}
 use Rattle.kh_work.proofs.ReplyLemmas.{IsDiagramReply-read, IsDiagramReply-refused}
 use Rattle.kh_work.proofs.answer.reply_to_texts.Goals as goal

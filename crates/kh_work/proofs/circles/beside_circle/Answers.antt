@@ -1,6 +1,6 @@
 use Rattle.std.proofs.Common.{rules, refl, sym, subst, ◌∙◌}
 use Rattle.kh_types.specs.declared.limits.TheConstants.{EXPONENT}
-use Rattle.jones_sum.specs.Tables.{IsTable}
+use Rattle.homology_tables.specs.Tables.{IsTable}
 use Rattle.kh_work.proofs.CircleRows.{rows_to-all, rows_to-more}
 use Rattle.kh_work.proofs.circles.beside_circle.Goals as goal
 

@@ -1,5 +1,5 @@
 use Rattle.std.proofs.Common.{◌≡◌, ◌++◌}
-use Rattle.jones_sum.proofs.DegreeRows.{rows_to}
+use Rattle.homology_tables.proofs.DegreeRows.{rows_to}
 use Rattle.kh_work.specs.Circles.{dims_of}
 use Rattle.kh_work.proofs.circles.push_sums.Given as goal
 

@@ -1,6 +1,6 @@
 use Rattle.std.proofs.Common.{refl}
 use Rattle.kh_work.proofs.AnswerLemmas.{IsAnswer-jones}
-use Rattle.kh_replies.specs.Jones.{jones_line}
+use Rattle.kh_runs.specs.Homology.{jones_line}
 use Rattle.kh_work.proofs.laws.accepted_diagrams_are_answered_by_their_polynomial.Goals as goal
 
 pub returns : goal.returns

@@ -1,8 +1,8 @@
 use Rattle.std.proofs.Common.{◌≡◌}
 use Rattle.kh_work.specs.Drafts.{reply_in}
 use Rattle.kh_work.specs.Runs.{request_of}
-use Rattle.kh_replies.specs.Told.{seen}
-use Rattle.kh_replies.proofs.RunLemmas.{IsReplied-completed}
+use Rattle.kh_runs.specs.Told.{seen}
+use Rattle.kh_runs.proofs.RunLemmas.{IsReplied-completed}
 use Rattle.kh_work.proofs.top.reply_by.Goals as goal
 
 pub returns : goal.returns

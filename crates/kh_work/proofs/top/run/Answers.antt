@@ -1,6 +1,6 @@
 use Rattle.std.proofs.Common.{◌≡◌}
-use Rattle.kh_replies.specs.Told.{seen}
-use Rattle.kh_replies.proofs.RunLemmas.{IsRun-written}
+use Rattle.kh_runs.specs.Told.{seen}
+use Rattle.kh_runs.proofs.RunLemmas.{IsRun-written}
 use Rattle.kh_work.specs.Runs.{request_of}
 use Rattle.kh_work.proofs.Headlines.{headline-run}
 use Rattle.kh_work.proofs.ReducedHeadlines.{reduced-run}

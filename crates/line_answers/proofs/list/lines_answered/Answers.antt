@@ -1,7 +1,7 @@
 use Rattle.std.proofs.Common.{ℕ, List, take, ap, subst, ◌∙◌, Err, arith}
 use Rattle.std.specs.Io.KnownBytes.{Appends}
 use Rattle.std.proofs.lemmas.Result.{err_from_is_err_and}
-use Rattle.kh_replies.specs.Told.{seen}
+use Rattle.kh_runs.specs.Told.{seen}
 use Rattle.line_reader.specs.Advances.{IsNextLine}
 use Rattle.line_reader.specs.declared.reading.NextLine.{NextLine}
 use Rattle.line_answers.specs.ListRuns.{status_of, stop_status}

@@ -1,4 +1,4 @@
-use Rattle.kh_replies.specs.Told.{seen}
+use Rattle.kh_runs.specs.Told.{seen}
 use Rattle.line_answers.proofs.Progress.{Progress}
 use Rattle.line_answers.proofs.list.lines_answered.Given as goal
 

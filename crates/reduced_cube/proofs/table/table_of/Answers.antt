@@ -1,6 +1,6 @@
 use Rattle.std.proofs.Common.{rules, arith, to_z, of_z, w16, sym, subst, take, ◌≡◌, ◌+◌}
 use Rattle.std.specs.List.{flat_map}
-use Rattle.jones_sum.proofs.BlockTables.{rows-all, rows-more}
+use Rattle.homology_tables.proofs.BlockTables.{rows-all, rows-more}
 use Rattle.reduced_cube.specs.Marks.{Marked}
 use Rattle.reduced_cube.specs.Reduced.{reduced_degrees, reduced_rows}
 use Rattle.reduced_cube.proofs.table.table_of.Goals as goal

@@ -1,6 +1,6 @@
 use Rattle.std.proofs.Common.{subst}
-use Rattle.cell_complexes.specs.Alike.{AreMatched}
-use Rattle.cell_complexes.specs.Layers.{Layer}
+use Rattle.cell_laws.specs.Alike.{AreMatched}
+use Rattle.cell_laws.specs.Layers.{Layer}
 use Rattle.scan_laws.specs.Complexes.{complex_of}
 use Rattle.scan_laws.specs.NextGenerators.{next_generator}
 use Rattle.scan_laws.proofs.AddedCells.{back, matched-next, to-generator}

@@ -2,7 +2,7 @@ use Rattle.prime_field.specs.SmallFields.{field-small_prime}
 use Rattle.plain_matrix.proofs.FieldInverses.{inverses-field}
 use Rattle.scan_laws.proofs.Ending.{scan-ends}
 use Rattle.scan_laws.proofs.Whole.{reached-first, reached-lists, reached-stands, reached-step, table-same, whole-theorem}
-use Rattle.cell_complexes.proofs.Reordered.{own-order}
+use Rattle.order_laws.proofs.Reordered.{own-order}
 use Rattle.scan_laws.proofs.laws.reached_scans.Goals as goal
 
 pub returns : goal.returns

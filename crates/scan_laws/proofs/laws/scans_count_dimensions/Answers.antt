@@ -1,7 +1,7 @@
 use Rattle.prime_field.specs.SmallFields.{field-small_prime}
 use Rattle.plain_matrix.proofs.FieldInverses.{inverses-field}
-use Rattle.cell_complexes.specs.Cubes.{listed_by}
-use Rattle.cell_complexes.proofs.AnyOrder.{accepted-reordered}
+use Rattle.order_laws.specs.Orders.{listed_by}
+use Rattle.order_laws.proofs.AnyOrder.{accepted-reordered}
 use Rattle.scan_laws.specs.Scans.{first_scan}
 use Rattle.scan_laws.proofs.Ending.{scan-ends}
 use Rattle.scan_laws.proofs.Whole.{reached-first, reached-stands, table-same, whole-theorem}

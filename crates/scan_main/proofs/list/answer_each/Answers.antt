@@ -1,8 +1,8 @@
 use Rattle.std.proofs.Common.{sym, subst}
-use Rattle.kh_replies.specs.Told.{seen}
+use Rattle.kh_runs.specs.Told.{seen}
 use Rattle.line_answers.specs.ListRuns.{IsListRun}
 use Rattle.word_line.specs.declared.scan_command.Fields.{Fields}
-use Rattle.scan_main.specs.Scans.{IsTextReply, sizes_of}
+use Rattle.line_answers.specs.Scans.{IsTextReply, sizes_of}
 use Rattle.scan_main.proofs.list.answer_each.Goals as goal
 
 -- one field

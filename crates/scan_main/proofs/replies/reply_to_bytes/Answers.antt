@@ -1,6 +1,6 @@
 use Rattle.std.proofs.Common.{sym, subst}
-use Rattle.kh_replies.specs.Replies.{Reply}
-use Rattle.scan_main.specs.Scans.{IsTextReply}
+use Rattle.kh_runs.specs.Replies.{Reply}
+use Rattle.line_answers.specs.Scans.{IsTextReply}
 use Rattle.scan_main.proofs.ScanRuns.{IsDiagramReply-refused, IsDiagramReply-scanned}
 use Rattle.scan_main.proofs.replies.reply_to_bytes.Goals as goal
 

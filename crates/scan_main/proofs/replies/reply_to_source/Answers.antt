@@ -1,7 +1,7 @@
 use Rattle.std.proofs.Common.{inl}
 use Rattle.kh_types.specs.declared.limits.TheConstants.{INPUT_BYTES}
-use Rattle.kh_replies.proofs.SourceAnswers.{AnswersSource-long}
-use Rattle.scan_main.specs.Scans.{IsScanReply}
+use Rattle.kh_runs.proofs.SourceAnswers.{AnswersSource-long}
+use Rattle.line_answers.specs.Scans.{IsScanReply}
 use Rattle.scan_main.proofs.replies.reply_to_source.Goals as goal
 
 pub returns-in-Refused-clause-answered : goal.returns-in-Refused-clause-answered

@@ -1,5 +1,5 @@
 use Rattle.std.proofs.Common.{◌≡◌, ap, refl, Err}
-use Rattle.kh_replies.specs.Told.{seen}
+use Rattle.kh_runs.specs.Told.{seen}
 use Rattle.scan_main.proofs.ListRuns.{headline-list}
 use Rattle.scan_main.proofs.ScanRuns.{IsScanRun-command, IsScanRun-none, headline-run}
 use Rattle.scan_main.proofs.top.run.Goals as goal

@@ -1,6 +1,6 @@
 use Rattle.std.proofs.Common.{rules, ◌≡◌, ◌∙◌, ap, length, subst, to_z, of_z, w16}
 use Rattle.kh_types.specs.Code.{Code}
-use Rattle.jones_sum.specs.DegreeRows.{AddsAllOrNone}
+use Rattle.homology_tables.specs.DegreeRows.{AddsAllOrNone}
 use Rattle.shared_block.proofs.BlockRows.{rows-finished}
 use Rattle.shared_block.proofs.rows.push_rows.Goals as goal
 

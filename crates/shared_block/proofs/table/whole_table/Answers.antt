@@ -1,7 +1,7 @@
-use Rattle.std.proofs.Common.{◌∙◌, ap, arith, length, subst, sym}
+use Rattle.std.proofs.Common.{◌∙◌, subst, sym}
 use Rattle.kh_types.specs.Table.{Table}
-use Rattle.jones_sum.specs.Tables.{IsTable}
-use Rattle.jones_sum.proofs.TableLemmas.{IsTable-table}
+use Rattle.homology_tables.specs.Tables.{IsTable}
+use Rattle.homology_tables.proofs.TableLemmas.{IsTable-table}
 use Rattle.shared_block.proofs.Blocks.{table-all}
 use Rattle.shared_block.proofs.table.whole_table.Goals as goal
 

@@ -3,7 +3,7 @@ use Rattle.std.specs.Result.{IfOk}
 use Rattle.kh_types.specs.Code.{Code}
 use Rattle.kh_types.specs.Table as tables
 use Rattle.kh_types.specs.Table.{table}
-use Rattle.cell_complexes.specs.Cubes.{listed_by}
+use Rattle.order_laws.specs.Orders.{listed_by}
 use Rattle.scan_laws.specs.Counts.{counted_table}
 use Rattle.scan_laws.specs.Steps.{IsLast, IsReached}
 use Rattle.tangle_scan.specs.Scanned.{scan_of}

@@ -1,4 +1,4 @@
-use Rattle.cell_complexes.specs.Cubes.{IsReordered}
+use Rattle.order_laws.specs.Orders.{IsReordered}
 use Rattle.tangle_scan.proofs.order.ordered.Given as goal
 
 abbrev pub invariant-starts : goal.invariant-starts

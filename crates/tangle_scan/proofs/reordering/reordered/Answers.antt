@@ -1,5 +1,5 @@
 use Rattle.std.proofs.Common.{arith}
-use Rattle.cell_complexes.proofs.Reordered.{reordered-length}
+use Rattle.order_laws.proofs.Reordered.{reordered-length}
 use Rattle.tangle_scan.proofs.reordering.reordered.Goals as goal
 
 pub list_of-requires : goal.list_of-requires

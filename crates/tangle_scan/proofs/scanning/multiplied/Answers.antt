@@ -2,9 +2,8 @@ use Rattle.std.proofs.Common.{◌∙◌, ℕ, List, ap, ap₂, arith}
 use Rattle.kh_types.specs.Table.{Row, Table, table}
 use Rattle.union_laws.specs.Pieces.{first_piece, other_pieces}
 use Rattle.union_laws.specs.UnitedRows.{rows_product}
-use Rattle.jones_sum.proofs.BlockTables.{table_with}
 use Rattle.tangle_scan.specs.CountedRows.{all_rows_by}
-use Rattle.tangle_scan.proofs.PieceLemmas.{dimension-small, table-multiplied}
+use Rattle.tangle_scan.proofs.PieceLemmas.{dimension-small, table-multiplied, table_with}
 use Rattle.tangle_scan.proofs.scanning.multiplied.Goals as goal
 
 pub product_rows-requires : goal.product_rows-requires

@@ -1,6 +1,6 @@
 use Rattle.std.proofs.Common.{sym, ap, subst, length, All, arith}
 use Rattle.worker_pool.specs.Rows.{EndsAt}
-use Rattle.worker_pool.proofs.RowLemmas.{last_of, seated_after_gather}
+use Rattle.worker_pool.proofs.RowLemmas.{last_of, origins_push, seated_after_gather}
 use Rattle.worker_pool.proofs.rows.take_last.Goals as goal
 
 pub gathered-seat-requires-clause-belongs : goal.gathered-seat-requires-clause-belongs
@@ -21,3 +21,6 @@ returns-clause-seated g c =
     let last = last_of _ _ _ _ _ _ _ c.requires c.in_ok-lock.ensures.items c.in-Some.ensures.items in
     let slice = c.as_mut_slice.ensures in
     seated_after_gather _ _ _ _ _ _ _ _ last slice.value slice.len c.gathered-seat.ensures.rows
+
+pub returns-clause-some : goal.returns-clause-some
+returns-clause-some g c = origins_push _ _ _ _ _ c.in_ok-lock.ensures.items (sym c.close.ensures.origin)

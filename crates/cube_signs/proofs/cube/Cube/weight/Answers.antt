@@ -3,9 +3,10 @@ use Rattle.std.proofs.lemmas.Bool.Decides.{Decides-int_eq}
 use Rattle.std.proofs.lemmas.Int.{ints, to_z-of_z}
 use Rattle.kh_types.specs.Directions.{minus_count}
 use Rattle.kh_types.specs.Generators.{one_count}
+use Rattle.kh_types.proofs.Integers.{int_eq-other}
 use Rattle.cube_signs.specs.Shapes.{gives_degree}
 use Rattle.cube_signs.specs.declared.shape.Shape.{Shape}
-use Rattle.cube_signs.proofs.LabelPlaces.{is_label-given, is_label-none, not-int_eq}
+use Rattle.cube_signs.proofs.LabelPlaces.{is_label-given, is_label-none}
 use Rattle.cube_signs.proofs.cube.Cube.weight.Goals as goal
 
 pub returns-then-from-at : goal.returns-then-from-at
@@ -35,5 +36,5 @@ returns-else-from-at c =
     let are_ones : c.shape-shape.result.ones ≡ one_count code state = ap (λ (s : Shape). s.ones) c.shape-shape.ensures.shape in
     let differ : pos (one_count code state) -ℤ pos (minus_count code.crossings) ≢ at.i =
     λ same. c.if-from-at.false (omega (arith, ints, are_minus, are_ones, c.from.ensures, c.from-2.ensures, same)) in
-    let fails = not-int_eq (pos (one_count code state) -ℤ pos (minus_count code.crossings)) at.i differ in
+    let fails = int_eq-other (pos (one_count code state) -ℤ pos (minus_count code.crossings)) at.i differ in
     record { labels = λ label. is_label-none code at.i at.j state label fails }

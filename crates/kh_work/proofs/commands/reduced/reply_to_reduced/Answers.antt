@@ -2,7 +2,8 @@ use Rattle.std.proofs.Common.{ap, refl, ◌∙◌}
 use Rattle.std.proofs.lemmas.Result.{IfOk-weaker}
 use Rattle.circle_smoothing.specs.GeneratorCounts.{generator_count}
 use Rattle.circle_smoothing.specs.declared.limits.TheConstants.{GENERATORS}
-use Rattle.kh_replies.specs.Refusals.{refused_mark, too_many_generators}
+use Rattle.kh_runs.specs.Refusals.{refused_mark}
+use Rattle.kh_replies.specs.Limits.{too_many_generators}
 use Rattle.kh_work.proofs.ReplyLemmas.{less-false, less-true}
 use Rattle.kh_work.proofs.ReducedLemmas.{reduced_reply-large, reduced_reply-made, reduced_reply-unmarked}
 use Rattle.kh_work.proofs.commands.reduced.reply_to_reduced.Goals as goal

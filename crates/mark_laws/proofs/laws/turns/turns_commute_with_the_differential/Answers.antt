@@ -1,4 +1,4 @@
-use Rattle.cell_complexes.proofs.ExchangedCubes.{member-from}
+use Rattle.cell_laws.proofs.CubeCells.{member-from}
 use Rattle.mark_laws.proofs.CubeTurns.{turns-commute}
 use Rattle.mark_laws.proofs.laws.turns.turns_commute_with_the_differential.Goals as goal
 

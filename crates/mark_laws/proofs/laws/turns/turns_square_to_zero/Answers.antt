@@ -1,4 +1,4 @@
-use Rattle.cell_complexes.proofs.ExchangedCubes.{member-from}
+use Rattle.cell_laws.proofs.CubeCells.{member-from}
 use Rattle.mark_laws.proofs.TurnsTwice.{turns-twice}
 use Rattle.mark_laws.proofs.laws.turns.turns_square_to_zero.Goals as goal
 

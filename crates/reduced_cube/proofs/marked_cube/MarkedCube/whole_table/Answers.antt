@@ -1,6 +1,6 @@
 use Rattle.std.proofs.Common.{◌∙◌, ap, arith, length, subst, sym}
 use Rattle.kh_types.specs.Table.{Table}
-use Rattle.jones_sum.specs.Tables.{IsTable}
+use Rattle.homology_tables.specs.Tables.{IsTable}
 use Rattle.reduced_cube.specs.Marks.{Marked}
 use Rattle.reduced_cube.proofs.ReducedTables.{IsTable-reduced, table-whole}
 use Rattle.reduced_cube.proofs.marked_cube.MarkedCube.whole_table.Goals as goal

@@ -3,7 +3,8 @@ use Rattle.std.proofs.lemmas.Bool.{false≢true}
 use Rattle.std.proofs.lemmas.Int.{ints}
 use Rattle.kh_types.specs.Complex.{Complex, Pivot}
 use Rattle.cancel_step.specs.Copies.{Copied}
-use Rattle.cancel_step.specs.Foreign.{IsForeign, IsLeast, ShowsAt}
+use Rattle.cancel_step.specs.Foreign.{IsForeign, ShowsAt}
+use Rattle.sparse_block.specs.Least.{IsLeast}
 use Rattle.shared_block.specs.BlockHistories.{BlockCopy, block_with, complex_of}
 use Rattle.shared_block.proofs.CommitLemmas.{kept-pivot, room-pivot}
 use Rattle.shared_block.proofs.shared_block.SharedBlock.commit.Goals as goal

@@ -1,9 +1,0 @@
-use Rattle.added_crossings.proofs.CodeSums.{IsCut-at}
-use Rattle.added_crossings.proofs.Pairs.{IsPairingOf-behind}
-use Rattle.added_crossings.proofs.laws.pairings_stay_pairings.Goals as goal
-
-pub returns : goal.returns
-returns c = record {
-  paired = IsPairingOf-behind;
-  joins = λ code k smoothing m twice below among. (IsCut-at code k smoothing 0 m twice below among).made;
-}

@@ -1,5 +1,0 @@
-use Rattle.cancel_step.proofs.Steps.{reduced-none}
-use Rattle.cancel_step.proofs.reduction_laws.no_column_is_reduced_at_first.Goals as goal
-
-pub returns : goal.returns
-returns c = reduced-none

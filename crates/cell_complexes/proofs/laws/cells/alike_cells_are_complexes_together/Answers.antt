@@ -1,5 +1,0 @@
-use Rattle.cell_complexes.proofs.AlikeComplexes.{complex-alike}
-use Rattle.cell_complexes.proofs.laws.cells.alike_cells_are_complexes_together.Goals as goal
-
-pub returns : goal.returns
-returns g c p to sign first second below alike complex = complex-alike p to sign first second alike below complex

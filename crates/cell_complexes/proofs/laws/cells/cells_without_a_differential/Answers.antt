@@ -1,5 +1,0 @@
-use Rattle.cell_complexes.proofs.LastCells.{dimension-nothing}
-use Rattle.cell_complexes.proofs.laws.cells.cells_without_a_differential.Goals as goal
-
-pub returns : goal.returns
-returns g c p cells field below none i j = dimension-nothing p cells field below none i j

@@ -1,5 +1,0 @@
-use Rattle.cell_complexes.proofs.Matched.{AreListed-matched}
-use Rattle.cell_complexes.proofs.laws.cells.matched_lists_are_listed.Goals as goal
-
-pub returns : goal.returns
-returns g c to back first second are = AreListed-matched to back first second are

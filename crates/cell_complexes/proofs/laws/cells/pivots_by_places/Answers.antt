@@ -1,6 +1,0 @@
-use Rattle.cell_complexes.proofs.AlikeComplexes.{pivots-from_places}
-use Rattle.cell_complexes.proofs.Listings.{pivots-without_doubles}
-use Rattle.cell_complexes.proofs.laws.cells.pivots_by_places.Goals as goal
-
-pub returns : goal.returns
-returns g c = record { places = pivots-from_places; once = pivots-without_doubles }

@@ -1,5 +1,0 @@
-use Rattle.cell_complexes.proofs.LastCells.{eliminated-kept}
-use Rattle.cell_complexes.proofs.laws.cells.ways_that_count.Goals as goal
-
-pub returns : goal.returns
-returns g c = eliminated-kept

@@ -1,5 +1,0 @@
-use Rattle.cell_complexes.proofs.Listings.{listed-flat, listed-turned}
-use Rattle.cell_complexes.proofs.laws.listings.listings_of_parts.Goals as goal
-
-pub returns : goal.returns
-returns g c = record { flat = listed-flat; turned = listed-turned }

@@ -1,0 +1,4 @@
+//! Complexes whose places are the elements of a list: what keeps their dimensions.
+#![tactic(auto)]
+
+pub mod laws;

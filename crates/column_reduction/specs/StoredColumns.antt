@@ -1,0 +1,120 @@
+-- Reduced columns as they are stored, each with its entries, and what a search among them finds.
+use Rattle.std.specs.Prelude.{◌≡◌, ℕ, ◌+◌, ◌<◌, ℤ, pos, ◌+ℤ◌, ◌<ℤ◌, ◌≤ℤ◌, List, [], ◌∷◌, ◌++◌, length, map, get_or, slice_index_or, Option, Some, None, Bool, false, All, if◌then◌else◌}
+use Rattle.std.specs.List.{fold}
+use Rattle.std.specs.Global.{Vec}
+use Rattle.kh_types.specs.Complex.{Complex, IsComplex, Pivot, entry_of}
+use Rattle.kh_types.specs.History.{IsLegal, replay}
+use Rattle.sparse_block.specs.Clearing.{with_dead}
+use Rattle.sparse_block.specs.Complexes.{place_count}
+use Rattle.sparse_block.specs.Entries.{Entry, AreEntries, value_at}
+use Rattle.column_reduction.specs.Reductions.{AreReduced, AreReducedColumns, AreReducedUp, EndsAt, HaveNoEntryBelow, IsLeftOf, ReducedColumn, is_last_row, is_place_alive, pivots_from_greatest, pivots_of}
+
+-- a reduced column as it is stored: its number in the matrix, the row of its last entry, and its entries
+pub record StoredColumn : Type 0 where
+  pub column : ℕ
+  pub row : ℕ
+  pub entries : List Entry
+
+-- the column of this number that ends at this row, with these entries
+abbrev pub stored_column : ℕ → ℕ → List Entry → StoredColumn
+stored_column column row entries = record { column = column; row = row; entries = entries }
+
+-- column 0 with no entry
+abbrev pub no_column : StoredColumn
+no_column = stored_column 0 0 []
+
+-- the reduced column that is stored
+abbrev pub reduced_column : StoredColumn → ReducedColumn
+reduced_column stored = record { column = stored.column; row = stored.row; values = value_at stored.entries }
+
+-- the reduced columns that are stored
+abbrev pub reduced_columns : List StoredColumn → List ReducedColumn
+reduced_columns stored = map reduced_column stored
+
+-- the pivots of stored columns of degree i
+abbrev pub stored_pivots : ℤ → List StoredColumn → List Pivot
+stored_pivots i stored = pivots_of i (reduced_columns stored)
+
+-- stored columns are reduced, no two end at one row, and each owns the row where it ends: the owner of a row is the number of the
+-- stored column that ends there, and none where no one does
+pub record AreStored (p : ℕ) (stored : List StoredColumn) (owners : List (Option ℕ)) : Type 0 where
+  pub columns : AreReducedColumns p (reduced_columns stored)
+  pub entries : All (λ line. AreEntries p (length owners) line.entries) stored
+  pub none : (row : ℕ) → row < length owners → slice_index_or owners row None ≡ None → is_last_row row (reduced_columns stored) ≡ false
+  pub some : (row number : ℕ) → slice_index_or owners row None ≡ Some number
+      → (number < length stored) × ((get_or stored number no_column).row ≡ row)
+
+-- the row of the last entry; 0 where there is none
+abbrev pub last_place : List Entry → ℕ
+last_place [] = 0
+last_place (first ∷ rest) = (get_or (first ∷ rest) (length rest) first).place
+
+-- one more than the row of the last entry; 0 where there is none
+abbrev pub end_of : List Entry → ℕ
+end_of [] = 0
+end_of (first ∷ rest) = last_place (first ∷ rest) + 1
+
+-- a line ends at the last row of no reduced column
+abbrev pub IsFree : List ReducedColumn → (ℕ → ℕ) → Type 0
+IsFree reduced values = (row : ℕ) → EndsAt row values → is_last_row row reduced ≡ false
+
+-- a line has been reduced: it is left of another as multiples of stored columns were taken away, and ends at the last row of none
+pub record IsReducedLine (p size : ℕ) (stored : List StoredColumn) (whole rest : List Entry) : Type 0 where
+  pub left : IsLeftOf p (reduced_columns stored) (value_at whole) (value_at rest)
+  pub entries : AreEntries p size rest
+  pub free : IsFree (reduced_columns stored) (value_at rest)
+
+-- the stored columns, and one more where something is left of it
+abbrev pub stored_with : List StoredColumn → ℕ → List Entry → List StoredColumn
+stored_with stored column [] = stored
+stored_with stored column (first ∷ rest) = stored ++ stored_column column (last_place (first ∷ rest)) (first ∷ rest) ∷ []
+
+-- a column, by its number, without its entries where its place is dead
+abbrev pub live_column : List Bool → List (List Entry) → ℕ → List Entry
+live_column alive columns column = if slice_index_or alive column false then slice_index_or columns column [] else []
+
+-- the matrix out of degree i has these columns, but those of dead places are 0
+pub record HasColumns (complex : Complex) (i : ℤ) (alive : List Bool) (columns : List (List Entry)) : Type 0 where
+  pub count : place_count complex i ≡ length columns
+  pub entries : (row column : ℕ) → entry_of complex i row column ≡ value_at (live_column alive columns column) row
+
+-- the first columns, as many as count, are reduced: so in each complex that has these columns out of some degree
+abbrev pub AreFirstReduced : ℕ → List Bool → List (List Entry) → ℕ → List StoredColumn → Type 0
+AreFirstReduced p alive columns count stored =
+    (complex : Complex) (i : ℤ) → IsComplex p complex → HasColumns complex i alive columns
+    → AreReduced p complex i count (reduced_columns stored) (replay p complex (stored_pivots i stored))
+
+-- the places of each degree, with those of a stored column's pivot dead, where its degree has number k
+abbrev pub with_pair : ℕ → List (List Bool) → StoredColumn → List (List Bool)
+with_pair k alive stored = with_dead (k + 1) stored.row (with_dead k stored.column alive)
+
+-- and with those of all their pivots dead
+abbrev pub with_pairs : ℕ → List (List Bool) → List StoredColumn → List (List Bool)
+with_pairs k alive stored = fold (with_pair k) alive stored
+
+-- which places of each degree are alive
+abbrev pub alive_in : Complex → List (List Bool)
+alive_in complex = map (λ degree. degree.alive) complex.degrees
+
+-- the pivots of each degree
+abbrev pub pivots_in : List (Vec Pivot) → List (List Pivot)
+pivots_in degrees = map (λ degree. degree.items) degrees
+
+-- one list of the pivots of all degrees, which are given from the least on: those of the greatest degree come first
+abbrev pub from_greatest : List (List Pivot) → List Pivot
+from_greatest [] = []
+from_greatest (degree ∷ greater) = from_greatest greater ++ degree
+
+-- a history reduces the degrees of a complex before number k: it has their pivots, those of the greatest degree first, and is legal; these
+-- places are alive after it; there is no entry out of these degrees, and the entries out of all others are as they were, but 0 in columns
+-- that are dead
+pub record IsReducedTo (p : ℕ) (complex : Complex) (k : ℕ) (places : List (List Bool)) (pivots : List Pivot) : Type 0 where
+  pub degrees : List (List ReducedColumn)
+  pub count : length degrees ≡ k
+  pub up : AreReducedUp p complex complex.low degrees (replay p complex pivots)
+  pub listed : pivots ≡ pivots_from_greatest complex.low degrees
+  pub legal : IsLegal p complex pivots
+  pub alive : places ≡ alive_in (replay p complex pivots)
+  pub below : HaveNoEntryBelow (replay p complex pivots) (complex.low +ℤ pos k)
+  pub above : (j : ℤ) → (complex.low +ℤ pos k) ≤ℤ j → (row column : ℕ) → entry_of (replay p complex pivots) j row column
+      ≡ (if is_place_alive (replay p complex pivots) j column then entry_of complex j row column else 0)

@@ -1,0 +1,11 @@
+//! Column reduction, which finds all pivots of a complex without its rows, and what it leaves.
+#![tactic(auto)]
+
+mod entries;
+mod reduced_column;
+mod reduced_degree;
+mod reducing;
+pub mod reduction_laws;
+mod stored_column;
+
+pub use reducing::{Reduced, reduce};

@@ -1,5 +1,0 @@
-use Rattle.cube_squares.proofs.BlockComplexes.{product_entry-block}
-use Rattle.cube_squares.proofs.laws.blocks.blocks_square_to_zero.Goals as goal
-
-pub returns : goal.returns
-returns c = product_entry-block

@@ -1,5 +1,0 @@
-use Rattle.std.proofs.Common.{refl}
-use Rattle.cube_squares.proofs.laws.known.known_squares.Goals as goal
-
-pub returns : goal.returns
-returns c = record { same = refl; merge_first = refl; split_first = refl }

@@ -1,6 +1,0 @@
-//! Laws of the cube's squares: what two crossings do to circles, labels and signs in either order,
-//! and that the differential squares to zero, so that the blocks of accepted codes are complexes.
-//! It has no code.
-#![tactic(auto)]
-
-pub mod laws;

@@ -1,5 +1,0 @@
-use Rattle.dotted_surfaces.proofs.Projected.{Corresponds-alike, Corresponds-projected, IsClosed-moved, IsClosed-moved_back, value-moved}
-use Rattle.dotted_surfaces.proofs.laws.names_do_not_matter.Goals as goal
-
-pub returns : goal.returns
-returns c = record { closed = IsClosed-moved; back = IsClosed-moved_back; same = value-moved; alike = Corresponds-alike; places = Corresponds-projected }

@@ -1,5 +1,0 @@
-use Rattle.dotted_surfaces.proofs.Renamed.{value-reordered, IsClosed-reordered}
-use Rattle.dotted_surfaces.proofs.laws.orders_do_not_matter.Goals as goal
-
-pub returns : goal.returns
-returns c = record { closed = IsClosed-reordered; same = value-reordered }

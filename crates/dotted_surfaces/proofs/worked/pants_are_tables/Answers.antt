@@ -1,5 +1,0 @@
-use Rattle.dotted_surfaces.proofs.Tables.{value-merge, value-split}
-use Rattle.dotted_surfaces.proofs.worked.pants_are_tables.Goals as goal
-
-pub returns : goal.returns
-returns c = record { merge = value-merge; split = value-split }

@@ -1,5 +1,0 @@
-use Rattle.std.proofs.Common.{refl}
-use Rattle.dotted_surfaces.proofs.worked.small_surfaces.Goals as goal
-
-pub returns : goal.returns
-returns c = record { sphere = refl; marked = refl; twice_marked = refl; torus = refl; cut_torus = refl; double_torus = refl }

@@ -1,0 +1,2 @@
+pub mod GeneratorCounts
+pub mod TableSums

@@ -1,5 +1,0 @@
-use Rattle.gluing.proofs.Glued.{class_count-glued_parts}
-use Rattle.gluing.proofs.laws.glued_parts_differ_by_the_inner_ones.Goals as goal
-
-pub returns : goal.returns
-returns c = class_count-glued_parts

@@ -1,5 +1,0 @@
-use Rattle.gluing.proofs.Renumbered.{sum_with-renumbered}
-use Rattle.gluing.proofs.laws.renumbering_keeps_the_sum.Goals as goal
-
-pub returns : goal.returns
-returns c = sum_with-renumbered

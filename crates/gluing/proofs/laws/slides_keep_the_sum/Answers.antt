@@ -1,5 +1,0 @@
-use Rattle.gluing.proofs.SlidSums.{sum_with-slide}
-use Rattle.gluing.proofs.laws.slides_keep_the_sum.Goals as goal
-
-pub returns : goal.returns
-returns c = sum_with-slide

@@ -1,0 +1,2 @@
+pub mod RankSums
+pub mod OverFour

@@ -1,0 +1,4 @@
+pub mod TableLemmas
+pub mod DegreeRows
+pub mod BlockTables
+pub mod OutsideExponents

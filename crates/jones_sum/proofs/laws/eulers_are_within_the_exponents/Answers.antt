@@ -1,5 +1,0 @@
-use Rattle.jones_sum.proofs.EulerLemmas.{euler-outside}
-use Rattle.jones_sum.proofs.laws.eulers_are_within_the_exponents.Goals as goal
-
-pub returns : goal.returns
-returns c = λ homology exponent is. euler-outside homology.rows exponent is.rows

@@ -1,0 +1,5 @@
+pub mod CodeRefusals
+pub mod Parts
+pub mod Inputs
+pub mod InputStops
+pub mod DiagramReplies

@@ -1,9 +1,0 @@
--- What a stop with a reply says. All of it is this project's rule.
-use Rattle.kh_replies.specs.declared.input.InputStop.{InputStop}
-use Rattle.kh_replies.specs.declared.input.InputStop.TheVariants as stops
-use Rattle.kh_replies.specs.Replies.{Reply}
-
--- where there is a reply, this is a fact of it
-abbrev pub StopsWith : (Reply → Type 0) → InputStop → Type 0
-StopsWith Fact (stops.Refused reply) = Fact reply
-StopsWith Fact stops.NoMemory = Unit {0}

@@ -1,5 +1,0 @@
-use Rattle.kinks_and_fingers.proofs.KinkDropSums.{state_sum-without_kink}
-use Rattle.kinks_and_fingers.proofs.circles.dropped_kinks_keep_the_state_sum.Goals as goal
-
-pub returns : goal.returns
-returns c = state_sum-without_kink

@@ -1,5 +1,0 @@
-use Rattle.kinks_and_fingers.proofs.DropRules.{IsLeft-dropped, left-one, names-one}
-use Rattle.kinks_and_fingers.proofs.drops.drops_follow_the_rule.Goals as goal
-
-pub returns : goal.returns
-returns c = record { rule = IsLeft-dropped; one = left-one; names = names-one }

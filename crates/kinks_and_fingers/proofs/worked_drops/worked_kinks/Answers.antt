@@ -1,7 +1,0 @@
-use Rattle.std.proofs.Common.{refl}
-use Rattle.kh_types.specs.Acceptance.{accepted, first_fault}
-use Rattle.kinks_and_fingers.proofs.worked_drops.worked_kinks.Goals as goal
-
-pub returns-clause-accepted : goal.returns-clause-accepted
-unfolding accepted first_fault
-returns-clause-accepted c = refl

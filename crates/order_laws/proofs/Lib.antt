@@ -1,0 +1,11 @@
+pub mod ClampedClasses
+pub mod ClassNumbers
+pub mod ExchangedBits
+pub mod ExchangedCodes
+pub mod ExchangedCubes
+pub mod Orders
+pub mod Shuffled
+pub mod ShuffledDarts
+pub mod ShuffledFaces
+pub mod AnyOrder
+pub mod Reordered

@@ -1,0 +1,10 @@
+use Rattle.surface_laws.proofs.Overlaid.{IsClosed-laid, sum-laid}
+use Rattle.surface_laws.proofs.laws.overlays_add_up.Goals as goal
+
+pub returns : goal.returns
+returns c = record {
+  closed = λ first second circles label placed other along.
+      IsClosed-laid first second circles label record { placed = placed; other = other; along = along };
+  sum = λ first second circles label placed other along.
+      sum-laid first second circles label record { placed = placed; other = other; along = along };
+}
