@@ -9,11 +9,10 @@ import re
 import shutil
 import signal
 import sys
-import tempfile
-import time
 
 from shared.places import TOP
 from shared.running import PATIENCE
+from shared.waiting import wait_for, written_folder
 
 TOOLS = os.path.join(TOP, "tools")
 # What each crate stands on, the lowest first, and the seconds that it takes by the file of times. The programs, kh_main and scan_main, do
@@ -65,16 +64,6 @@ class Kit:
     def times(self):
         with open(os.path.join(self.copy.folder, "tools", "build-times.txt"), encoding="utf-8") as file:
             return [line.split()[0] for line in file if not line.startswith("#")]
-
-
-def wait_for(is_so):
-    """Whether something comes to be so."""
-    end = time.monotonic() + PATIENCE
-    while not is_so():
-        if time.monotonic() > end:
-            return False
-        time.sleep(0.02)
-    return True
 
 
 def is_gone(process):
@@ -305,6 +294,6 @@ def faults(new_copy):
     """The name of each case, and what is wrong with it, if anything is; given what makes a copy of the repository in a folder."""
     yield from lanes_faults()
     for case in TRIED:
-        with tempfile.TemporaryDirectory() as folder:
+        with written_folder() as folder:
             came, wanted = case(Kit(new_copy(folder)))
         yield f"./build, {case.__name__.replace('_', ' ')}", None if came == wanted else f"{came} and not {wanted}"

@@ -10,12 +10,12 @@ import re
 import shutil
 import subprocess
 import sys
-import tempfile
 
 from companions import building
 from shared.named_scripts import BY_HAND
 from shared.places import TOP
 from shared.running import PATIENCE
+from shared.waiting import written_folder
 
 CANNOT_RUN = 70
 COMMANDS = "cat chmod cp dirname env flock mkdir mktemp find readlink rm seq sh sleep tail".split()
@@ -203,7 +203,7 @@ def measure_faults():
 def faults():
     """The name of each case, and what is wrong with it, if anything is."""
     for case in TRIED:
-        with tempfile.TemporaryDirectory() as folder:
+        with written_folder() as folder:
             came, wanted = case(Copy(folder))
         yield f"./kh, ./kh-scan and ./build {case.__name__.replace('_', ' ')}", None if came == wanted else f"{came} and not {wanted}"
     yield from building.faults(Copy)
