@@ -12,7 +12,7 @@ import subprocess
 import sys
 import threading
 
-ASKED = "Crate GROUPS LIMIT QUOTAS crates_below guarded lock number_in sum_of text_of with_one_job".split()
+ASKED = "Crate GROUPS LIMIT QUOTAS RATTLE crates_below guarded lock number_in sum_of text_of with_one_job".split()
 reading = threading.local()
 
 
@@ -45,12 +45,16 @@ def each_read_once():
 
 
 class Crate(rtlib.Crate):
-    """A crate as `rt` has it, which keeps the processor time and the memory of its step."""
+    """A crate as `rt` has it, which keeps the processor time and the memory of its step. Its library has its statements without their proofs,
+    as `rt ci` builds it for the crates above, and stands where no other command looks for it; or, with `keeps`, it is that of `rt lib`, over
+    whose work `rt check` goes on."""
 
-    seconds, memory, is_proved = 0.0, 0, False
+    keeps, seconds, memory, is_proved = False, 0.0, 0, False
 
     def __init__(self, *given, **named):
         super().__init__(*given, **named)
+        if not self.keeps:
+            self.rlib = f"{self.folder}/out/statements/{self.name}.rlib"
         words = self.stream("args") if self.is_program else None
         if words is not None:
             self.said = {**self.said, "args": words.decode().splitlines()}
@@ -61,6 +65,18 @@ class Crate(rtlib.Crate):
             if self.name not in sums:
                 sums[self.name] = super().stamp()
             return sums[self.name]
+
+    def stamp_file(self):
+        return f"{os.path.dirname(self.rlib)}/stamp"
+
+    def is_built(self):
+        """Whether its library is that of its sources, and no younger one stands below it: statements fit the libraries that they were built over."""
+        if self.keeps:
+            return super().is_built()
+        below = [self, *self.below()]
+        if not all(os.path.isdir(it.rlib) and rtlib.text_of(it.stamp_file()) == it.stamp() for it in below):
+            return False
+        return all(os.stat(it.stamp_file()).st_mtime_ns <= os.stat(self.stamp_file()).st_mtime_ns for it in below)
 
     def is_done(self):
         """Whether its library, or the program, is that of its sources."""
@@ -81,12 +97,25 @@ class Crate(rtlib.Crate):
         again = rtlib.with_one_job(list(words), started.returncode, self.out)
         return self.call(*again) if again else started.returncode
 
+    def build_library(self, flags):
+        """Proves the crate and builds its library: 0 where all is well."""
+        if self.keeps:
+            return self.build_rlib(flags, anew=False)
+        folder, stamp = os.path.dirname(self.rlib), self.stamp()
+        shutil.rmtree(folder, ignore_errors=True)
+        os.makedirs(folder)
+        status = self.call(rtlib.RATTLE, "build", *self.words(flags, keeps=False), "--statements", "-o", self.rlib)
+        if not status and stamp == self.stamp():
+            with open(self.stamp_file(), "w", encoding="utf-8") as file:
+                file.write(stamp)
+        return status
+
     def step(self, jobs):
         """Proves the crate and builds its library, or the program, which has to write what the file stdout has: 0 where all is well."""
         os.makedirs(f"{self.folder}/out", exist_ok=True)
         flags = ["--jobs", str(jobs)]
         if not self.is_program:
-            return self.build_rlib(flags, anew=False)
+            return self.build_library(flags)
         how = {"input": self.stream("stdin") or b"", "stdout": subprocess.PIPE, "stderr": self.out, "timeout": rtlib.LIMIT}
         return self.run(flags, self.said.get("args", []), **how)
 
@@ -94,9 +123,10 @@ class Crate(rtlib.Crate):
 rtlib.Crate = Crate
 
 
-def unfinished(folders):
+def unfinished(folders, keeps):
     """The crates that are not proved as they stand, of some crates and those below them, the lowest first. Until this process ends no `rt`
     works in any of them, and when it ends, however it does, so do the commands that it has started."""
+    Crate.keeps = keeps
     rtlib.guarded()  # (the first call handles a signal, which only the first thread may)
     found = {}
     for it in (it for folder in folders for it in rtlib.crates_below(folder)):

@@ -3,6 +3,7 @@ whose steps write down when they begin and end (`shared/rtlib.py`).
 
 `scripts` runs these behind its own cases, in which `rt` is of another form.
 """
+import itertools
 import os
 import random
 import re
@@ -10,6 +11,7 @@ import shutil
 import signal
 import sys
 
+from shared import rtlib
 from shared.places import TOP
 from shared.running import PATIENCE
 from shared.waiting import wait_for, written_folder
@@ -36,6 +38,8 @@ class Kit:
     def __init__(self, copy):
         self.copy = copy
         shutil.copy(os.path.join(TOP, "tests", "shared", "rtlib.py"), os.path.join(copy.folder, "bin"))
+        copy.write(os.path.join("bin", "rattle"), rtlib.COMPILER)
+        os.chmod(os.path.join(copy.folder, "bin", "rattle"), 0o755)
         for name in BELOW:
             copy.write(os.path.join("crates", name, "src", "lib.rt"), "")
         copy.write("crates.txt", "".join(f"{name}: {below}\n" for name, below in BELOW.items()))
@@ -115,10 +119,11 @@ def a_crate_that_is_refused(kit):
 
 def the_rest_behind_a_refusal(kit):
     kit.build(refused="top")
-    ended = {name for what, name, *_ in kit.told() if what == "end"}
+    # (one that ends in the moment of the refusal has no stamp any more)
+    ended = {name for name in PROVED if os.path.exists(os.path.join(kit.copy.folder, "crates", name, "out", "statements", "stamp"))}
     before = len(kit.told())
     status, _ = kit.build()
-    return (status, ended.isdisjoint(name for _, name, *_ in kit.told()[before:])), (0, True)
+    return (status, "long" in ended, ended.isdisjoint(name for _, name, *_ in kit.told()[before:])), (0, True, True)
 
 
 def started_under(kit, number, handler, takes):
@@ -173,6 +178,25 @@ def nothing_to_prove(kit):
         status, _ = kit.build()
         found.append((status, len(kit.begun()), all(os.stat(it).st_mtime >= os.stat(source).st_mtime for it in programs)))
     return found, [(0, len(PROVED), True)] * len(PROGRAMS)
+
+
+def kept_work(kit):
+    """With --keep each library is that of `rt lib`, also where the programs stand; and then nothing is left to do."""
+    first, kept = kit.build(), kit.build("--keep")
+    begun = len(kit.begun())
+    again = kit.build("--keep")
+    libraries = [os.path.isdir(os.path.join(kit.copy.folder, "crates", it, "out", "rlib")) for it in PROVED if it not in PROGRAMS]
+    return (first[0], kept[0], all(libraries), again[0], len(kit.begun()) - begun), (0, 0, True, 0, 0)
+
+
+def one_library_is_missing(kit):
+    """A library that is built again has all above it built again, and nothing else."""
+    kit.build()
+    before = len(kit.begun())
+    shutil.rmtree(os.path.join(kit.copy.folder, "crates", "long", "out", "statements"))
+    for name, ending in itertools.product(PROGRAMS, ("", ".stamp")):
+        os.remove(os.path.join(kit.copy.folder, "crates", name, "out", name + ending))
+    return (kit.build()[0], sorted(kit.begun()[before:])), (0, sorted(["long", "top", *PROGRAMS]))
 
 
 def one_program_is_missing(kit):
@@ -281,6 +305,8 @@ TRIED = (
     two_at_once,
     nothing_to_do,
     nothing_to_prove,
+    kept_work,
+    one_library_is_missing,
     one_program_is_missing,
     one_program_alone,
     another_word,

@@ -5,14 +5,18 @@ It gives two processors, where the machine has two, and 8 GB of memory. The crat
 import os
 import subprocess
 
+RATTLE = os.path.join(os.path.dirname(os.path.abspath(__file__)), "rattle")
 GROUPS, QUOTAS, LIMIT = [], [("quota", ("period", ""))], 60
 NUMBERS = {"quota": 2, "period": 1, "/proc/meminfo": 8_000_000}
-STEP = """
-echo "begin $0 $1 $$" >>"$TOLD"
-[ "$0" != "$REFUSED" ] || { seq 100; exit 1; }
+# What stands in for `rattle build CRATE JOBS .. -o LIBRARY`.
+COMPILER = """\
+#!/bin/sh
+echo "begin $2 $3 $$" >>"$TOLD"
+[ "$2" != "$REFUSED" ] || { seq 100; exit 1; }
 sleep "$TAKES"
-mkdir -p out/rlib && printf '#!/bin/sh\\n' >"out/$0" && chmod +x "out/$0"
-echo "end $0 $1 $$" >>"$TOLD"
+for made; do :; done
+mkdir -p "$made"
+echo "end $2 $3 $$" >>"$TOLD"
 """
 
 
@@ -21,7 +25,10 @@ def number_in(file, pattern):
 
 
 def text_of(file):
-    return "stamp" if os.path.exists(file) else None
+    if not os.path.exists(file):
+        return None
+    with open(file, encoding="utf-8") as opened:
+        return opened.read()
 
 
 def sum_of(file):
@@ -62,26 +69,36 @@ def crates_below(folder):
 class Crate:
     def __init__(self, folder, deps):
         self.folder, self.name, self.deps, self.said = folder, os.path.basename(folder), deps, {}
+        self.rlib = f"{folder}/out/rlib/{self.name}.rlib"
         self.is_program = self.name in ("kh_main", "scan_main")
 
     def stream(self, name):
         return None
 
+    def below(self):
+        return [*{jt.name: jt for it in self.deps for jt in [it, *it.below()]}.values()]
+
     def stamp(self):
         return "stamp"
 
+    def words(self, flags, keeps=True):
+        return [self.name, flags[1]]
+
     def is_built(self):
-        return os.path.exists(f"{self.folder}/out/rlib")
+        return os.path.exists(self.rlib)
 
     def has_kept(self):
         return self.is_built()
 
     def build_rlib(self, flags, anew):
-        return self.call("sh", "-c", STEP, self.name, flags[1])
+        return self.call(RATTLE, "build", *self.words(flags), "-o", self.rlib)
 
     def run(self, flags, words, **how):
-        status = self.build_rlib(flags, False)
+        program = f"{self.folder}/out/{self.name}"
+        status = self.call(RATTLE, "build", *self.words(flags), "-o", f"{program}.o")
         if not status:
-            with open(f"{self.folder}/out/{self.name}.stamp", "w", encoding="utf-8"):
-                return 0
+            for file, text in ((program, "#!/bin/sh\n"), (f"{program}.stamp", "stamp")):
+                with open(file, "w", encoding="utf-8") as made:
+                    made.write(text)
+            os.chmod(program, 0o755)
         return status
