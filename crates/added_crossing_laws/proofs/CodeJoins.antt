@@ -4,7 +4,7 @@ use Rattle.std.specs.Prelude.{slice_index_or}
 use Rattle.kh_types.specs.Code.{Code, arc_in}
 use Rattle.kh_types.specs.Classes.{classes_of}
 use Rattle.surface_laws.specs.Points.{AreAmong}
-use Rattle.cut_surface_laws.specs.CutCodes.{outer_smoothings}
+use Rattle.genus_laws.specs.CutCodes.{outer_smoothings}
 use Rattle.added_crossing_laws.specs.Codes.{points_at, step_at, smoothing_at, pairing_behind}
 use Rattle.added_crossing_laws.specs.Saddles.{IsPairedAt}
 use Rattle.added_crossing_laws.proofs.CutJoins.{whole-among}

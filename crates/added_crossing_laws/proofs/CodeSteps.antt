@@ -22,7 +22,7 @@ use Rattle.kh_types.proofs.Lists.{AllByRecursion-append}
 use Rattle.kh_types.proofs.DartPairs.{IsDart-at}
 use Rattle.kh_types.proofs.JoinedSlots.{arc_at-slot}
 use Rattle.surface_laws.specs.Points.{AreAmong}
-use Rattle.cut_surface_laws.specs.CutCodes.{outer_smoothings}
+use Rattle.genus_laws.specs.CutCodes.{outer_smoothings}
 use Rattle.added_crossing_laws.specs.Steps.{is_near, near}
 use Rattle.added_crossing_laws.specs.Codes.{ends_among, ends_before, ends_at, is_open, is_alive, points_at, step_at, smoothing_at}
 use Rattle.added_crossing_laws.proofs.Members.{are-those, All-contained}
@@ -55,7 +55,7 @@ ends_before-arc : (crossings : List (List ℕ)) (x : ℕ) → ends_before crossi
 ends_before-arc crossings x =
     sym (sum_by-map (λ dart. cond (nat_eq (arc_of crossings dart) x) 1 0) dart_at (range_with_len 0 (dart_count crossings)))
 
-ends_before-loop : (crossings : List (List ℕ)) (x : ℕ) → HasArcsTwice crossings → arc_count crossings < x
+pub ends_before-loop : (crossings : List (List ℕ)) (x : ℕ) → HasArcsTwice crossings → arc_count crossings < x
     → ends_before crossings (length crossings) x ≡ 0
 ends_before-loop crossings x twice past =
     sum_by-none (λ place. cond (nat_eq (arc_at crossings place) x) 1 0) 0 (4 * length crossings)

@@ -15,7 +15,7 @@ use Rattle.kh_types.proofs.ClassLemmas.{Respects-append, Respects-first, Respect
 use Rattle.surface_laws.specs.Surfaces.{Surface, value}
 use Rattle.surface_laws.proofs.TwoSides.{AllByRecursion-map}
 use Rattle.surface_laws.specs.Points.{AreAmong, least_points, discs}
-use Rattle.cut_surface_laws.specs.CutCodes.{outer_smoothings}
+use Rattle.genus_laws.specs.CutCodes.{outer_smoothings}
 use Rattle.added_crossing_laws.specs.Pairings.{marked_by}
 use Rattle.added_crossing_laws.specs.Steps.{is_near, near}
 use Rattle.added_crossing_laws.specs.Codes.{is_open, points_at, step_at, smoothing_at, pairing_behind, sheet_at, outside_at, added_at, disc_of, saddle_strips, saddle_sheet, saddle_added, AreLabelled, IsLabelled, discs_behind, AreClosed, sum_over_dots}

@@ -12,7 +12,7 @@ use Rattle.kh_types.proofs.Sums.{sum_below-equal}
 use Rattle.surface_laws.specs.Surfaces.{Surface, IsClosed, value}
 use Rattle.surface_laws.specs.Cuts.{with_faces}
 use Rattle.surface_laws.specs.Points.{discs, circles}
-use Rattle.cut_surface_laws.specs.CutCodes.{outer_smoothings}
+use Rattle.genus_laws.specs.CutCodes.{outer_smoothings}
 use Rattle.added_crossing_laws.specs.Pairings.{marked_by}
 use Rattle.surface_laws.specs.Sheets.{sheet, marked, marked_else}
 use Rattle.added_crossing_laws.specs.Steps.{near}
@@ -23,9 +23,10 @@ use Rattle.added_crossing_laws.specs.Entries.{entry_sheet, entry_at, coefficient
 use Rattle.added_crossing_laws.proofs.CodeSteps.{outer-split, count_of}
 use Rattle.added_crossing_laws.proofs.CodeSums.{IsCut-at, sum-crossing, sum-saddle}
 use Rattle.added_crossing_laws.proofs.CutJoins.{whole-among}
-use Rattle.added_crossing_laws.proofs.Labels.{bit-below, marked-labels, marked_else-labels, Respects-label, marked-number_of}
+use Rattle.added_crossing_laws.proofs.Labels.{marked-labels, marked_else-labels, Respects-label, marked-number_of}
 use Rattle.added_crossing_laws.proofs.SaddleValues.{value-saddle}
 use Rattle.added_crossing_laws.proofs.NumberedLabels.{marked_else-number_of, sum-by_dots, caps-first, caps-second}
+use Rattle.kh_types.proofs.BitLemmas.{bit-below}
 
 -- a surface by its faces
 abbrev far_of : Code → ℕ → ℕ → List (ℕ × ℕ) → List (ℕ × ℕ) → List (ℕ × ℕ) → List (ℕ × ℕ) → List (ℕ × ℕ) → Surface

@@ -22,9 +22,6 @@ use Rattle.added_crossing_laws.specs.Labels.{label_at, number_of}
 use Rattle.added_crossing_laws.proofs.Members.{filter-kept, range-within}
 use Rattle.added_crossing_laws.proofs.Classes.{AreAmong-below}
 
-pub bit-below : (number place : ℕ) → bit number place < 2
-bit-below number place = omega arith
-
 -- no element comes twice
 AreApart : List ℕ → Type 0
 AreApart [] = Unit

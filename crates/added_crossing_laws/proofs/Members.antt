@@ -3,10 +3,8 @@ use Rattle.std.proofs.Common.{◌≡◌, ℕ, inl, inr, ◌+◌, ◌-◌, ◌<�
 use Rattle.std.specs.List.{filter, range_with_len, AllByRecursion, Contains}
 use Rattle.std.proofs.lemmas.Bool.{cases_Bool}
 use Rattle.std.proofs.lemmas.List.FromFn.{length-range_with_len, get_or-range_with_len}
-use Rattle.kh_types.proofs.Lists.{Contains-filter, Contains-later, Contains-cases}
+use Rattle.kh_types.proofs.Lists.{Contains-filter, Contains-later, Contains-cases, within-range}
 use Rattle.added_crossing_laws.specs.Steps.{those}
-pub use Rattle.kh_types.proofs.Lists.{Contains-cases as Contains-cons_cases}
-pub use Rattle.kh_types.proofs.Lists.{Contains-later as Contains-next}
 
 -- an element that a test keeps is one, and passes
 pub record IsKept {X : Type 0} (p : X → Bool) (xs : List X) (x : X) : Type 0 where
@@ -41,11 +39,6 @@ range-within a n x (k, below, is) =
     let within : k < n = omega (arith, below, size) in
     let at : a + k ≡ x = sym (get_or-range_with_len a n k x within) ∙ is in
     record { above = omega (arith, at); below = omega (arith, at, within) }
-
-within-range : (a n x : ℕ) → a ≤ x → x < a + n → Contains (range_with_len a n) x
-within-range a n x above below =
-    let size = length-range_with_len a n in
-    (x - a, omega (arith, above, below, size), get_or-range_with_len a n (x - a) x (omega (arith, above, below)) ∙ omega (arith, above))
 
 -- the arcs and loops that pass a test
 pub record IsOneOf (count : ℕ) (test : ℕ → Bool) (x : ℕ) : Type 0 where

@@ -176,7 +176,7 @@ end_count-new step joins x step_is among degrees has =
 
 -- the degrees at a crossing of a code
 
-end_count-none : (points : List ℕ) (pairs : List (ℕ × ℕ)) (x : ℕ) → AreAmong points pairs → (Contains points x → ⊥)
+pub end_count-none : (points : List ℕ) (pairs : List (ℕ × ℕ)) (x : ℕ) → AreAmong points pairs → (Contains points x → ⊥)
     → end_count pairs x ≡ 0
 end_count-none points [] x among not = refl
 end_count-none points (pair ∷ pairs) x among not =

@@ -6,7 +6,7 @@
 use Rattle.std.proofs.Common.{◌≡◌, ◌≢◌, ℕ, inl, inr, ◌⊎◌, ◌+◌, ◌*◌, ◌<◌, ◌∙◌, List, [], ◌∷◌, ◌++◌, map, refl, sym, ap, ap₂, subst, arith, Bool, true, false, not, cond, ◌&&◌}
 use Rattle.std.specs.Prelude.{nat_eq, slice_index}
 use Rattle.std.specs.List.{filter, sum_by, range_with_len, Contains}
-use Rattle.std.proofs.lemmas.Bool.{cases_Bool, cases_eq, eq-eqb, eqb-true, false_from_ne_true, both_ways, ne_eqb}
+use Rattle.std.proofs.lemmas.Bool.{cases_Bool, cases_eq, eq-eqb, eqb-true}
 use Rattle.std.proofs.lemmas.Bool.Decides.{nat_tests}
 use Rattle.std.proofs.lemmas.List.Sums.{sum_by-cons, sum_by-append}
 use Rattle.kh_types.specs.Classes.{classes_of, is_least, Respects}
@@ -25,13 +25,10 @@ use Rattle.added_crossing_laws.specs.Codes.{disc_of}
 use Rattle.added_crossing_laws.proofs.Members.{filter-kept, those-are, All-contained}
 use Rattle.added_crossing_laws.proofs.Classes.{class_in}
 use Rattle.added_crossing_laws.proofs.Pairs.{only-one}
+use Rattle.kh_types.proofs.Tests.{nat_eq-turned, other-differs, other-passes}
 
 -- a sum over paired points is one over pairs
 
-swapped : (x y : ℕ) → nat_eq x y ≡ nat_eq y x
-swapped x y = elim (cases_eq x y) [
-  | inl same ↦ eq-eqb x y same ∙ sym (eq-eqb y x (sym same))
-  | inr other ↦ ne_eqb x y other ∙ sym (ne_eqb y x (λ same. other (sym same)))
 ]
 
 one_and_one : (s : ℕ) (p q : Bool) → s * (cond p 1 0 + cond q 1 0) ≡ cond p s 0 + cond q s 0
@@ -44,7 +41,7 @@ ends-of : (f : ℕ → ℕ) (x : ℕ) (pair : ℕ × ℕ)
     → f x * ends_in x pair ≡ cond (nat_eq x pair.0) (f x) 0 + cond (nat_eq x pair.1) (f x) 0
 ends-of f x pair =
     one_and_one (f x) (nat_eq pair.0 x) (nat_eq pair.1 x)
-    ∙ ap₂ (λ b d. cond b (f x) 0 + cond d (f x) 0) (swapped pair.0 x) (swapped pair.1 x)
+    ∙ ap₂ (λ b d. cond b (f x) 0 + cond d (f x) 0) (nat_eq-turned pair.0 x) (nat_eq-turned pair.1 x)
 
 pub sum-paired : (count : ℕ) (test : ℕ → Bool) (f : ℕ → ℕ) (pairs : List (ℕ × ℕ)) → IsPairingOf (those count test) pairs
     → sum_by f (those count test) ≡ sum_by (λ pair. f pair.0 + f pair.1) pairs
@@ -112,9 +109,6 @@ pub record IsCoarse (count : ℕ) (alive : ℕ → Bool) (all : List (ℕ × ℕ
   pub place : Contains (those count alive) k
   pub own : class_in (count + 1) all k ≡ k
 
-pub other-not : (gone k : ℕ) → is_other gone k ≡ true → k ≢ gone
-other-not gone k is same = both_ways (is_other gone k) (ap (λ b. not b) (eq-eqb k gone same)) is
-
 pub coarse-is : (count : ℕ) (alive opened : ℕ → Bool) (m all : List (ℕ × ℕ)) (fine : List ℕ) (a kept gone k : ℕ)
     → ArePants count alive opened m all fine a kept gone → Contains (names count alive (classes_of (count + 1) all)) k
     → IsCoarse count alive all fine gone k
@@ -125,20 +119,17 @@ coarse-is count alive opened m all fine a kept gone k pants has =
     (subst (λ (xs : List ℕ). Contains xs k) pants.coarse has) in
     record {
       name = later.has;
-      stays = other-not gone k later.passes;
+      stays = other-differs gone k later.passes;
       place = here.has;
       own = eqb-true (class_in (count + 1) all k) k here.passes;
     }
-
-pub other-is : (gone k : ℕ) → k ≢ gone → is_other gone k ≡ true
-other-is gone k other = ap (λ b. not b) (false_from_ne_true (nat_eq k gone) (λ same. other (eqb-true k gone same)))
 
 pub is-coarse : (count : ℕ) (alive opened : ℕ → Bool) (m all : List (ℕ × ℕ)) (fine : List ℕ) (a kept gone k : ℕ)
     → ArePants count alive opened m all fine a kept gone → Contains (names count alive fine) k → k ≢ gone
     → Contains (names count alive (classes_of (count + 1) all)) k
 is-coarse count alive opened m all fine a kept gone k pants has other =
     subst (λ (xs : List ℕ). Contains xs k) (sym pants.coarse)
-    (Contains-filter (is_other gone) (names count alive fine) k (other-is gone k other) has)
+    (Contains-filter (is_other gone) (names count alive fine) k (other-passes gone k other) has)
 
 -- the sums over the faces
 

@@ -20,7 +20,7 @@ use Rattle.surface_laws.specs.Surfaces.{Surface, value, weight, factor}
 use Rattle.surface_laws.proofs.Components.{list_any-contained}
 use Rattle.surface_laws.proofs.Renamed.{value-reordered}
 use Rattle.surface_laws.specs.Points.{AreAmong}
-use Rattle.cut_surface_laws.specs.CutCodes.{outer_smoothings}
+use Rattle.genus_laws.specs.CutCodes.{outer_smoothings}
 use Rattle.added_crossing_laws.specs.Pairings.{marked_by}
 use Rattle.added_crossing_laws.specs.Steps.{those, near}
 use Rattle.added_crossing_laws.specs.Codes.{is_open, is_alive, points_at, step_at, smoothing_at, circles_before, circle_before, arc_there, disc_of, saddle_strips, saddle_sheet}

@@ -16,6 +16,7 @@ use Rattle.kh_types.proofs.JoinedClasses.{joined-together, slice_index-range}
 use Rattle.kh_types.proofs.ListSums.{sum_by-plus, sum_by-single, sum_by-range_alike}
 use Rattle.std.proofs.lemmas.List.FromFn.{length-range_with_len}
 use Rattle.added_crossing_laws.specs.Pairings.{ends_in, end_count}
+use Rattle.surface_laws.proofs.JoinedCounts.{test-others, term-lesser}
 
 -- what the points of a class have free
 abbrev pub free_in : ℕ → List ℕ → (ℕ → ℕ) → ℕ → ℕ
@@ -65,13 +66,6 @@ free-less n classes free pair k first_below second_below few =
 
 -- two classes become one
 
-test_others : (u v z k : ℕ) → k ≢ u → k ≢ v → nat_eq (merged u v z) k ≡ nat_eq z k
-test_others u v z k not_u not_v = grind (arith, nat_tests)
-
-term_lesser : (u v z w : ℕ) → u ≢ v
-    → cond (nat_eq (merged u v z) (min u v)) w 0 ≡ cond (nat_eq z u) w 0 + cond (nat_eq z v) w 0
-term_lesser u v z w apart = grind (arith, nat_tests)
-
 free-others : (n : ℕ) (classes : List ℕ) (free : ℕ → ℕ) (pair : ℕ × ℕ) (k : ℕ) → length classes ≡ n
     → k ≢ slice_index classes pair.0 → k ≢ slice_index classes pair.1
     → free_in n (joined classes pair) free k ≡ free_in n classes free k
@@ -82,7 +76,7 @@ free-others n classes free pair k size not_first not_second =
     (λ x. cond (nat_eq (slice_index classes x) k) (free x) 0) 0 n
     (λ x above below.
     ap (λ c. cond (nat_eq c k) (free x) 0) (slice_index-joined classes pair x (omega (arith, below, size)))
-    ∙ ap (λ b. cond b (free x) 0) (test_others u v (slice_index classes x) k not_first not_second))
+    ∙ ap (λ b. cond b (free x) 0) (test-others u v (slice_index classes x) k not_first not_second))
 
 free-lesser : (n : ℕ) (classes : List ℕ) (free : ℕ → ℕ) (pair : ℕ × ℕ) → length classes ≡ n
     → slice_index classes pair.0 ≢ slice_index classes pair.1
@@ -96,7 +90,7 @@ free-lesser n classes free pair size apart =
     sum_by-range_alike (λ x. cond (nat_eq (slice_index (joined classes pair) x) (min u v)) (free x) 0) (λ x. first x + second x) 0 n
     (λ x above below.
     ap (λ c. cond (nat_eq c (min u v)) (free x) 0) (slice_index-joined classes pair x (omega (arith, below, size)))
-    ∙ term_lesser u v (slice_index classes x) (free x) apart)
+    ∙ term-lesser u v (slice_index classes x) (free x) apart)
     ∙ sum_by-plus first second (range_with_len 0 n)
 
 -- each class has two ends free or none

@@ -17,7 +17,7 @@ use Rattle.kh_types.specs.Darts.{HasArcsTwice}
 use Rattle.kh_types.specs.Permutations.{AreJoined}
 use Rattle.kh_types.proofs.ClassLemmas.{classes-together, slice_index-joined, merged-both, Respects-first, Respects-second}
 use Rattle.kh_types.proofs.JoinedClasses.{IsNamed-classes_of}
-use Rattle.cut_surface_laws.specs.CutCodes.{outer_smoothings}
+use Rattle.genus_laws.specs.CutCodes.{outer_smoothings}
 use Rattle.added_crossing_laws.specs.Pairings.{IsPairingOf}
 use Rattle.added_crossing_laws.specs.Codes.{is_open, is_alive, points_at, step_at, smoothing_at, pairing_behind, circle_before}
 use Rattle.added_crossing_laws.specs.Saddles.{TwoBecomeOneAt, IsPairedAt, pairing_of, circle_with}

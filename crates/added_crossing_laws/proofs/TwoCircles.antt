@@ -17,7 +17,8 @@ use Rattle.kh_types.proofs.Lists.{filter-range_agree}
 use Rattle.kh_types.proofs.RangeCounts.{list_any-at, list_any-one}
 use Rattle.kh_types.proofs.JoinedClasses.{min-cases}
 use Rattle.added_crossing_laws.proofs.Members.{IsOneOf}
-use Rattle.added_crossing_laws.proofs.Pants.{names, other-not, other-is}
+use Rattle.added_crossing_laws.proofs.Pants.{names}
+use Rattle.kh_types.proofs.Tests.{other-differs, other-passes}
 
 -- classes of points, each named by its least point
 pub record AreNamed (count : ℕ) (alive : ℕ → Bool) (classes : List ℕ) : Type 0 where
@@ -182,13 +183,13 @@ same-name count alive fine coarse a b x merged is =
           ))
       | inr other ↦
           let fine_own : slice_index fine x ≡ x = sym (others-merged count alive fine coarse a b x merged is other) ∙ own in
-          ap₂ (λ s t. s && t) (eq-eqb (slice_index fine x) x fine_own) (other-is gone x (λ same. other (fine_own ∙ same)))
+          ap₂ (λ s t. s && t) (eq-eqb (slice_index fine x) x fine_own) (other-passes gone x (λ same. other (fine_own ∙ same)))
     ])
     (λ both.
     let parts = and_parts (is_least fine x) (is_other gone x) both in
     let own : slice_index fine x ≡ x = eqb-true (slice_index fine x) x parts.0 in
     eq-eqb (slice_index coarse x) x
-    (others-merged count alive fine coarse a b x merged is (λ same. other-not gone x parts.1 (sym own ∙ same)) ∙ own))
+    (others-merged count alive fine coarse a b x merged is (λ same. other-differs gone x parts.1 (sym own ∙ same)) ∙ own))
 
 pub names-merged : (count : ℕ) (alive : ℕ → Bool) (fine coarse : List ℕ) (a b : ℕ) → AreMerged count alive fine coarse a b
     → names count alive coarse ≡ filter (is_other (gone_of fine a b)) (names count alive fine)

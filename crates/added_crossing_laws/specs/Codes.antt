@@ -11,7 +11,7 @@ use Rattle.surface_laws.specs.Surfaces.{Surface, IsClosed}
 use Rattle.surface_laws.specs.Cuts.{with_faces, first_caps, second_caps, sum_of_products}
 use Rattle.surface_laws.specs.Overlays.{at_places}
 use Rattle.surface_laws.specs.Points.{Points, AreAmong, discs, circles}
-use Rattle.cut_surface_laws.specs.CutCodes.{outer_smoothings}
+use Rattle.genus_laws.specs.CutCodes.{outer_smoothings}
 use Rattle.added_crossing_laws.specs.Pairings.{marked_by, circle_faces}
 use Rattle.surface_laws.specs.Sheets.{sheet}
 use Rattle.added_crossing_laws.specs.Steps.{Step, new_pairing, closed_circles, added, outside}

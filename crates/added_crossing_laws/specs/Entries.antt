@@ -5,7 +5,7 @@ use Rattle.kh_types.specs.Darts.{HasArcsTwice}
 use Rattle.surface_laws.specs.Surfaces.{Surface, IsClosed, value}
 use Rattle.surface_laws.specs.Points.{AreAmong, discs, circles}
 use Rattle.surface_laws.specs.Sheets.{sheet, marked, marked_else}
-use Rattle.cut_surface_laws.specs.CutCodes.{outer_smoothings}
+use Rattle.genus_laws.specs.CutCodes.{outer_smoothings}
 use Rattle.added_crossing_laws.specs.Steps.{near}
 use Rattle.added_crossing_laws.specs.Codes.{points_at, step_at, smoothing_at, circles_behind, closed_at, discs_behind, disc_of, saddle_strips}
 use Rattle.added_crossing_laws.specs.Labels.{label_at, number_of}

@@ -7,7 +7,7 @@ use Rattle.kh_types.specs.Code.{Code, arc_in}
 use Rattle.kh_types.specs.Differential.{is_merge, is_split}
 use Rattle.kh_types.specs.Edges.{is_other}
 use Rattle.kh_types.specs.Darts.{HasArcsTwice}
-use Rattle.cut_surface_laws.specs.CutCodes.{outer_smoothings}
+use Rattle.genus_laws.specs.CutCodes.{outer_smoothings}
 use Rattle.added_crossing_laws.specs.Pairings.{IsPairingOf}
 use Rattle.added_crossing_laws.specs.Codes.{points_at, pairing_behind, circles_before, circle_before}
 

@@ -11,7 +11,7 @@ ghost use Rattle.kh_types.specs.Code.{Code};
 ghost use Rattle.kh_types.specs.Darts.{HasArcsTwice};
 ghost use Rattle.surface_laws.specs.Surfaces.{IsClosed, value};
 ghost use Rattle.surface_laws.specs.Points.{AreAmong, least_points};
-ghost use Rattle.cut_surface_laws.specs.CutCodes.{outer_smoothings};
+ghost use Rattle.genus_laws.specs.CutCodes.{outer_smoothings};
 ghost use Rattle.added_crossing_laws.specs.Pairings.{IsPairingOf, marked_by};
 ghost use Rattle.added_crossing_laws.specs.Steps.{those, IsNewPairing};
 ghost use Rattle.added_crossing_laws.specs.Codes.{points_at, step_at, smoothing_at, pairing_behind, circles_behind, circle_behind, closed_at, circles_before, circle_before, sheet_at, outside_at, added_at, saddle_sheet, saddle_added, AreLabelled, IsLabelled, discs_behind, AreClosed, sum_over_dots};

@@ -1,8 +1,8 @@
 -- Where the cube is small enough the answer of a scan is that of `kh homology`.
-use Rattle.std.proofs.Common.{◌≡◌, ℕ, ◌≤◌, inl, inr, List, length, refl, sym, ap, subst, ◌∙◌, Result, Ok, Err, None, Some, arith}
+use Rattle.std.proofs.Common.{◌≡◌, ℕ, ◌≤◌, inl, inr, List, length, refl, sym, subst, ◌∙◌, Result, Ok, Err, Some, arith}
 use Rattle.std.specs.Prelude.{Option, false, is_none, nat_lt, IsTrue}
 use Rattle.std.proofs.lemmas.Grind.{common_steps}
-use Rattle.kh_types.specs.Acceptance.{accepted, first_fault}
+use Rattle.kh_types.specs.Acceptance.{accepted}
 use Rattle.kh_types.specs.declared.fault.CodeFault.{CodeFault}
 use Rattle.kh_types.specs.Code.{Code}
 use Rattle.kh_types.specs.declared.limits.TheConstants.{INPUT_BYTES}
@@ -26,8 +26,8 @@ use Rattle.kh_work.specs.Answer.{IsAnswer, IsCodeReply, IsInputReply}
 use Rattle.kh_work.specs.Homology.{homology_reply}
 use Rattle.kh_work.specs.Orders.{order_for}
 use Rattle.kh_work.specs.declared.order.CodeOrder.TheVariants.{Homology}
+use Rattle.kh_work.proofs.CertifyReplies.{accepted-faultless}
 
-accepted-faultless : (code : Code) → first_fault code ≡ None → IsTrue (accepted code)
 unfolding accepted
 accepted-faultless code none = subst (λ (fault : Option CodeFault). IsTrue (is_none fault)) (sym none) refl
 

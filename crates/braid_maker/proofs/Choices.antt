@@ -14,9 +14,7 @@ use Rattle.braid_maker.specs.Words.{closed_crossings}
 use Rattle.braid_maker.proofs.ChoiceBits.{number_with, bit_of, choice_of}
 use Rattle.braid_maker.proofs.Corners.{corner_place, corner_place-crossing}
 use Rattle.braid_maker.proofs.Partners.{at_lower, at_upper, IsEnd-dart, partner-lower, partner-upper}
-
-half : (a m : ℕ) → (a % 2 + 2 * m) / 2 ≡ m
-half a m = omega arith
+use Rattle.kh_types.proofs.BitLemmas.{half-of}
 
 number-below : (bits : ℕ → ℕ) (n : ℕ) → number_with bits n < 2 ^ n
 number-below bits zero = omega arith
@@ -34,7 +32,7 @@ bit-number bits (suc n) (suc i) below =
     let e : i + 1 ≡ suc i = omega arith in
     ap (λ d. whole / d % 2) (pow-succ' 2 i)
     ∙ ap (λ k. k % 2) (sym (div-div-eq-div-mul whole 2 (2 ^ i)))
-    ∙ ap (λ k. k / 2 ^ i % 2) (half (bits 0) rest)
+    ∙ ap (λ k. k / 2 ^ i % 2) (half-of (bits 0) rest)
     ∙ bit-number (λ j. bits (j + 1)) n i (omega (arith, below))
     ∙ ap (λ k. bits k % 2) e
 

@@ -28,8 +28,9 @@ use Rattle.cancel_log.proofs.HistorySizes.{pivot_count, pivots-generators}
 use Rattle.cancel_log.proofs.PrintedDiagrams.{short-diagram}
 use Rattle.cancel_log.proofs.ShortBlocks.{filter-le}
 use Rattle.cancel_log.proofs.StartLines.{small-prime}
-use Rattle.cancel_log.proofs.TableSizes.{append-le, degree-le, length-from_minus, place-le, table_text-le}
+use Rattle.cancel_log.proofs.TableSizes.{append-le, degree-le, place-le, table_text-le}
 use Rattle.cancel_log.proofs.WrittenLogs.{IsWritten, short-blocks}
+use Rattle.square_laws.proofs.BlockDegrees.{length-from_minus}
 
 -- lines
 

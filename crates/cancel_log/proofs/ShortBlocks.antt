@@ -9,7 +9,7 @@ use Rattle.std.proofs.lemmas.List.Folds.{Any-from_list_any}
 use Rattle.kh_types.specs.Acceptance.{accepted}
 use Rattle.kh_types.specs.Code.{Code}
 use Rattle.kh_types.specs.Complex.{Complex, IsComplex, Pivot, cancel, degree_of}
-use Rattle.kh_types.specs.Generators.{generators, generators_at, has_degrees, quantum_degree}
+use Rattle.kh_types.specs.Generators.{generators, generators_at, quantum_degree}
 use Rattle.kh_types.specs.History.{IsLegal, block}
 use Rattle.kh_types.specs.Table.{IsWithin, from_minus}
 use Rattle.kh_types.specs.declared.limits.TheConstants.{CROSSINGS, EXPONENT}
@@ -18,7 +18,6 @@ use Rattle.kh_types.proofs.QuantumDegrees.{generators_at-within, quantum_degree-
 use Rattle.prime_field.specs.Residues.{IsField}
 use Rattle.circle_smoothing.specs.GeneratorCounts.{generator_count}
 use Rattle.circle_smoothing.specs.declared.limits.TheConstants.{GENERATORS}
-use Rattle.circle_smoothing.proofs.GeneratorLemmas.{length-generators}
 use Rattle.sparse_block.proofs.ComplexMatrices.{entry-stands}
 use Rattle.sparse_block.proofs.HistoryLemmas.{complex-replay, places-replay}
 use Rattle.square_laws.proofs.BlockComplexes.{IsComplex-block, places-block}
@@ -27,6 +26,7 @@ use Rattle.shared_block.specs.BlockHistories.{BlockHistory, HasLegalHistory}
 use Rattle.table_text.proofs.LineTexts.{IsWithin-bounds}
 use Rattle.cancel_log.specs.LogBlocks.{IsShortBlock}
 use Rattle.cancel_log.specs.LogLines.{IsShortDegree, IsShortPivot}
+use Rattle.cube_signs.proofs.GeneratorPlaces.{length-generators_at}
 
 -- degrees
 
@@ -55,9 +55,6 @@ pub filter-le : {X : Type 0} (p : X → Bool) (xs : List X) → length (filter p
 filter-le p [] = omega arith
 filter-le p (x ∷ xs) = filter_step (p x) x (filter p xs) (length xs) (filter-le p xs)
 
-pub few-places : (code : Code) (i j : ℤ) → generator_count code ≤ GENERATORS → length (generators_at code i j) ≤ GENERATORS
-few-places code i j size = omega (arith, size, length-generators code, filter-le (has_degrees code i j) (generators code))
-
 -- the pivots of a legal history from a complex with the places of a block
 short-pivots : (p : ℕ) (code : Code) (j : ℤ) (complex : Complex) (history : List Pivot) → IsField p → IsTrue (accepted code)
     → length code.crossings ≤ CROSSINGS → generator_count code ≤ GENERATORS → IsComplex p complex
@@ -72,8 +69,8 @@ short-pivots p code j complex (pivot ∷ later) field is few size whole places l
     let next = cancel p complex pivot in (
       record {
         degree = short-within (length code.crossings) pivot.degree within.0 (omega (arith, few));
-        column = omega (arith, column, stands.column_place, few-places code pivot.degree j size);
-        row = omega (arith, row, stands.row_place, few-places code (pivot.degree +ℤ pos 1) j size);
+        column = omega (arith, column, stands.column_place, length-generators_at code pivot.degree j size);
+        row = omega (arith, row, stands.row_place, length-generators_at code (pivot.degree +ℤ pos 1) j size);
       },
       short-pivots p code j next later field is few size (complex-replay p complex (pivot ∷ []) field whole (legal.0, tt))
           (λ i. places-replay p complex (pivot ∷ []) i ∙ places i) legal.1,

@@ -1,5 +1,5 @@
 -- The text of a homology table is short.
-use Rattle.std.proofs.Common.{◌≡◌, ℕ, ◌+◌, ◌*◌, ◌^◌, ◌<◌, ◌≤◌, List, [], ◌∷◌, ◌++◌, length, map, get_or, ap, arith, ℤ, pos, ◌-ℤ◌, IsTrue, codes}
+use Rattle.std.proofs.Common.{◌≡◌, ℕ, ◌+◌, ◌*◌, ◌^◌, ◌<◌, ◌≤◌, List, [], ◌∷◌, ◌++◌, length, map, get_or, ap, arith, ℤ, IsTrue, codes}
 use Rattle.std.specs.Prelude.{All}
 use Rattle.std.specs.Fmt.{decimal, signed_decimal}
 use Rattle.std.specs.List.{AllByRecursion, flat_map}
@@ -7,7 +7,6 @@ use Rattle.std.proofs.lemmas.Fmt.{length-decimal-le}
 use Rattle.std.proofs.lemmas.List.{length-append, length-map}
 use Rattle.std.proofs.lemmas.List.Concat.{length-flat_map}
 use Rattle.std.proofs.lemmas.List.Elements.{recursion_from_All}
-use Rattle.std.proofs.lemmas.List.FromFn.{length-map-range_with_len}
 use Rattle.std.proofs.lemmas.List.Sums.{sum_by-le}
 use Rattle.kh_types.specs.Acceptance.{accepted}
 use Rattle.kh_types.specs.Code.{Code}
@@ -21,7 +20,9 @@ use Rattle.circle_smoothing.specs.declared.limits.TheConstants.{GENERATORS}
 use Rattle.cancel_log.specs.LogLines.{IsShortDegree}
 use Rattle.cancel_log.specs.declared.limits.TheConstants.{PLACE_DIGITS}
 use Rattle.cancel_log.proofs.PrintedDiagrams.{length-signed}
-use Rattle.cancel_log.proofs.ShortBlocks.{few-places, filter-le, short-within}
+use Rattle.cancel_log.proofs.ShortBlocks.{filter-le, short-within}
+use Rattle.square_laws.proofs.BlockDegrees.{length-from_minus}
+use Rattle.cube_signs.proofs.GeneratorPlaces.{length-generators_at}
 
 -- the lengths of texts
 
@@ -74,14 +75,10 @@ short-row p code row is few size above same =
     record {
       j = short-within EXPONENT row.j within.1 (omega arith);
       i = short-within (length code.crossings) row.i within.0 (omega (arith, few));
-      dim = omega (arith, dim, few-places code row.i row.j size);
+      dim = omega (arith, dim, length-generators_at code row.i row.j size);
     }
 
 -- how many rows there are
-
--- the integers from -n to n
-pub length-from_minus : (n : ℕ) → length (from_minus n) ≡ 2 * n + 1
-length-from_minus n = length-map-range_with_len (λ k. pos k -ℤ pos n) 0 (2 * n + 1)
 
 -- the rows of a quantum degree: one for each homological degree at most
 rows_at-le : (p : ℕ) (code : Code) (j : ℤ) → length code.crossings ≤ CROSSINGS → length (rows_at p code j) ≤ 41

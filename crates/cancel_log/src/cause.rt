@@ -1,7 +1,7 @@
 //! What can be wrong with a line.
 
 /// What is wrong with the first line of a log that fails. Where a line has two of them, Text goes
-/// before Open, and Open before Block and Entry, whatever their order here. This project's rule.
+/// before Open, and Open before Block and Entry, whatever their order here.
 #[derive(Clone, Copy, Debug, PartialEq, Eq)]
 pub enum LogCause {
     /// It is no line that can stand there, or the text ends before it.

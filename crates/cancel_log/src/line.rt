@@ -2,7 +2,7 @@
 
 use sparse_block::Pivot;
 
-/// What a line behind the third says. This project's rule.
+/// What a line behind the third says.
 #[derive(Clone, Copy, Debug, PartialEq, Eq)]
 pub enum LogLine {
     /// `cancel I A B`.

@@ -21,7 +21,7 @@ use std::alloc::Global;
 use table_text::print_table;
 
 /// The table that a log proves, or the first line that fails and why. Whoever wrote the log is not
-/// trusted: each pivot is tested in the block that those before it leave. This project's rule.
+/// trusted: each pivot is tested in the block that those before it leave.
 #[tactic(auto, using(crate::proofs::WholeLogs::verdicts))]
 pub fn verify_log(alloc: Global, text: &[u8]) -> Result<Table, LogStop>
     requires { length text.now ≤ LOG_BYTES }

@@ -8,7 +8,7 @@ use cube_signs::SizeLimit as TooLarge;
 use kh_types as types;
 use std::alloc::AllocFailed;
 
-/// Why a log was not verified. This project's rule.
+/// Why a log was not verified.
 #[derive(Clone, Copy, Debug, PartialEq, Eq)]
 pub enum LogStop {
     /// The first line that fails, counted from 1, and why.

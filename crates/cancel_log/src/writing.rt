@@ -32,7 +32,7 @@ use std::alloc::Global;
 use table_text::print_table;
 
 /// A log of a diagram over a field, short enough to be verified. Which pivots it lists no clause
-/// says. This project's rule.
+/// says.
 #[tactic(auto, using(crate::proofs::WrittenLogs::writes))]
 pub fn write_log<F: PrimeField>(alloc: Global, diagram: &Diagram) -> Result<Vec<u8>, NoMemory>
     requires size { generator_count diagram.now ≤ GENERATORS }
@@ -57,7 +57,7 @@ pub fn write_log<F: PrimeField>(alloc: Global, diagram: &Diagram) -> Result<Vec<
 }
 
 /// The log of a diagram whose blocks are cancelled to zero, by their histories, given its homology
-/// table. It is short enough to be verified. This project's rule.
+/// table. It is short enough to be verified.
 #[tactic(auto, using(crate::proofs::WrittenLogs::writes))]
 pub fn log_of_blocks<F: PrimeField>(
     alloc: Global,

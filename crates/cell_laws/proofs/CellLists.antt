@@ -1,15 +1,11 @@
 -- The cells of layers: which they are, and that none stands twice.
-use Rattle.std.proofs.Common.{◌≡◌, ℕ, ◌<◌, ◌∙◌, List, map, sym, subst, ap, arith}
+use Rattle.std.proofs.Common.{◌≡◌, ℕ, ◌<◌, ◌∙◌, List, map, sym, subst, ap}
 use Rattle.std.specs.List.{Contains, range_with_len}
-use Rattle.std.proofs.lemmas.List.FromFn.{get_or-range_with_len, length-range_with_len}
-use Rattle.kh_types.proofs.Lists.{Contains-flat_map, Contains-map, range-contains}
+use Rattle.kh_types.proofs.Lists.{Contains-flat_map, Contains-map, range-contains, Contains-range}
 use Rattle.cell_laws.specs.Alike.{HasNoDoubles}
 use Rattle.cell_laws.specs.Layers.{Layer, Layers, cells_of, layer_of, object_cells}
 use Rattle.cell_laws.proofs.Members.{Contains-flattened, Contains-made}
 use Rattle.cell_laws.proofs.NoDoubles.{once-flat, once-map, once-range}
-
-pub contains-range : (n k : ℕ) → k < n → Contains (range_with_len 0 n) k
-contains-range n k below = (k, omega (arith, below, length-range_with_len 0 n), get_or-range_with_len 0 n k k below ∙ omega arith)
 
 -- a cell is of an object, at a state, with a label
 pub record IsCell (layers : Layers) (x : Layer) : Type 0 where
@@ -36,9 +32,9 @@ pub cell-of : (layers : Layers) (x : Layer) → IsCell layers x → Contains (ce
 cell-of layers x is =
     Contains-flat_map (object_cells layers) layers.objects x.object x is.object
     (Contains-flat_map (at_state layers x.object) (range_with_len 0 layers.states) x.state x
-    (contains-range layers.states x.state is.state)
+    (Contains-range layers.states x.state is.state)
     (Contains-map (layer_of x.object x.state) (range_with_len 0 (layers.labels x.object x.state)) x.label
-    (contains-range (layers.labels x.object x.state) x.label is.label)))
+    (Contains-range (layers.labels x.object x.state) x.label is.label)))
 
 state-of : (layers : Layers) (object state : ℕ) (x : Layer) → Contains (at_state layers object state) x → x.state ≡ state
 state-of layers object state x has =

@@ -1,10 +1,9 @@
 -- Labels as numbers, whose bits stand at the places of names in their list; and the label that a label is for the same names in another
 -- list.
-use Rattle.std.proofs.Common.{◌≡◌, ℕ, suc, ◌+◌, ◌*◌, ◌/◌, ◌^◌, ◌<◌, ◌≤◌, ◌∙◌, List, [], ◌∷◌, ◌++◌, length, get_or, map, sym, subst, ap, arith, refl, ◌&&◌}
+use Rattle.std.proofs.Common.{◌≡◌, ℕ, suc, ◌+◌, ◌*◌, ◌^◌, ◌<◌, ◌≤◌, ◌∙◌, List, [], ◌∷◌, ◌++◌, length, get_or, map, sym, subst, ap, arith, refl, ◌&&◌}
 use Rattle.std.specs.Prelude.{nat_eq}
 use Rattle.std.specs.List.{position_or_len, sum_by, list_all}
 use Rattle.std.proofs.lemmas.List.{get_or_default, get_or-map, length-map}
-use Rattle.std.proofs.lemmas.Nat.{mod_below}
 use Rattle.std.proofs.lemmas.Nat.Bits.{same_from_bits_below}
 use Rattle.kh_types.specs.Bits.{bit, ones}
 use Rattle.kh_types.proofs.ListSums.{sum_by-places, sum_by-range_alike}
@@ -13,12 +12,10 @@ use Rattle.cell_laws.specs.Alike.{HasNoDoubles}
 use Rattle.cell_laws.proofs.Places.{numbers-test, place-at, place-found}
 use Rattle.cell_laws.proofs.SameElements.{AreSame}
 use Rattle.std.proofs.lemmas.Bool.Decides.{nat_tests}
+use Rattle.kh_types.proofs.QuantumDegrees.{bit-le}
 
 abbrev pub place : ℕ → List ℕ → ℕ
 place z xs = position_or_len (nat_eq z) xs
-
-pub bit-small : (n k : ℕ) → bit n k ≤ 1
-bit-small n k = omega (arith, mod_below (n / 2 ^ k) 2 (omega arith))
 
 -- the bit of a name, and a label of some names as one of others
 abbrev pub mark : List ℕ → ℕ → ℕ → ℕ
@@ -47,12 +44,12 @@ pub relabelled-back : (xs ys : List ℕ) (label : ℕ) → AreSame xs ys → lab
 relabelled-back xs ys label same below =
     let there = relabelled xs ys label in
     same_from_bits_below (length xs) (relabelled ys xs there) label
-    (number-below (mark ys there) xs (λ z. bit-small there (place z ys))) below
+    (number-below (mark ys there) xs (λ z. bit-le there (place z ys))) below
     (λ i within.
     let z = get_or xs i 0 in
     let found = place-found nat_eq 0 z ys numbers-test (same.there z (i, within, get_or_default xs i z 0 within)) in
-    bit-number (mark ys there) xs i (λ y. bit-small there (place y ys)) within
-    ∙ bit-number (mark xs label) ys (place z ys) (λ y. bit-small label (place y xs)) found.within
+    bit-number (mark ys there) xs i (λ y. bit-le there (place y ys)) within
+    ∙ bit-number (mark xs label) ys (place z ys) (λ y. bit-le label (place y xs)) found.within
     ∙ ap (mark xs label) found.there
     ∙ ap (bit label) (place-at nat_eq 0 xs i numbers-test same.first_once within))
 

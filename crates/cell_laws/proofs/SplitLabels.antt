@@ -10,8 +10,9 @@ use Rattle.kh_types.proofs.ListSums.{sum_by-map}
 use Rattle.square_laws.proofs.LabelNumbers.{number_from}
 use Rattle.cell_laws.specs.Alike.{HasNoDoubles}
 use Rattle.cell_laws.proofs.NoDoubles.{map-map}
-use Rattle.cell_laws.proofs.Labels.{bit-small, mark, number-append, number-below, ones-map, ones-marks, place, relabelled, relabelled-back}
+use Rattle.cell_laws.proofs.Labels.{mark, number-append, number-below, ones-map, ones-marks, place, relabelled, relabelled-back}
 use Rattle.cell_laws.proofs.SameElements.{AreSame, same-sums, same-turned}
+use Rattle.kh_types.proofs.QuantumDegrees.{bit-le}
 
 -- a number by its remainder and its quotient
 parts-same : (q a b c d : ℕ) → a < q → c < q → a + q * b ≡ c + q * d → (a ≡ c) × (b ≡ d)
@@ -45,7 +46,7 @@ pub record AreParts (names : List ℕ) (class : ℕ → ℕ) (first second : Lis
   pub sums : (h : ℕ → ℕ) → sum_by (λ x. h (class x)) second + sum_by (λ x. h (class x)) first ≡ sum_by h names
 
 pub part-below : (names : List ℕ) (class : ℕ → ℕ) (xs : List ℕ) (label : ℕ) → part names class xs label < 2 ^ length xs
-part-below names class xs label = number-below (λ x. mark names label (class x)) xs (λ x. bit-small label (place (class x) names))
+part-below names class xs label = number-below (λ x. mark names label (class x)) xs (λ x. bit-le label (place (class x) names))
 
 module _ {names : List ℕ} {class : ℕ → ℕ} {first second : List ℕ} (parts : AreParts names class first second) where
   abbrev both : List ℕ
@@ -72,7 +73,7 @@ module _ {names : List ℕ} {class : ℕ → ℕ} {first second : List ℕ} (par
 
   pub whole-below : (closed rest : ℕ) → whole names class first second closed rest < 2 ^ length names
   whole-below closed rest =
-      let label = closed + 2 ^ length first * rest in number-below (mark both label) names (λ z. bit-small label (place z both))
+      let label = closed + 2 ^ length first * rest in number-below (mark both label) names (λ z. bit-le label (place z both))
 
   -- both parts are the label of all
   parts-relabelled : (label : ℕ)
@@ -115,7 +116,7 @@ module _ {names : List ℕ} {class : ℕ → ℕ} {first second : List ℕ} (par
       ≡ ones (length names) label
   ones-parts label =
       let f = λ (x : ℕ). mark names label (class x) in
-      let small : (x : ℕ) → f x ≤ 1 = λ x. bit-small label (place (class x) names) in
+      let small : (x : ℕ) → f x ≤ 1 = λ x. bit-le label (place (class x) names) in
       ap₂ (λ m n. m + n) (ones-map f first small) (ones-map f second small)
       ∙ turned (sum_by f first) (sum_by f second)
       ∙ parts.sums (mark names label)

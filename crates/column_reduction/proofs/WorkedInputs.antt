@@ -1,18 +1,14 @@
 -- What tests reduce are complexes.
-use Rattle.std.proofs.Common.{ℕ, zero, suc, ◌+◌, ◌<◌, ◌^◌, List, [], ◌∷◌, pos, length, refl, arith}
-use Rattle.std.specs.Prelude.{All, slice_index_or}
-use Rattle.std.specs.List.{AllByRecursion}
+use Rattle.std.proofs.Common.{ℕ, zero, suc, ◌+◌, ◌<◌, List, [], ◌∷◌, pos, length, refl, arith}
+use Rattle.std.specs.Prelude.{slice_index_or}
 use Rattle.std.proofs.lemmas.Int.{ints}
-use Rattle.std.proofs.lemmas.List.Elements.{All-cons, All-from_recursion, All-nil}
-use Rattle.kh_types.specs.Generators.{Generator}
+use Rattle.std.proofs.lemmas.List.Elements.{All-cons, All-nil}
 use Rattle.kh_types.proofs.ComplexLemmas.{complex-from_test}
 use Rattle.sparse_block.specs.Complexes.{MakeComplex, HaveEntries, sparse_complex}
 use Rattle.sparse_block.specs.Entries.{Entry, AreEntries, entry_at}
 use Rattle.sparse_block.proofs.AscendingLemmas.{entries-from_ascend}
 use Rattle.column_reduction.specs.WorkedColumns.{four_names, square_lines, three_lines, void_lines}
-
-few : (names : List (List Generator)) → AllByRecursion (λ degree. length degree < 2 ^ 29) names → All (λ degree. length degree < 2 ^ 29) names
-few names small = All-from_recursion (λ (degree : List Generator). length degree < 2 ^ 29) names small
+use Rattle.sparse_block.proofs.WorkedLemmas.{few-names}
 
 none : (p size : ℕ) → AreEntries p size []
 none p size = entries-from_ascend p 0 size [] tt
@@ -44,7 +40,7 @@ square-two =
     record {
       some = omega arith;
       end = omega (arith, ints);
-      counts = few (four_names 1 2 1 0) (omega arith, (omega arith, (omega arith, (omega arith, tt))));
+      counts = few-names (four_names 1 2 1 0) (omega arith, (omega arith, (omega arith, (omega arith, tt))));
       sizes = refl;
       entries = square-entries 2 1 (omega arith) (omega arith) (omega arith);
       squares = (complex-from_test 2 (sparse_complex (pos 0) (four_names 1 2 1 0) (square_lines 1)).complex (omega arith) refl).product;
@@ -55,7 +51,7 @@ square-three =
     record {
       some = omega arith;
       end = omega (arith, ints);
-      counts = few (four_names 1 2 1 0) (omega arith, (omega arith, (omega arith, (omega arith, tt))));
+      counts = few-names (four_names 1 2 1 0) (omega arith, (omega arith, (omega arith, (omega arith, tt))));
       sizes = refl;
       entries = square-entries 3 2 (omega arith) (omega arith) (omega arith);
       squares = (complex-from_test 3 (sparse_complex (pos 0) (four_names 1 2 1 0) (square_lines 2)).complex (omega arith) refl).product;
@@ -86,7 +82,7 @@ three-can =
     record {
       some = omega arith;
       end = omega (arith, ints);
-      counts = few (four_names 4 3 0 0) (omega arith, (omega arith, (omega arith, (omega arith, tt))));
+      counts = few-names (four_names 4 3 0 0) (omega arith, (omega arith, (omega arith, (omega arith, tt))));
       sizes = refl;
       entries = three-entries;
       squares = (complex-from_test 3 (sparse_complex (pos 0) (four_names 4 3 0 0) three_lines).complex (omega arith) refl).product;
@@ -105,7 +101,7 @@ void-can =
     record {
       some = omega arith;
       end = omega (arith, ints);
-      counts = few (four_names 0 0 0 0) (omega arith, (omega arith, (omega arith, (omega arith, tt))));
+      counts = few-names (four_names 0 0 0 0) (omega arith, (omega arith, (omega arith, (omega arith, tt))));
       sizes = refl;
       entries = void-entries;
       squares = (complex-from_test 2 (sparse_complex (pos 0) (four_names 0 0 0 0) void_lines).complex (omega arith) refl).product;

@@ -1,5 +1,5 @@
 -- The pairing after a crossing and its closed circles, by classes of any size that the arcs fit in.
-use Rattle.std.proofs.Common.{◌≡◌, ℕ, ◌+◌, ◌<◌, ◌∙◌, List, [], ◌∷◌, ◌++◌, map, not, refl, sym, subst, ap, ap₂, arith, Bool, cond, ◌&&◌}
+use Rattle.std.proofs.Common.{◌≡◌, ℕ, ◌+◌, ◌<◌, ◌∙◌, List, [], ◌∷◌, ◌++◌, map, not, refl, sym, subst, ap, ap₂, arith, ◌&&◌}
 use Rattle.std.specs.Prelude.{nat_eq, nat_lt, slice_index}
 use Rattle.std.specs.List.{filter, flat_map, AllByRecursion, Contains}
 use Rattle.kh_types.specs.Circles.{smoothing_of}
@@ -16,11 +16,7 @@ use Rattle.tangle_maps.specs.declared.pairing.TheConstants.{POINTS}
 use Rattle.tangle_maps.proofs.SizeLemmas.{class-sizes, least_points-sizes}
 use Rattle.crossing_maps.specs.Sites.{IsPlace, IsSite, closed_in}
 use Rattle.crossing_maps.proofs.Loopless.{joins-few, near-few, open-few}
-
-filter-on : (p q : ℕ → Bool) (xs : List ℕ) → AllByRecursion (λ x. p x ≡ q x) xs → filter p xs ≡ filter q xs
-filter-on p q [] alike = refl
-filter-on p q (x ∷ xs) alike =
-    ap₂ (λ (b : Bool) (ys : List ℕ). cond b (x ∷ ys) ys) alike.0 (filter-on p q xs alike.1)
+use Rattle.kh_types.proofs.Lists.{filter-on}
 
 flat_map-on : {Y : Type 0} (f g : ℕ → List Y) (xs : List ℕ) → AllByRecursion (λ x. f x ≡ g x) xs → flat_map f xs ≡ flat_map g xs
 flat_map-on f g [] alike = refl

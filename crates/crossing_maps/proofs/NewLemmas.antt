@@ -4,13 +4,14 @@
 -- number, and a sum with the seam's terms is one with a term for each dot set. This is done twice: for the terms of a map, where
 -- the faces are the discs between the two old pairings, with the dots of the term, and for the saddle, where they are the discs
 -- of one pairing, without marks. A single term with the coefficient 1 is reduced.
-use Rattle.std.proofs.Common.{◌≡◌, ℕ, zero, suc, ◌+◌, ◌-◌, ◌*◌, ◌/◌, ◌%◌, ◌^◌, ◌<◌, ◌≤◌, ◌∙◌, List, [], ◌∷◌, ◌++◌, length, map, refl, sym, subst, subst₂, ap, ap₂, arith, Bool, true, false, cond}
+use Rattle.std.proofs.Common.{◌≡◌, ℕ, ◌+◌, ◌-◌, ◌*◌, ◌/◌, ◌%◌, ◌^◌, ◌<◌, ◌≤◌, ◌∙◌, List, [], ◌∷◌, ◌++◌, length, map, refl, sym, subst, subst₂, ap, ap₂, arith, Bool, true, false, cond}
 use Rattle.std.specs.Prelude.{nat_eq, slice_index}
 use Rattle.std.specs.List.{count_by, enumerate_from, range_with_len, AllByRecursion, Contains}
-use Rattle.std.proofs.Math.Nat.{pow-suc, zero-div}
+use Rattle.std.proofs.Math.Nat.{zero-div}
 use Rattle.std.proofs.lemmas.List.{append-nil, length-map}
 use Rattle.std.proofs.lemmas.List.Elements.{All-from_recursion}
 use Rattle.std.proofs.lemmas.List.Sums.{sum_by-cons}
+use Rattle.std.proofs.lemmas.Nat.{pow_pos}
 use Rattle.kh_types.specs.Bits.{bit}
 use Rattle.kh_types.specs.Classes.{classes_of}
 use Rattle.kh_types.specs.Code.{Code, arc_count}
@@ -91,10 +92,6 @@ coefficients-made code k first second m n ds lowers label other seam marks term 
     grouped : (a b c : ℕ) → a * 1 * b * c ≡ a * (b * c)
     grouped a b c = omega arith
 
-some-sets : (n : ℕ) → 0 < 2 ^ n
-some-sets zero = omega arith
-some-sets (suc n) = omega (arith, pow-suc 2 n, some-sets n)
-
 -- all terms of a map
 pub map_made : (p f : ℕ) (code : Code) (k smoothing : ℕ) (m n : List (ℕ × ℕ)) (label other : ℕ) (seam : Seam) (marks : ℕ)
     (terms old new : List Term)
@@ -112,7 +109,7 @@ map_made p f code k smoothing m n label other seam marks terms old new are is su
     IsSum-spread p f (sets_behind code k smoothing smoothing m n)
     (λ term kept. term.coefficient
     * value (coefficient_sheet code k smoothing smoothing m n (marked term.dots (discs points m n)) points.opened label other kept))
-    (seam_behind seam (dotted_term marks 1 ∷ [])) terms old new (some-sets (length (discs_behind code k smoothing smoothing m n)))
+    (seam_behind seam (dotted_term marks 1 ∷ [])) terms old new (pow_pos (length (discs_behind code k smoothing smoothing m n)))
     (λ term. coefficients-made code k smoothing smoothing m n (discs points m n) points.opened label other seam marks term are faces lowers is) sum
 
 -- one term alone is reduced
@@ -169,7 +166,7 @@ saddle_made p f code k m label other seam marks old new are is sum =
     (λ kept. one_time (value (coefficient_sheet code k 0 1 m m (marked 0 ds) strips label other kept))
     ∙ ap (λ faces. value (coefficient_sheet code k 0 1 m m faces strips label other kept)) (unmarked 0 m)))
     (IsSum-spread p f count worth (seam_behind seam (dotted_term marks 1 ∷ [])) (dotted_term 0 1 ∷ []) old new
-    (some-sets (length (discs_behind code k 0 1 m m)))
+    (pow_pos (length (discs_behind code k 0 1 m m)))
     (λ term. coefficients-made code k 0 1 m m ds strips label other seam marks term are faces lowers is) sum)
   where
     one_time : (x : ℕ) → 1 * x ≡ x

@@ -10,8 +10,8 @@ use Rattle.kh_types.proofs.ListSums.{sum_by-alike, sum_by-flat_map}
 use Rattle.surface_laws.specs.Points.{Points, AreAmong, IsOpenPairing, ends_of}
 use Rattle.dotted_maps.proofs.ComponentParts.{one_at}
 use Rattle.added_crossing_laws.specs.Pairings.{IsPairingOf, end_count, ends_in}
-use Rattle.added_crossing_laws.proofs.Members.{Contains-cons_cases}
 use Rattle.tangle_maps.specs.Pairings.{ArePartners, joins_of, opened_points, paired_arcs}
+use Rattle.kh_types.proofs.Lists.{Contains-cases}
 use Rattle.tangle_maps.proofs.PairedLemmas.{paired, paired-among}
 
 abbrev one_if : Bool → ℕ
@@ -34,7 +34,7 @@ ends-counted pairs x =
 
 counted : (x : ℕ) (xs : List ℕ) → Contains xs x → 1 ≤ count_by (nat_eq x) xs
 counted x [] (k, below, is) = absurd (omega (arith, below))
-counted x (y ∷ xs) has = elim (Contains-cons_cases y x xs has) [
+counted x (y ∷ xs) has = elim (Contains-cases y x xs has) [
   | inl same ↦ omega (arith, sum_by-cons (one_at x) y xs, ap one_if (eq-eqb x y (sym same)))
   | inr later ↦ omega (arith, sum_by-cons (one_at x) y xs, counted x xs later)
 ]

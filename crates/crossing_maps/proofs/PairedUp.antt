@@ -5,19 +5,19 @@
 -- greater mate has just one, as it is an end of one pair only, and this is its partner; a point without is the greater end of its
 -- pair, and its partner is lesser, so no pair is read off there.
 use Rattle.std.proofs.Common.{◌≡◌, ◌≢◌, ℕ, ◌⊎◌, inl, inr, ◌<◌, ◌≤◌, ◌∙◌, List, [], ◌∷◌, ◌++◌, length, map, set, take, refl, sym, subst, ap, ap₂, arith, Bool, true, false, cond, not, ◌&&◌}
-use Rattle.std.specs.Prelude.{nat_eq, nat_lt, slice_index}
+use Rattle.std.specs.Prelude.{nat_lt, slice_index}
 use Rattle.std.specs.List.{filter, flat_map, fold, range_with_len, sum_by, AllByRecursion, Contains}
-use Rattle.std.proofs.lemmas.Bool.{cases_eq, eq-eqb}
+use Rattle.std.proofs.lemmas.Bool.{cases_eq, eq-eqb, ne_eqb, lt-ltb}
 use Rattle.std.proofs.lemmas.Bool.Decides.{nat_tests}
 use Rattle.std.proofs.lemmas.List.{get_or-set_same, get_or-set_other, length-set, take_all}
 use Rattle.std.proofs.lemmas.List.FromFn.{length-range_with_len, get_or-range_with_len}
 use Rattle.std.proofs.lemmas.List.Sums.{sum_by-cons}
 use Rattle.kh_types.proofs.ListSums.{sum_by-flat_map}
-use Rattle.kh_types.proofs.Lists.{Contains-filter, Contains-map, Contains-flat_map}
+use Rattle.kh_types.proofs.Lists.{Contains-filter, Contains-map, Contains-flat_map, Contains-cases, Contains-later}
 use Rattle.surface_laws.proofs.Components.{AllByRecursion-at}
 use Rattle.added_crossing_laws.specs.Pairings.{IsPairingOf, end_count, ends_in}
 use Rattle.added_crossing_laws.specs.Steps.{is_mate, pair_with, pairs_among, pairs_at}
-use Rattle.added_crossing_laws.proofs.Members.{All-contained, Contains-cons_cases, Contains-next}
+use Rattle.added_crossing_laws.proofs.Members.{All-contained}
 use Rattle.added_crossing_laws.proofs.NewPairing.{IsPair, pairs-are}
 use Rattle.tangle_maps.specs.declared.pairing.TheConstants.{POINTS}
 use Rattle.tangle_maps.specs.Pairings.{IsOpened, joins_of, leads, partnered, with_partner}
@@ -72,13 +72,10 @@ stays partners ((a, b) ∷ pairs) x none =
 
 -- two arcs without partners become partners
 
-apart-false : (x y : ℕ) → x ≢ y → nat_eq x y ≡ false
-apart-false x y apart = grind (arith, nat_tests)
-
 can : (partners : List ℕ) (x y : ℕ) → x ≢ y → slice_index partners x ≡ x → slice_index partners y ≡ y
     → can_pair partners x y ≡ true
 can partners x y apart first second =
-    ap₂ (λ b d. not b && d) (apart-false x y apart)
+    ap₂ (λ b d. not b && d) (ne_eqb x y apart)
     (ap₂ (λ b d. b && d) (eq-eqb (slice_index partners x) x first) (eq-eqb (slice_index partners y) y second))
 
 -- what is known of two arcs before they become partners
@@ -109,7 +106,7 @@ there [] x y (k, below, is) = absurd (omega (arith, below))
 there ((a, b) ∷ pairs) x y has =
     let first = sum_by-cons (ends_in x) (a, b) pairs in
     let second = sum_by-cons (ends_in y) (a, b) pairs in
-    elim (Contains-cons_cases (a, b) (x, y) pairs has) [
+    elim (Contains-cases (a, b) (x, y) pairs has) [
       | inl same ↦ (
         omega (arith, first, ends-first x a b (ap (λ (p : ℕ × ℕ). p.0) same)),
         omega (arith, second, ends-second y a b (ap (λ (p : ℕ × ℕ). p.1) same)),
@@ -125,7 +122,7 @@ own partners [] x y alone (k, below, is) first second = absurd (omega (arith, be
 own partners ((a, b) ∷ pairs) x y alone has first second =
     let x_sum = sum_by-cons (ends_in x) (a, b) pairs in
     let y_sum = sum_by-cons (ends_in y) (a, b) pairs in
-    elim (Contains-cons_cases (a, b) (x, y) pairs has) [
+    elim (Contains-cases (a, b) (x, y) pairs has) [
       | inl same ↦
           let x_one = ends-first x a b (ap (λ (p : ℕ × ℕ). p.0) same) in
           let y_one = ends-second y a b (ap (λ (p : ℕ × ℕ). p.1) same) in
@@ -168,7 +165,7 @@ ended ((a, b) ∷ pairs) x one = elim (cases_eq x a) [
     | inl same ↦ record { pair = (a, b); has = (0, omega arith, refl); end = inr same }
     | inr second ↦
         let later = ended pairs x (omega (arith, sum_by-cons (ends_in x) (a, b) pairs, no-ends x a b first second, one)) in
-        record { pair = later.pair; has = Contains-next (a, b) later.pair pairs later.has; end = later.end }
+        record { pair = later.pair; has = Contains-later (a, b) later.pair pairs later.has; end = later.end }
   ]
 ]
 
@@ -176,7 +173,7 @@ ended ((a, b) ∷ pairs) x one = elim (cases_eq x a) [
 
 sum-part : {X : Type 0} (f : X → ℕ) (xs : List X) (x : X) → Contains xs x → f x ≤ sum_by f xs
 sum-part f [] x (k, below, is) = absurd (omega (arith, below))
-sum-part f (y ∷ xs) x has = elim (Contains-cons_cases y x xs has) [
+sum-part f (y ∷ xs) x has = elim (Contains-cases y x xs has) [
   | inl same ↦ omega (arith, sum_by-cons f y xs, ap f same)
   | inr later ↦ omega (arith, sum_by-cons f y xs, sum-part f xs x later)
 ]
@@ -217,9 +214,6 @@ range-alone x y x_below y_below apart = any POINTS x_below y_below
       second_below = omega (arith, second, length-range_with_len 0 n);
     }
 
-less-true : (x y : ℕ) → x < y → nat_lt x y ≡ true
-less-true x y is = grind (arith, nat_tests)
-
 more-false : (x y : ℕ) → y < x → nat_lt x y ≡ false
 more-false x y is = grind (arith, nat_tests)
 
@@ -259,7 +253,7 @@ here points classes x opened paired has =
           | inl first ↦
               let mate : Contains (filter (is_mate classes x) points) found.pair.1 =
               Contains-filter (is_mate classes x) points found.pair.1
-              (ap₂ (λ b d. b && d) (less-true x found.pair.1 (omega (arith, first, is.rises)))
+              (ap₂ (λ b d. b && d) (lt-ltb x found.pair.1 (omega (arith, first, is.rises)))
               (eq-eqb (slice_index classes x) (slice_index classes found.pair.1) (ap (slice_index classes) first ∙ is.same)))
               is.second in
               let nowhere : Contains [] found.pair.1 = subst (λ ys. Contains ys found.pair.1) empty mate in
@@ -284,7 +278,7 @@ here points classes x opened paired has =
         let partner = (made-own points classes x y opened paired pair_has is).first in
         ap (λ (z : ℕ). (x, z) ∷ []) (sym partner)
         ∙ sym (ap (λ b. cond b (with_partner (made_of points classes) x ∷ []) [])
-        (less-true x (slice_index (made_of points classes) x) (omega (arith, partner, is.rises))))
+        (lt-ltb x (slice_index (made_of points classes) x) (omega (arith, partner, is.rises))))
     some y (z ∷ mates) are =
         absurd (omega (
           arith,

@@ -3,7 +3,6 @@ use Rattle.std.proofs.Common.{ℕ, ◌+◌, ◌<◌, ◌≤◌, List, [], ◌++�
 use Rattle.std.specs.Prelude.{slice_index_or}
 use Rattle.std.specs.List.{filter, range_with_len, AllByRecursion, Contains}
 use Rattle.std.proofs.lemmas.List.FromFn.{length-range_with_len}
-use Rattle.std.proofs.lemmas.List.Sums.{count_by-le-length, length-filter}
 use Rattle.kh_types.specs.Classes.{classes_of, is_least}
 use Rattle.kh_types.specs.Code.{Code, arc_count, arc_in}
 use Rattle.surface_laws.specs.Points.{AreAmong}
@@ -21,10 +20,7 @@ use Rattle.crossing_maps.specs.declared.splitting.Site.{Site}
 use Rattle.crossing_maps.proofs.Loopless.{near-are, near-few, open-are}
 use Rattle.crossing_maps.proofs.FewClosed.{few-closed}
 use Rattle.crossing_maps.proofs.Placed.{next-near, opened-near}
-use Rattle.crossing_maps.proofs.SeamPlaces.{arcs-filtered}
-
-filter-shorter : (p : ℕ → Bool) (xs : List ℕ) → length (filter p xs) ≤ length xs
-filter-shorter p xs = omega (arith, length-filter p xs, count_by-le-length p xs)
+use Rattle.crossing_maps.proofs.SeamPlaces.{arcs-filtered, filter-shorter}
 
 those-arcs : (count : ℕ) (test : ℕ → Bool) → count + 1 ≤ POINTS → IsArcs POINTS (those count test)
 those-arcs count test fits = record {

@@ -29,7 +29,7 @@ use Rattle.crossing_maps.specs.Sites.{IsPlace, IsSite}
 use Rattle.crossing_maps.proofs.Loopless.{open-few}
 use Rattle.crossing_maps.proofs.Placed.{places-same}
 
-filter-shorter : (p : ℕ → Bool) (xs : List ℕ) → length (filter p xs) ≤ length xs
+pub filter-shorter : (p : ℕ → Bool) (xs : List ℕ) → length (filter p xs) ≤ length xs
 filter-shorter p xs = omega (arith, length-filter p xs, count_by-le-length p xs)
 
 pub arcs-filtered : (n : ℕ) (p : ℕ → Bool) (arcs : List ℕ) → IsArcs n arcs → IsArcs n (filter p arcs)

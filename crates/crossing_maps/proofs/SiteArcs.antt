@@ -2,10 +2,10 @@
 -- Code filters all numbers below POINTS by two tests on the arcs open before and on the slots: so the tests have to be those of the
 -- definitions at arcs, where a count of slots is a count of ends (`ends-same`), and to fail elsewhere. Zero and the numbers above the arcs are
 -- neither open nor near (`none-first`, `none-past`): the code's lists leave loops out too, since a loop has no end.
-use Rattle.std.proofs.Common.{◌≡◌, ◌≢◌, ℕ, inl, inr, ◌+◌, ◌*◌, ◌<◌, ◌≤◌, ◌∙◌, List, [], ◌∷◌, ◌++◌, refl, sym, subst, ap, ap₂, arith, Bool, false, cond, ◌||◌}
+use Rattle.std.proofs.Common.{◌≡◌, ℕ, inl, inr, ◌+◌, ◌*◌, ◌<◌, ◌≤◌, ◌∙◌, List, [], ◌∷◌, ◌++◌, refl, sym, subst, ap, ap₂, arith, Bool, false, cond, ◌||◌}
 use Rattle.std.specs.Prelude.{nat_eq, nat_lt, slice_index_or}
 use Rattle.std.specs.List.{count_by, filter, list_any, range_with_len, Contains}
-use Rattle.std.proofs.lemmas.Bool.{cases_Bool, both_ways, eq-eqb, eqb-true, false_from_ne_true}
+use Rattle.std.proofs.lemmas.Bool.{cases_Bool, both_ways, eq-eqb, eqb-true, false_from_ne_true, ne_eqb}
 use Rattle.std.proofs.lemmas.Bool.Decides.{nat_tests}
 use Rattle.kh_types.specs.Code.{Code, arc_count, arc_in}
 use Rattle.kh_types.specs.CircleSteps.{arc_at}
@@ -75,9 +75,6 @@ ends-same crossings k x =
     (ap₂ (λ m n. m + n) (ap (λ b. one_if b) (slot-test crossings k x 2 (4 * k + 1 + 1) (omega arith) (omega arith)))
     (ap (λ b. one_if b) (slot-test crossings k x 3 (4 * k + 1 + 1 + 1) (omega arith) (omega arith)))))
 
-apart-false : (x y : ℕ) → x ≢ y → nat_eq x y ≡ false
-apart-false x y apart = grind (arith, nat_tests)
-
 no-ends : (code : Code) (k x : ℕ) → IsPlace code k → (Contains (near (step_at code k)) x → ⊥)
     → slot_count (slice_index_or code.crossings k []) x ≡ 0
 no-ends code k x place lacks =
@@ -87,7 +84,7 @@ no-ends code k x place lacks =
     zero_at : (slot : ℕ) → slot < 4 → one_if (nat_eq (arc_in (slice_index_or code.crossings k []) slot) x) ≡ 0
     zero_at slot below =
         ap (λ b. one_if b)
-        (apart-false (arc_in (slice_index_or code.crossings k []) slot) x
+        (ne_eqb (arc_in (slice_index_or code.crossings k []) slot) x
         (λ same. lacks (subst (λ y. Contains (near (step_at code k)) y) same (slot-near code k slot place.twice place.crossing below))))
 
 -- the tests

@@ -1,42 +1,29 @@
 -- The arcs that have a partner after a crossing are those that are open there.
-use Rattle.std.proofs.Common.{◌≡◌, ◌≢◌, ℕ, inl, inr, ◌+◌, ◌-◌, ◌<◌, ◌≤◌, ◌∙◌, List, [], ◌∷◌, ◌++◌, refl, sym, subst, ap, ap₂, arith, Bool, true, false, cond, not}
+use Rattle.std.proofs.Common.{◌≡◌, ◌≢◌, ℕ, inl, inr, ◌+◌, ◌-◌, ◌<◌, ◌≤◌, ◌∙◌, List, [], ◌++◌, sym, subst, ap, arith, Bool, true, false, not}
 use Rattle.std.specs.Prelude.{nat_eq, slice_index}
 use Rattle.std.specs.List.{filter, range_with_len, Contains}
-use Rattle.std.proofs.lemmas.Bool.{cases_Bool, both_ways, eq-eqb, eqb-true, false_from_ne_true}
+use Rattle.std.proofs.lemmas.Bool.{cases_Bool, both_ways, eq-eqb}
 use Rattle.std.proofs.lemmas.Bool.Decides.{nat_tests}
 use Rattle.std.proofs.lemmas.List.Elements.{filter-append}
-use Rattle.std.proofs.lemmas.List.FromFn.{get_or-range_with_len}
-use Rattle.std.proofs.lemmas.List.Sums.{sum_by-cons}
 use Rattle.kh_types.specs.Circles.{smoothing_of}
 use Rattle.kh_types.specs.Classes.{classes_of}
 use Rattle.kh_types.specs.Code.{Code, arc_count}
 use Rattle.kh_types.proofs.Lists.{filter-range_agree}
 use Rattle.kh_types.proofs.Ranges.{range-append}
 use Rattle.surface_laws.proofs.Components.{AllByRecursion-at}
-use Rattle.surface_laws.specs.Points.{AreAmong}
-use Rattle.added_crossing_laws.specs.Pairings.{IsPairingOf, end_count, ends_in}
+use Rattle.added_crossing_laws.specs.Pairings.{IsPairingOf}
 use Rattle.added_crossing_laws.specs.Steps.{pairs_among, those}
 use Rattle.added_crossing_laws.specs.Codes.{is_open, pairing_behind, points_at}
 use Rattle.added_crossing_laws.proofs.Members.{All-contained, are-those, range-within, those-are}
 use Rattle.added_crossing_laws.proofs.NewPairing.{IsPair, pairs-are}
-use Rattle.added_crossing_laws.proofs.Pairs.{IsPairingOf-behind}
+use Rattle.added_crossing_laws.proofs.Pairs.{IsPairingOf-behind, end_count-none}
 use Rattle.tangle_maps.specs.declared.pairing.TheConstants.{POINTS}
 use Rattle.tangle_maps.specs.Pairings.{IsOpened, is_paired, paired_arcs}
 use Rattle.crossing_maps.specs.Sites.{IsPlace, IsSite}
 use Rattle.crossing_maps.proofs.AllArcs.{pairs-serve}
 use Rattle.crossing_maps.proofs.Loopless.{append-none, filter-none, open-are}
 use Rattle.crossing_maps.proofs.PairedUp.{ended, made-own, made_of, stays}
-
--- a point that is not among some points is no end of pairs of these
-unpaired : (points : List ℕ) (pairs : List (ℕ × ℕ)) (x : ℕ) → AreAmong points pairs → (Contains points x → ⊥) → end_count pairs x ≡ 0
-unpaired points [] x among not = refl
-unpaired points (pair ∷ pairs) x among not =
-    sum_by-cons (ends_in x) pair pairs
-    ∙ ap₂ (λ s t. s + t)
-    (ap₂ (λ (b c : Bool). cond b 1 0 + cond c 1 0) (other pair.0 among.0.0) (other pair.1 among.0.1)) (unpaired points pairs x among.1 not)
-  where
-    other : (y : ℕ) → Contains points y → nat_eq y x ≡ false
-    other y has = false_from_ne_true (nat_eq y x) (λ same. not (subst (λ z. Contains points z) (eqb-true y x same) has))
+use Rattle.kh_types.proofs.JoinedClasses.{slice_index-range}
 
 pub filter-within : (p q : ℕ → Bool) (count n : ℕ) → count + 1 ≤ n → p 0 ≡ false
     → ((x : ℕ) → 1 ≤ x → x < 1 + count → p x ≡ q x) → ((x : ℕ) → count < x → x < n → p x ≡ false)
@@ -85,16 +72,13 @@ with-partner points classes x opened paired has =
           λ same. omega (arith, same, partner, second, is.rises)
     ])
 
-at-range : (n x : ℕ) → x < n → slice_index (range_with_len 0 n) x ≡ x
-at-range n x below = get_or-range_with_len 0 n x 0 below ∙ omega arith
-
 without-partner : (points classes : List ℕ) (x : ℕ) → IsPairingOf points (pairs_among points classes) → (Contains points x → ⊥) → x < POINTS
     → is_paired (made_of points classes) x ≡ false
 without-partner points classes x paired not_has below =
     same-false x (slice_index (made_of points classes) x)
     (sym (stays (range_with_len 0 POINTS) (pairs_among points classes) x
-    (unpaired points (pairs_among points classes) x paired.among not_has)
-    ∙ at-range POINTS x below))
+    (end_count-none points (pairs_among points classes) x paired.among not_has)
+    ∙ slice_index-range POINTS x below))
 
 pub arcs-made : (count : ℕ) (test : ℕ → Bool) (classes : List ℕ) → count + 1 ≤ POINTS → IsOpened (those count test)
     → IsPairingOf (those count test) (pairs_among (those count test) classes)

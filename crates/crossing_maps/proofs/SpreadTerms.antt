@@ -1,17 +1,15 @@
 -- Sums whose dot sets have certain coefficients are sums of a term for each dot set.
-use Rattle.std.proofs.Common.{◌≡◌, ◌≢◌, ℕ, zero, suc, inl, inr, ◌+◌, ◌*◌, ◌%◌, ◌<◌, ◌≤◌, ◌∙◌, List, [], ◌∷◌, ◌++◌, map, refl, sym, subst, ap, ap₂, arith, false, cond, eq-eqb}
+use Rattle.std.proofs.Common.{◌≡◌, ℕ, zero, suc, inl, inr, ◌+◌, ◌*◌, ◌%◌, ◌<◌, ◌≤◌, ◌∙◌, List, [], ◌∷◌, map, refl, sym, subst, ap, ap₂, arith, cond, eq-eqb}
 use Rattle.std.specs.Prelude.{nat_eq}
 use Rattle.std.specs.List.{flat_map, range_with_len}
-use Rattle.std.proofs.lemmas.Bool.{cases_lt}
-use Rattle.std.proofs.lemmas.Bool.Decides.{nat_tests}
-use Rattle.std.proofs.lemmas.List.{map-append}
+use Rattle.std.proofs.lemmas.Bool.{cases_lt, ne_eqb}
 use Rattle.std.proofs.lemmas.List.Sums.{sum_by-cons}
 use Rattle.kh_types.proofs.Lists.{AllByRecursion-append, AllByRecursion-first, AllByRecursion-second}
 use Rattle.kh_types.proofs.ListSums.{sum_by-alike, sum_by-flat_map, sum_by-map, sum_by-single}
 use Rattle.dotted_maps.specs.declared.term.Term.{Term}
 use Rattle.dotted_maps.specs.Maps.{coefficient_in, scaled}
 use Rattle.tangle_maps.specs.Sums.{HaveDotsBelow, IsSum, dotted_term}
-use Rattle.tangle_maps.proofs.SumLemmas.{IsSum-alike, coefficient-scaled}
+use Rattle.tangle_maps.proofs.SumLemmas.{IsSum-alike, coefficient-scaled, scaled-append}
 use Rattle.crossing_maps.specs.NewTerms.{all_terms}
 
 abbrev counted : ℕ → Term → ℕ
@@ -22,16 +20,13 @@ pub record HaveCoefficients (count : ℕ) (coefficient : ℕ → ℕ) (terms : L
   pub each : (kept : ℕ) → kept < count → coefficient_in terms kept ≡ coefficient kept
   pub dots : HaveDotsBelow count terms
 
-apart-test : (x y : ℕ) → x ≢ y → nat_eq x y ≡ false
-apart-test x y apart = grind (arith, nat_tests)
-
 -- behind the count nothing is found
 beyond : (limit d : ℕ) (terms : List Term) → HaveDotsBelow limit terms → limit ≤ d → coefficient_in terms d ≡ 0
 beyond limit d [] below past = refl
 beyond limit d (t ∷ ts) below past =
     sum_by-cons (counted d) t ts
     ∙ ap₂ (λ x y. x + y)
-    (ap (λ b. cond b t.coefficient 0) (apart-test t.dots d (λ same. absurd (omega (arith, same, below.0, past)))))
+    (ap (λ b. cond b t.coefficient 0) (ne_eqb t.dots d (λ same. absurd (omega (arith, same, below.0, past)))))
     (beyond limit d ts below.1 past)
 
 abbrev spread_term : (ℕ → ℕ) → ℕ → Term
@@ -46,7 +41,7 @@ pub spread-each : (count kept : ℕ) (coefficient : ℕ → ℕ) → kept < coun
 spread-each count kept coefficient within =
     sum_by-map (counted kept) (spread_term coefficient) (range_with_len 0 count)
     ∙ sum_by-single (λ x. cond (nat_eq x kept) (coefficient x) 0) 0 count kept (omega arith) (omega (arith, within))
-    (λ x above below other. ap (λ b. cond b (coefficient x) 0) (apart-test x kept other))
+    (λ x above below other. ap (λ b. cond b (coefficient x) 0) (ne_eqb x kept other))
     ∙ ap (λ b. cond b (coefficient kept) 0) (eq-eqb kept kept refl)
 
 spread-alike : (count d : ℕ) (coefficient : ℕ → ℕ) (terms : List Term) → HaveCoefficients count coefficient terms
@@ -59,9 +54,6 @@ spread-alike count d coefficient terms have = elim (cases_lt d count) [
 ]
 
 -- multiples
-
-scaled-append : (f : ℕ) (xs ys : List Term) → scaled f (xs ++ ys) ≡ scaled f xs ++ scaled f ys
-scaled-append f xs ys = map-append (λ term. record { dots = term.dots; coefficient = f * term.coefficient }) xs ys
 
 scaled-below : (f count limit : ℕ) (terms : List Term) → count ≤ limit → HaveDotsBelow count terms → HaveDotsBelow limit (scaled f terms)
 scaled-below f count limit [] within below = tt

@@ -27,6 +27,8 @@ use Rattle.dotted_maps.proofs.LeastPoints.{AllByRecursion-filter, AreJoins, clas
 use Rattle.tangle_maps.specs.Seams.{factor_for}
 use Rattle.crossing_maps.specs.Counts.{Places, blanks_on, genus_at, load_at, on, rest_at, surface_at}
 use Rattle.crossing_maps.proofs.CountLemmas.{counted, counted-marks}
+use Rattle.kh_types.proofs.Tests.{agree}
+use Rattle.dotted_maps.proofs.Listed.{whole-number}
 
 abbrev one_if : Bool → ℕ
 one_if b = cond b 1 0
@@ -69,17 +71,12 @@ least-kept classes (x ∷ xs) =
       | inr not ↦ rw not (least-kept classes xs)
     ]
 
-both-true : (a b : Bool) → (a ≡ true → b ≡ true) → (b ≡ true → a ≡ true) → a ≡ b
-both-true true b onward back = sym (onward refl)
-both-true false true onward back = back refl
-both-true false false onward back = refl
-
 same-components : (surface : Surface) (k : ℕ) → AreJoins surface.size surface.places surface.joins
     → is_component surface k ≡ is_in (least_points surface.size surface.places surface.joins) k
 same-components surface k joined =
     let classes = classes_of surface.size surface.joins in
     let names = least_points surface.size surface.places surface.joins in
-    both-true (is_component surface k) (is_in names k)
+    agree (is_component surface k) (is_in names k)
     (λ is.
     let found = list_any-some (λ x. nat_eq (slice_index classes x) k) surface.places is in
     list_any-contained (λ x. nat_eq x k) names (slice_index classes found.0)
@@ -165,9 +162,6 @@ blanks-zeros component number j (k ∷ ks) =
   where
     first-bit : (n : ℕ) → n % 2 ≡ bit n 0
     first-bit n = omega arith
-
-whole-number : (n : ℕ) → n / 2 ^ 0 ≡ n
-whole-number n = omega arith
 
 -- the dot sets that count, and with which factor, from components of places
 abbrev pub sets_at : List ℕ → Places → ℕ → ℕ → ℕ → List ℕ

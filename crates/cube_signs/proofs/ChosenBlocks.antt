@@ -30,7 +30,6 @@ use Rattle.sparse_block.specs.Entries.{Entry, value_at, AreEntries}
 use Rattle.sparse_block.proofs.BuildLemmas.{sizes-all_alive}
 use Rattle.sparse_block.proofs.DegreeLemmas.{length-at}
 use Rattle.square_laws.proofs.Degrees.{product_sum-at}
-use Rattle.square_laws.proofs.Pairs.{times-zero}
 use Rattle.cube_signs.specs.Chosen.{chosen_at, chosen_block, coefficients, list_degree, IsClosed}
 use Rattle.cube_signs.specs.ChosenParts.{all_places, all_places_to, chosen_to, AreChosenParts, AreMovedColumns}
 use Rattle.cube_signs.specs.Columns.{IsTail}
@@ -43,6 +42,7 @@ use Rattle.cube_signs.proofs.NamedBlocks.{map-alike, map-places, named_of}
 use Rattle.cube_signs.proofs.StateLists.{images-more}
 use Rattle.cube_signs.proofs.StepLemmas.{each-more}
 use Rattle.std.proofs.lemmas.Simd.{map-map}
+use Rattle.kh_types.proofs.Sums.{times-zero}
 
 -- sums over a list whose elements have the same terms
 sum_by-same : {X : Type 0} (f g : X → ℕ) (xs : List X) → All (λ x. f x ≡ g x) xs → sum_by f xs ≡ sum_by g xs

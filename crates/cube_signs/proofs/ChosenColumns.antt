@@ -4,7 +4,7 @@
 -- ascend, and no two rows get one number, so the value at a new row is that at the old one. Each row among the chosen comes from
 -- a row among all: so a moved column has the coefficients to the chosen generators, and this holds of all columns of the chosen
 -- generators of two degrees.
-use Rattle.std.proofs.Common.{◌≡◌, ℕ, zero, suc, inl, inr, ◌+◌, ◌<◌, ◌∙◌, ℤ, pos, ◌+ℤ◌, List, [], ◌∷◌, length, get_or, map, refl, sym, ap, subst, arith, Bool, true, ◌-ℤ◌}
+use Rattle.std.proofs.Common.{◌≡◌, ℕ, inl, inr, ◌+◌, ◌<◌, ◌∙◌, ℤ, pos, ◌+ℤ◌, List, [], ◌∷◌, length, get_or, map, refl, sym, ap, subst, arith, Bool, true, ◌-ℤ◌}
 use Rattle.std.specs.Prelude.{slice_index, slice_index_or}
 use Rattle.std.specs.List.{All, filter}
 use Rattle.std.proofs.lemmas.Bool.{cases_Bool, cases_eq}
@@ -14,13 +14,14 @@ use Rattle.kh_types.specs.Code.{Code}
 use Rattle.kh_types.specs.Differential.{coefficient}
 use Rattle.kh_types.specs.Generators.{Generator, generator_of, generators_at}
 use Rattle.sparse_block.specs.Entries.{Entry, value_at, AreEntries}
-use Rattle.sparse_block.proofs.AscendingLemmas.{Ascend, ascend-earlier, ascend-place, entries-ascend, entries-from_ascend}
+use Rattle.sparse_block.proofs.AscendingLemmas.{Ascend, ascend-earlier, entries-ascend, entries-from_ascend}
 use Rattle.sparse_block.proofs.EntryLemmas.{value_at-here, value_at-later}
 use Rattle.cube_signs.specs.Chosen.{chosen_at, chosen_before, IsClosed}
 use Rattle.cube_signs.specs.ChosenParts.{all_places, moved_entry, AreMovedColumns}
 use Rattle.cube_signs.specs.Columns.{IsColumn, IsTail}
 use Rattle.cube_signs.proofs.BlockLemmas.{are-tails}
 use Rattle.cube_signs.proofs.ChosenPlaces.{before-all, before-le, before-next, before-one, kept-at, origin, places-at, IsChosen}
+use Rattle.sparse_block.proofs.EntryValues.{value_at-place}
 
 -- entries are the column of a tail: those of its coefficients to the heads
 pub record IsColumnTo (p : ℕ) (code : Code) (heads : List Generator) (tail : Generator) (entries : List Entry) : Type 0 where
@@ -39,16 +40,6 @@ pub record AreChosenColumns (choice : Generator → Bool) (p : ℕ) (code : Code
   pub each : (k : ℕ) → k < count
       → AreColumnsTo p code (chosen_at choice code (pos k -ℤ pos (length code.crossings)) j)
       (chosen_at choice code (pos k -ℤ pos (length code.crossings) +ℤ pos 1) j) (slice_index_or columns k [])
-
--- an entry in a list that ascends is the one that the list has at its place
-value_at-own : (p a b k : ℕ) (es : List Entry) (d : Entry) → Ascend p a b es → k < length es
-    → value_at es (get_or es k d).place ≡ (get_or es k d).value
-value_at-own p a b k [] d ascend below = absurd (omega (arith, below))
-value_at-own p a b zero (e ∷ es) d ascend below = value_at-here e es e.place refl
-value_at-own p a b (suc k) (e ∷ es) d ascend below =
-    let later = ascend-place p (e.place + 1) b k es d ascend.4 (omega (arith, below)) in
-    value_at-later e es (get_or es k d).place (λ same. omega (arith, same, later))
-    ∙ value_at-own p (e.place + 1) b k es d ascend.4 (omega (arith, below))
 
 -- an entry stands at the place of a generator that is chosen
 abbrev IsAtChosen : (Generator → Bool) → List Generator → Entry → Type 0
@@ -102,7 +93,7 @@ entries-kept choice p code i j tail entries closed tails chosen column k d below
     let within : e.place < length heads = column.are.places k d below in
     let positive = column.are.values k d below in
     let value : e.value ≡ coefficient p code tail (get_or heads e.place (generator_of 0 0)) =
-    sym (value_at-own p 0 (length heads) k entries d (entries-ascend p (length heads) entries column.are) below)
+    sym (value_at-place p 0 (length heads) k entries d (entries-ascend p (length heads) entries column.are) below)
     ∙ column.values e.place within in
     elim (cases_Bool (choice (get_or heads e.place (generator_of 0 0)))) [
       | inl passes ↦ record { below = within; passes = passes }

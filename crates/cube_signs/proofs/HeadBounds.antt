@@ -7,10 +7,6 @@ use Rattle.std.proofs.lemmas.Nat.{pow_pos}
 use Rattle.kh_types.specs.declared.limits.TheConstants.{CIRCLES}
 use Rattle.cube_signs.specs.Heads.{with_gap, without_bit}
 
--- a power of 2 is positive, and at most that of the most circles
-pub power-positive : (place : ℕ) → 0 < 2 ^ place
-power-positive place = pow_pos place
-
 pub power-within : (place : ℕ) → place ≤ CIRCLES → 2 ^ place ≤ 2 ^ CIRCLES
 power-within place few = pow_mono few
 
@@ -33,6 +29,6 @@ without_bit-le place label = grind (arith, nat_tests, moved_down, pow_pos, next)
 pub with_gap-le : (place label : ℕ) → with_gap place label ≤ 2 * label
 with_gap-le place label = grind (arith, nat_tests, moved_up, next)
 
-pub ruleset powers = (power-positive, power-within)
+pub ruleset powers = (pow_pos, power-within)
 
 pub ruleset bounds = (without_bit-le, with_gap-le)

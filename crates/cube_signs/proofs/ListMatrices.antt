@@ -12,9 +12,9 @@ use Rattle.kh_types.specs.Differential.{coefficient}
 use Rattle.kh_types.specs.Generators.{Generator, generator_of}
 use Rattle.kh_types.proofs.MatrixTests.{entry-past_rows}
 use Rattle.kh_types.proofs.ListSums.{sum_by-none, sum_by-places, sum_by-range_alike}
-use Rattle.square_laws.proofs.Pairs.{times-zero, zero-times}
 use Rattle.square_laws.proofs.Degrees.{coefficient-below}
 use Rattle.cube_signs.specs.Chosen.{coefficients}
+use Rattle.kh_types.proofs.Sums.{zero-times, times-zero}
 
 -- the generator at a place of a list
 abbrev pub generator_number : List Generator → ℕ → Generator

@@ -25,11 +25,11 @@ use Rattle.kink_and_finger_laws.proofs.FingerDrops.{places-two, late-below}
 use Rattle.kink_and_finger_laws.proofs.FingerDropSums.{state_sum-without_finger}
 use Rattle.kink_and_finger_laws.proofs.ComponentDrops.{components-dropped}
 use Rattle.kink_and_finger_laws.proofs.Smoothed.{IsPermutation-late}
-use Rattle.kink_and_finger_laws.proofs.OldDarts.{arc_of_dart-arc_of}
 use Rattle.kink_and_finger_laws.proofs.Sound.{IsSound-kink, IsSound-finger, two_below}
 use Rattle.diagram_moves.specs.Joinable.{IsJoinable}
 use Rattle.diagram_moves.specs.Kept.{IsKeptCode}
 use Rattle.diagram_moves.proofs.Numbered.{IsAccepted-renumber, components-renumber, sign-renumber, state_sum-renumber}
+use Rattle.gluing_laws.proofs.DartPairs.{arc_of-dart}
 
 IsJoinable-dropped : (code : Code) (gone : ℕ → Bool) (kept : ℕ → ℕ) (k : ℕ) → HasArcsTwice code.crossings
     → kept_places code.crossings gone ≡ map kept (range_with_len 0 k) → ((i : ℕ) → i < k → kept i < length code.crossings)
@@ -52,7 +52,7 @@ IsJoinable-dropped code gone kept k twice places kept_below sound =
           ∙ renamed_slots-at (straight_names code.crossings gone) (slots_in code.crossings (kept (x / 4))) (x % 4) (omega arith) in
           let old = arc_by_place-below code.crossings (kept (x / 4)) (x % 4) twice (kept_below (x / 4) small) (omega arith) in
           let least = named.least (arc_by_place code.crossings (kept (x / 4)) (x % 4)) old in
-          omega (arith, arc_of_dart-arc_of (kept_crossings code.crossings gone) x, is, old, least);
+          omega (arith, arc_of-dart (kept_crossings code.crossings gone) x, is, old, least);
     }
 
 -- what is dropped from an accepted code, with its state sum

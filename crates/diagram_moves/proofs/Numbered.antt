@@ -37,9 +37,8 @@ use Rattle.gluing_laws.specs.Arcs.{arc_by_place}
 use Rattle.orient_arcs.specs.Renumbered.{renumber}
 use Rattle.kink_and_finger_laws.specs.DropCircles.{parts_circle_count, parts_plus, parts_minus, parts_term, parts_sum}
 use Rattle.kink_and_finger_laws.specs.DropComponents.{parts_component_count}
-use Rattle.kink_and_finger_laws.proofs.OldDarts.{arc_of_dart-arc_of}
 use Rattle.kink_and_finger_laws.proofs.KinkCircles.{before}
-use Rattle.kink_and_finger_laws.proofs.KinkDropSums.{count-later, sums-alike}
+use Rattle.kink_and_finger_laws.proofs.KinkDropSums.{count-later}
 use Rattle.kink_and_finger_laws.proofs.StandingNames.{IsOfNames-passes, IsOfNames-smoothings, standing-classes}
 use Rattle.gluing_laws.specs.Alike.{AreAlike}
 use Rattle.gluing_laws.specs.Glue as glue
@@ -50,6 +49,8 @@ use Rattle.gluing_laws.specs.Codes.{arc_of_dart}
 use Rattle.orient_arcs.proofs.DartSmoothings.{dart_passes, passes_of-darts, dart_passes-below}
 use Rattle.diagram_moves.specs.Joinable.{IsJoinable}
 use Rattle.diagram_moves.proofs.Standing.{standing-count}
+use Rattle.gluing_laws.proofs.DartPairs.{arc_of-dart}
+use Rattle.kh_types.proofs.IntSums.{int_sum-range_agree}
 
 -- planarity depends on the partners below 4n alone
 
@@ -94,7 +95,7 @@ module _ (bound : ℕ) (strands : Parts) (is : IsJoinable bound strands) where
   twice = HasArcsTwice-directed new.crossings IsDirected-renumber
 
   pub partner-renumber : (x : ℕ) → x < 4 * length strands.crossings → partner_at (renumber strands).crossings x ≡ is.partner x
-  partner-renumber x below = grind (arith, nat_tests, AreAlike-renumber, partner_at-only, twice, arc_of_dart-arc_of)
+  partner-renumber x below = grind (arith, nat_tests, AreAlike-renumber, partner_at-only, twice, arc_of-dart)
 
   pub faces-renumber : face_count (renumber strands).crossings ≡ planar_face_count (renumber strands).crossings
   faces-renumber = grind (arith, nat_tests, AreAlike-renumber, IsPlanar-twice, twice, IsPlanar-alike, partner-renumber)
@@ -196,7 +197,7 @@ module _ (bound : ℕ) (strands : Parts) (is : IsJoinable bound strands) where
   state_sum-renumber exponent =
       let size : length (renumber strands).crossings ≡ length strands.crossings = AreAlike-renumber.size in
       ap (λ k. int_sum (map (state_term (renumber strands) exponent) (range_with_len 0 (2 ^ k)))) size
-      ∙ sums-alike (state_term (renumber strands) exponent) (parts_term bound strands exponent) 0 (2 ^ length strands.crossings)
+      ∙ int_sum-range_agree (state_term (renumber strands) exponent) (parts_term bound strands exponent) 0 (2 ^ length strands.crossings)
       (λ state from below.
       ap₂ (λ p m. term_of p m exponent (ones (length (renumber strands).crossings) state) (circle_count (renumber strands) state))
       plus-renumber minus-renumber

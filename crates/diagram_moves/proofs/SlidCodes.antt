@@ -33,9 +33,9 @@ use Rattle.kh_types.proofs.Lists.{count_by-map}
 use Rattle.face_walk.proofs.FewFaces.{IsPlanar-twice}
 use Rattle.kink_and_finger_laws.specs.DropCircles.{parts_circle_count, parts_plus, parts_minus, parts_term, parts_sum}
 use Rattle.kink_and_finger_laws.specs.DropComponents.{parts_component_count}
-use Rattle.kink_and_finger_laws.proofs.OldDarts.{arc_of_dart-arc_of, arc_of_dart-partner, arc_of_dart-below}
+use Rattle.kink_and_finger_laws.proofs.OldDarts.{arc_of_dart-partner, arc_of_dart-below}
 use Rattle.kink_and_finger_laws.proofs.KinkCircles.{before}
-use Rattle.kink_and_finger_laws.proofs.KinkDropSums.{count-later, sums-alike}
+use Rattle.kink_and_finger_laws.proofs.KinkDropSums.{count-later}
 use Rattle.kink_and_finger_laws.proofs.StandingNames.{IsOfNames-passes, IsOfNames-smoothings, standing-classes}
 use Rattle.slide_laws.specs.Slid.{slid, slid_code}
 use Rattle.slide_laws.specs.SlideCodes.{is_head_with, HasHeadsAndTails}
@@ -50,6 +50,8 @@ use Rattle.diagram_moves.specs.Joinable.{IsJoinable}
 use Rattle.diagram_moves.specs.Kept.{IsKeptCode, slid_parts}
 use Rattle.diagram_moves.proofs.Standing.{standing-count}
 use Rattle.diagram_moves.proofs.Numbered.{IsAccepted-renumber, components-renumber, sign-renumber, state_sum-renumber}
+use Rattle.gluing_laws.proofs.DartPairs.{arc_of-dart}
+use Rattle.kh_types.proofs.IntSums.{int_sum-range_agree}
 
 -- signs that stand in a list for those of a function of crossings
 abbrev AreSigns : List Bool → (ℕ → Bool) → ℕ → Type 0
@@ -63,12 +65,12 @@ HasTwoEnds-arcs crossings positive signs twice ends are =
     let head : (x : ℕ) → x < 4 * length crossings → is_head_at signs x ≡ is_head_with positive (dart_at x) =
     λ x below. ap (λ b. strand_enters b (x % 4)) (are (x / 4) (omega (arith, below))) in
     let arc : (x : ℕ) → x < 4 * length crossings → IsArc crossings (arc_of_dart crossings x) =
-    λ x below. subst (λ (a : ℕ). IsArc crossings a) (arc_of_dart-arc_of crossings x) (twice.slots (dart_at x) (IsDart-at crossings x below)) in
+    λ x below. subst (λ (a : ℕ). IsArc crossings a) (arc_of-dart crossings x) (twice.slots (dart_at x) (IsDart-at crossings x below)) in
     let own : (x : ℕ) → x < 4 * length crossings → IsDartOf crossings (arc_of_dart crossings x) (dart_at x) =
-    λ x below. record { within = IsDart-at crossings x below; on_arc = arc_of_dart-arc_of crossings x } in
+    λ x below. record { within = IsDart-at crossings x below; on_arc = arc_of-dart crossings x } in
     let of_name : (x y : ℕ) → y < 4 * length crossings → arc_of_dart crossings x ≡ arc_of_dart crossings y
     → IsDartOf crossings (arc_of_dart crossings x) (dart_at y) =
-    λ x y below same. record { within = IsDart-at crossings y below; on_arc = arc_of_dart-arc_of crossings y ∙ sym same } in
+    λ x y below same. record { within = IsDart-at crossings y below; on_arc = arc_of-dart crossings y ∙ sym same } in
     let back : (x y : ℕ) → dart_at x ≡ dart_at y → x ≡ y =
     λ x y same. sym (dart_place-at x) ∙ ap dart_place same ∙ dart_place-at y in
     record {
@@ -91,7 +93,7 @@ HasTwoEnds-arcs crossings positive signs twice ends are =
             y,
             y_below,
             head (dart_place one.0) y_below ∙ ap (is_head_with positive) at ∙ not-true (is_head_with positive one.0) one.1.kind_of,
-            sym (sym (arc_of_dart-arc_of crossings (dart_place one.0)) ∙ ap (arc_of crossings) at ∙ one.1.is.on_arc),
+            sym (sym (arc_of-dart crossings (dart_place one.0)) ∙ ap (arc_of crossings) at ∙ one.1.is.on_arc),
           );
       head_of = λ x below is_tail.
           let one = (ends (arc_of_dart crossings x) (arc x below)).0 in
@@ -101,7 +103,7 @@ HasTwoEnds-arcs crossings positive signs twice ends are =
             y,
             y_below,
             head (dart_place one.0) y_below ∙ ap (is_head_with positive) at ∙ one.1.kind_of,
-            sym (sym (arc_of_dart-arc_of crossings (dart_place one.0)) ∙ ap (arc_of crossings) at ∙ one.1.is.on_arc),
+            sym (sym (arc_of-dart crossings (dart_place one.0)) ∙ ap (arc_of crossings) at ∙ one.1.is.on_arc),
           );
     }
 
@@ -143,7 +145,7 @@ module _ (strands : Parts) (twice : HasArcsTwice strands.crossings)
       → parts_sum (arc_count strands.crossings + 1) strands exponent
       ≡ sum_with (parts_plus strands) (parts_minus strands) (record { crossings = strands.crossings; loops = strands.loops }) exponent
   own-sum exponent =
-      sums-alike (parts_term (arc_count strands.crossings + 1) strands exponent)
+      int_sum-range_agree (parts_term (arc_count strands.crossings + 1) strands exponent)
       (term_with (parts_plus strands) (parts_minus strands) (record { crossings = strands.crossings; loops = strands.loops }) exponent)
       0 (2 ^ length strands.crossings)
       (λ state from below.
@@ -185,7 +187,7 @@ IsKept-slid code x y z is triangle heights =
       size = length-map-range_with_len (positive_at code.crossings) 0 (length code.crossings) ∙ sym size;
       partner = partner_at new;
       planar = IsPlanarBy-arcs new twice (planar-slid code x y z is sides);
-      names = λ dart below. omega (arith, arc_of_dart-arc_of new dart, arc_of_dart-below new twice dart below);
+      names = λ dart below. omega (arith, arc_of-dart new dart, arc_of_dart-below new twice dart below);
     } in
     let components = own-components strands twice joinable in
     let kept = component_count-slid code.crossings x y z old_twice sides in

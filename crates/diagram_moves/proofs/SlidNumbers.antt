@@ -38,11 +38,12 @@ use Rattle.slide_laws.specs.Triangles.{IsTriangle}
 use Rattle.slide_laws.proofs.Corners.{four, at_places, on-below, on-on, on-zero, source-below, source-outside, source-rotated, source-x}
 use Rattle.slide_laws.proofs.Passes.{KeepsPass-slid, arc-behind, passes-arcs, respects-behind}
 use Rattle.slide_laws.proofs.Sides.{HasSides, HasSides-rotated, HasSides-triangle}
-use Rattle.slide_laws.proofs.SlidArcs.{arc_of-at, arc_of_dart-slid, length-slid}
+use Rattle.slide_laws.proofs.SlidArcs.{arc_of_dart-slid, length-slid}
 use Rattle.slide_laws.proofs.SlidHeads.{HasHeadsAndTails-slid}
 use Rattle.diagram_moves.specs.Kept.{slid_parts}
 use Rattle.diagram_moves.proofs.SlidCodes.{ArePaired-slid, signs-slid}
 use Rattle.gluing_laws.specs.Codes.{arc_of_dart}
+use Rattle.gluing_laws.proofs.DartPairs.{arc_of-dart}
 
 -- what is one at the two darts of each arc, and at opposite slots, is one at a dart and at its source
 
@@ -115,7 +116,7 @@ module _ (code : Code) (x y z : ℕ) (holds : IsTrue (accepted code)) (triangle 
 
   old-arc : (dart : ℕ) → dart < 4 * length code.crossings → IsArc code.crossings (arc_of_dart code.crossings dart)
   old-arc dart below =
-      subst (λ (a : ℕ). IsArc code.crossings a) (arc_of-at code.crossings dart) (twice.slots (dart_at dart) (IsDart-at code.crossings dart below))
+      subst (λ (a : ℕ). IsArc code.crossings a) (arc_of-dart code.crossings dart) (twice.slots (dart_at dart) (IsDart-at code.crossings dart below))
 
   new-arc : (dart : ℕ) → dart < 4 * length code.crossings → IsArc code.crossings (arc_of_dart (slid code.crossings x y z) dart)
   new-arc dart below = grind (arith, nat_tests, arc_of_dart-slid, old-arc, source-low)
@@ -132,8 +133,8 @@ module _ (code : Code) (x y z : ℕ) (holds : IsTrue (accepted code)) (triangle 
         across = λ place within. respects-behind (component code.crossings) code.crossings together place within;
         partners = λ place within.
             ap (component code.crossings)
-            (sym (arc_of-at code.crossings (partner_at code.crossings place))
-            ∙ (IsOtherPlace-partner_at code.crossings place twice within).same_arc ∙ arc_of-at code.crossings place);
+            (sym (arc_of-dart code.crossings (partner_at code.crossings place))
+            ∙ (IsOtherPlace-partner_at code.crossings place twice within).same_arc ∙ arc_of-dart code.crossings place);
       })
       sides dart
 
@@ -277,7 +278,7 @@ module _ (code : Code) (x y z : ℕ) (holds : IsTrue (accepted code)) (triangle 
             let other = arc_of_dart (slid code.crossings x y z) dart in
             let other_is = new-arc dart below in
             let old : arc_of_dart code.crossings (dart_place (head_of code.crossings arc)) ≡ arc =
-            sym (arc_of-at code.crossings dart) ∙ ap (arc_of code.crossings) (dart_at-place code.crossings head within) ∙ ends.head.on_arc in
+            sym (arc_of-dart code.crossings dart) ∙ ap (arc_of code.crossings) (dart_at-place code.crossings head within) ∙ ends.head.on_arc in
             let other_inside : component code.crossings (arc_of_dart (slid code.crossings x y z) (dart_place (head_of code.crossings arc))) ≡ first =
             same-component dart below ∙ ap (component code.crossings) old ∙ inside in
             let place = HasPlace-directed code.crossings directed other other_is in

@@ -12,9 +12,9 @@ use Rattle.gluing_laws.specs.Arcs.{arc_by_place, enters}
 use Rattle.kink_and_finger_laws.specs.Drops.{stands_in}
 use Rattle.kink_and_finger_laws.proofs.StandingNames.{stands-none, stands-some}
 use Rattle.orient_arcs.specs.Alike.{HasNamesBelow}
-use Rattle.kink_and_finger_laws.proofs.OldDarts.{arc_of_dart-arc_of}
 use Rattle.code_passes.specs.Parts.{ArePaired}
 use Rattle.kink_and_finger_laws.proofs.TwoEnds.{is_head_at, HasTwoEnds-paired, is_head_of, head-of, of-head, count-darts, count-some, head-at, name-at}
+use Rattle.gluing_laws.proofs.DartPairs.{arc_of-dart}
 
 -- two darts of each crossing are heads
 heads-all : (signs : List Bool) (a n : ℕ) → count_by (is_head_at signs) (range_with_len (4 * a) (4 * n)) ≡ 2 * n
@@ -83,7 +83,7 @@ module _ (bound : ℕ) (strands : Parts) (paired : ArePaired strands) (names : H
       }) in
       let many = count_by-one_to_one (is_head_at strands.positive) (stands_in strands.crossings) (arc_of_dart strands.crossings) (4 * length strands.crossings) bound
       (record {
-        below = λ x below head. omega (arith, arc_of_dart-arc_of strands.crossings x, names x below);
+        below = λ x below head. omega (arith, arc_of-dart strands.crossings x, names x below);
         passes = λ x below head. stands-at strands.crossings (x / 4) (x % 4) (omega (arith, below)) (omega arith);
         apart = λ x y x_below y_below x_head y_head same. (HasTwoEnds-paired strands paired).one_head x y x_below y_below x_head y_head same;
       }) in

@@ -23,7 +23,7 @@ use Rattle.kink_and_finger_laws.specs.KinkCodes.{one_where}
 use Rattle.kink_and_finger_laws.specs.Pulls.{early, late}
 use Rattle.kink_and_finger_laws.proofs.FingeredCodes.{AreFingerable-accepted, minus_count-fingered, plus_count-fingered}
 use Rattle.kink_and_finger_laws.proofs.FingerDrops.{places-two}
-use Rattle.kink_and_finger_laws.proofs.FingerDropSums.{HasBigonAt-slots, bigon-signs, plus-kept_two}
+use Rattle.kink_and_finger_laws.proofs.FingerDropSums.{HasBigonAt-slots, bigon-signs, plus-kept_two, one_of_two}
 use Rattle.kink_and_finger_laws.proofs.KinkCircles.{kept_are}
 use Rattle.kink_and_finger_laws.proofs.KinkDropSums.{count-later, plus-kept}
 use Rattle.kh_types.specs.Bits.{one_if}
@@ -111,9 +111,6 @@ writhe-kink_dropped code crossing holds none =
     (omega (arith, all, plus)) size (omega (arith, few, new_size))
     ∙ ap (λ k. writhe code +ℤ neg_ℤ (sign_of code.crossings k)) back
 
-one_of_both : (b : Bool) → one_if b + one_if (not b) ≡ 1
-one_of_both b = grind (arith, nat_tests)
-
 writhe-finger_dropped : (code : Code) (first second : ℕ) → IsTrue (accepted code) → finger_drop_fault code first second ≡ None
     → writhe (renumber (without_finger code (place_of first) (place_of second))) ≡ writhe code +ℤ pos 0
 writhe-finger_dropped code first second holds none =
@@ -138,7 +135,7 @@ writhe-finger_dropped code first second holds none =
     let sign = bigon-signs code c d p q directed.0 directed.1 bigon (omega arith) (omega arith) in
     let both : one_if (positive_at code.crossings (place_of first)) + one_if (positive_at code.crossings (place_of second)) ≡ 1 =
     ap (λ b. one_if (positive_at code.crossings (place_of first)) + one_if b) sign
-    ∙ one_of_both (positive_at code.crossings (place_of first)) in
+    ∙ one_of_two (positive_at code.crossings (place_of first)) in
     let few = plus_count-le (renumber (without_finger code (place_of first) (place_of second))).crossings in
     let new_size = kept.size in
     let plus_is : plus_count (renumber (without_finger code (place_of first) (place_of second))).crossings + 1

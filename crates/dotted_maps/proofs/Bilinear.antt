@@ -9,7 +9,7 @@ use Rattle.std.specs.List.{sum_by, AllByRecursion}
 use Rattle.std.proofs.lemmas.Bool.Decides.{nat_tests}
 use Rattle.std.proofs.lemmas.List.Sums.{sum_by-cons}
 use Rattle.kh_types.specs.Products.{sum_below}
-use Rattle.kh_types.proofs.Sums.{sum_below-equal, sum_below-add, sum_below-scaled, sum_below-zeros}
+use Rattle.kh_types.proofs.Sums.{sum_below-equal, sum_below-add, sum_below-scaled, sum_below-zeros, zero-times}
 use Rattle.kh_types.proofs.ListSums.{sum_by-alike, sum_by-plus, sum_by-times, sum_by-zeros}
 use Rattle.dotted_maps.specs.Maps.{coefficient_in}
 use Rattle.dotted_maps.specs.declared.term.Term.{Term}
@@ -116,21 +116,18 @@ next k j c = grind (arith, nat_tests)
 only-first : (c : ℕ) → cond (nat_eq 0 0) c 0 ≡ c
 only-first c = grind (arith, nat_tests)
 
-times-none : (x e : ℕ) → x ≡ 0 → x * e ≡ 0
-times-none x e none = ap (λ z. z * e) none ∙ omega arith
-
 pub sum_below-one : (n k c : ℕ) (e : ℕ → ℕ) → k < n → sum_below n (λ j. cond (nat_eq k j) c 0 * e j) ≡ c * e k
 sum_below-one zero k c e below = absurd (omega (arith, below))
 sum_below-one (suc n) zero c e below =
     let first = ap (λ z. z * e 0) (only-first c) in
     let rest = sum_below-zeros n (λ j. cond (nat_eq 0 (suc j)) c 0 * e (suc j))
-    (λ j. times-none (cond (nat_eq 0 (suc j)) c 0) (e (suc j)) (none-later j c)) in
+    (λ j. zero-times (cond (nat_eq 0 (suc j)) c 0) (e (suc j)) (none-later j c)) in
     ap₂ (λ x y. x + y) first rest ∙ plus_zero (c * e 0)
   where
     plus_zero : (x : ℕ) → x + 0 ≡ x
     plus_zero x = omega arith
 sum_below-one (suc n) (suc k) c e below =
-    ap₂ (λ x y. x + y) (times-none (cond (nat_eq (suc k) 0) c 0) (e 0) (none-first k c))
+    ap₂ (λ x y. x + y) (zero-times (cond (nat_eq (suc k) 0) c 0) (e 0) (none-first k c))
     (sum_below-equal n (λ j. cond (nat_eq (suc k) (suc j)) c 0 * e (suc j)) (λ j. cond (nat_eq k j) c 0 * e (suc j))
     (λ j. ap (λ z. z * e (suc j)) (next k j c))
     ∙ sum_below-one n k c (λ j. e (suc j)) (omega (arith, below)))

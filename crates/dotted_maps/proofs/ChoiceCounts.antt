@@ -8,17 +8,17 @@ use Rattle.std.proofs.Common.{◌≡◌, ◌≢◌, ℕ, zero, suc, ◌⊎◌, i
 use Rattle.std.specs.Prelude.{nat_eq}
 use Rattle.std.specs.List.{list_all, count_by, sum_by, enumerate_from, AllByRecursion, Contains}
 use Rattle.std.proofs.Math.Nat.{pow-suc}
-use Rattle.std.proofs.lemmas.Bool.{cases_eq}
+use Rattle.std.proofs.lemmas.Bool.{cases_eq, ne_eqb}
 use Rattle.std.proofs.lemmas.Bool.Decides.{nat_tests}
 use Rattle.std.proofs.lemmas.Nat.{shr-shr}
 use Rattle.std.proofs.lemmas.List.Sums.{sum_by-cons, sum_by-append}
 use Rattle.kh_types.specs.Bits.{bit}
 use Rattle.kh_types.proofs.ListSums.{sum_by-map, sum_by-alike, sum_by-zeros}
 use Rattle.kh_types.proofs.Lists.{AllByRecursion-append}
-use Rattle.surface_laws.proofs.Projected.{nat_eq-iff}
 use Rattle.surface_laws.proofs.TwoSides.{AllByRecursion-map}
 use Rattle.surface_laws.proofs.Components.{AllByRecursion-weaker}
 use Rattle.dotted_maps.specs.Choices.{choices, fewer}
+use Rattle.kh_types.proofs.Tests.{nat_eq-turned, nat_eq-iff}
 
 -- how many of the discs of a component are not dotted
 abbrev pub zeros : List ℕ → ℕ → ℕ → ℕ
@@ -48,12 +48,6 @@ not-all p (y ∷ xs) x (suc k, below, is) fails =
     and-false true = refl
     and-false false = refl
 
-apart-test : (x y : ℕ) → x ≢ y → nat_eq x y ≡ false
-apart-test x y apart = grind (arith, nat_tests)
-
-swapped-test : (x y : ℕ) → nat_eq x y ≡ nat_eq y x
-swapped-test x y = grind (arith, nat_tests)
-
 halved : (s : ℕ) → (s ≡ 2 * (s / 2)) ⊎ (s ≡ 1 + 2 * (s / 2))
 halved s = elim (cases_eq (s % 2) 0) [ inl even ↦ inl (omega (arith, even)) | inr odd ↦ inr (omega (arith, odd)) ]
 
@@ -75,7 +69,7 @@ count-odd_none : (s : ℕ) (xs : List ℕ) → s ≡ 2 * (s / 2) → count_by (n
 count-odd_none s xs even =
     sum_by-map (is_one s) (λ x. 1 + 2 * x) xs
     ∙ sum_by-zeros (λ x. is_one s (1 + 2 * x)) xs
-    (λ x. ap one_if (apart-test s (1 + 2 * x) (λ same. absurd (omega (arith, even, same)))))
+    (λ x. ap one_if (ne_eqb s (1 + 2 * x) (λ same. absurd (omega (arith, even, same)))))
 
 count-even : (s : ℕ) (xs : List ℕ) → s ≡ 2 * (s / 2) → count_by (nat_eq s) (map (λ x. 2 * x) xs) ≡ count_by (nat_eq (s / 2)) xs
 count-even s xs even =
@@ -87,7 +81,7 @@ count-even_none : (s : ℕ) (xs : List ℕ) → s ≡ 1 + 2 * (s / 2) → count_
 count-even_none s xs odd =
     sum_by-map (is_one s) (λ x. 2 * x) xs
     ∙ sum_by-zeros (λ x. is_one s (2 * x)) xs
-    (λ x. ap one_if (apart-test s (2 * x) (λ same. absurd (omega (arith, odd, same)))))
+    (λ x. ap one_if (ne_eqb s (2 * x) (λ same. absurd (omega (arith, odd, same)))))
 
 -- with no disc left
 none-left : (b : Bool) (s : ℕ) → s ≡ 0 → count_by (nat_eq s) (cond b (0 ∷ []) []) ≡ one_if b
@@ -140,7 +134,7 @@ even-step names k ks left s even has later =
           ∙ ap one_if (sym (not-all (λ c. nat_eq (zeros (k ∷ ks) c s) (left c)) names k has
           (even-more k (bit s 0) (zeros ks k (s / 2)) (left k) (even-bit s even) none)))
       | inr some ↦
-          ap (λ b. count_by (nat_eq s) (even_part names k ks left b)) (apart-test (left k) 0 some)
+          ap (λ b. count_by (nat_eq s) (even_part names k ks left b)) (ne_eqb (left k) 0 some)
           ∙ count-even s (choices names ks (fewer k left)) even ∙ later
           ∙ ap one_if (sym (all-alike (λ c. nat_eq (zeros (k ∷ ks) c s) (left c))
           (λ c. nat_eq (zeros ks c (s / 2)) (fewer k left c)) names
@@ -154,7 +148,7 @@ pub choices-counted : (names ks : List ℕ) (left : ℕ → ℕ) (s : ℕ) → A
     → Chosen names ks left s
 choices-counted names [] left s there below =
     none-left (list_all (λ k. nat_eq (left k) 0) names) s (omega (arith, below))
-    ∙ ap one_if (all-alike (λ k. nat_eq (left k) 0) (λ k. nat_eq 0 (left k)) names (λ k. swapped-test (left k) 0))
+    ∙ ap one_if (all-alike (λ k. nat_eq (left k) 0) (λ k. nat_eq 0 (left k)) names (λ k. nat_eq-turned (left k) 0))
 choices-counted names (k ∷ ks) left s there below =
     let half : s / 2 < 2 ^ length ks = omega (arith, below, pow-suc 2 (length ks)) in
     elim (halved s) [

@@ -3,7 +3,7 @@
 -- 1. First, a product over distinct numbers is one over all numbers below a bound, with 1 for the others. Then the surface of a
 -- composition has the components that are listed by their least arcs; on each of them its faces and marks are the discs and dots
 -- of the three pairings, so that its factor is the part. The listed arcs are distinct, as no arc is at two ends of a pairing.
-use Rattle.std.proofs.Common.{◌≡◌, ℕ, inl, inr, ◌+◌, ◌-◌, ◌*◌, ◌/◌, ◌<◌, ◌≤◌, ◌∙◌, List, [], ◌∷◌, ◌++◌, refl, sym, ap, ap₂, arith, Bool, true, false, cond, ◌||◌}
+use Rattle.std.proofs.Common.{◌≡◌, ℕ, inl, inr, ◌+◌, ◌-◌, ◌*◌, ◌/◌, ◌<◌, ◌≤◌, ◌∙◌, List, [], ◌∷◌, ◌++◌, refl, ap, ap₂, arith, Bool, true, false, cond, ◌||◌}
 use Rattle.std.specs.Prelude.{nat_eq, slice_index}
 use Rattle.std.specs.List.{filter, list_any, enumerate_from, sum_by, count_by, AllByRecursion, Contains}
 use Rattle.std.proofs.lemmas.Bool.{cases_Bool, eqb-true}
@@ -22,6 +22,7 @@ use Rattle.dotted_maps.specs.Composition.{composed, composed_faces}
 use Rattle.dotted_maps.specs.Parts.{components, component_in, how_many, dotted_on, undotted_on, genus_in, part_coefficient, product_over, part_at}
 use Rattle.dotted_maps.proofs.LeastPoints.{AreJoins, AreAmong-append, class-named, least-contained, AllByRecursion-filter}
 use Rattle.dotted_maps.proofs.Sheets.{faces-at, places-three, places-marked, places-marked_else}
+use Rattle.kh_types.proofs.Tests.{agree}
 
 -- a product over distinct numbers below n is one over all numbers below n
 
@@ -107,11 +108,6 @@ distinct-filter p xs distinct x =
 abbrev pub inside_of : Points → List (ℕ × ℕ) → List (ℕ × ℕ) → List (ℕ × ℕ) → ℕ → ℕ → ℕ → Surface
 inside_of points m n o dots others kept = sheet (inner points) m o n (composed_faces points m n o dots others kept)
 
-some-there : (a b : Bool) → (a ≡ true → b ≡ true) → (b ≡ true → a ≡ true) → a ≡ b
-some-there true b onward back = sym (onward refl)
-some-there false true onward back = back refl
-some-there false false onward back = refl
-
 least-kept : (classes : List ℕ) (xs : List ℕ) → AllByRecursion (λ x. is_least classes x ≡ true) (filter (is_least classes) xs)
 least-kept classes [] = tt
 least-kept classes (x ∷ xs) =
@@ -126,7 +122,7 @@ same-components : (points : Points) (m n o : List (ℕ × ℕ)) (dots others kep
 same-components points m n o dots others kept k joined =
     let classes = classes_of points.size (m ++ (o ++ n)) in
     let names = components points m n o in
-    some-there (list_any (λ x. nat_eq (slice_index classes x) k) points.opened) (is_in names k)
+    agree (list_any (λ x. nat_eq (slice_index classes x) k) points.opened) (is_in names k)
     (λ is.
     let found = list_any-some (λ x. nat_eq (slice_index classes x) k) points.opened is in
     list_any-contained (λ x. nat_eq x k) names (slice_index classes found.0)

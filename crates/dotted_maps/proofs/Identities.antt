@@ -33,6 +33,7 @@ use Rattle.dotted_maps.proofs.LeastPoints.{AreJoins, AreAmong-append, joins-belo
 use Rattle.dotted_maps.proofs.Sheets.{faces-at, places-term, pairing-alive, sheet-among}
 use Rattle.dotted_maps.proofs.Composed.{closed-term}
 use Rattle.dotted_maps.proofs.Pairs.{pairs-counted}
+use Rattle.kh_types.proofs.BitLemmas.{bit-below}
 
 -- a sum by which one element counts
 
@@ -157,7 +158,7 @@ respects-on points m w k is =
     (AllByRecursion-first (λ pair. component_of surface pair.0 ≡ component_of surface pair.1) m (m ++ w)
     (classes-together points.size (m ++ (m ++ w)) below))
 
-opened-below : (points : Points) → ArePlaced points → AllByRecursion (λ x. x < points.size) points.opened
+pub opened-below : (points : Points) → ArePlaced points → AllByRecursion (λ x. x < points.size) points.opened
 opened-below points placed =
     AllByRecursion-weaker (λ x. Contains points.alive x) (λ x. x < points.size) points.opened
     (λ x has. AllByRecursion-at (λ y. y < points.size) points.alive x placed.alive has) placed.opened
@@ -278,9 +279,6 @@ other-marks (suc zero) (suc zero) n b_below d_below apart is = absurd (apart ref
 other-marks (suc (suc b)) d n b_below d_below apart is = absurd (omega (arith, b_below))
 other-marks zero (suc (suc d)) n b_below d_below apart is = absurd (omega (arith, d_below))
 other-marks (suc zero) (suc (suc d)) n b_below d_below apart is = absurd (omega (arith, d_below))
-
-bit-below : (n k : ℕ) → bit n k < 2
-bit-below n k = omega arith
 
 agree-one : (points : Points) (m w : List (ℕ × ℕ)) (label k : ℕ) → IsItself points m w
     → factor (itself_at points m w label label) k ≡ 1

@@ -117,7 +117,7 @@ product-tests p (x ∷ xs) = ap (λ z. one_if (p x) * z) (product-tests p xs) �
     both false true = refl
     both false false = refl
 
-product-alike : (f g : ℕ → ℕ) (xs : List ℕ) → ((x : ℕ) → f x ≡ g x) → product_over f xs ≡ product_over g xs
+pub product-alike : (f g : ℕ → ℕ) (xs : List ℕ) → ((x : ℕ) → f x ≡ g x) → product_over f xs ≡ product_over g xs
 product-alike f g [] alike = refl
 product-alike f g (x ∷ xs) alike = ap₂ (λ a b. a * b) (alike x) (product-alike f g xs alike)
 
@@ -152,7 +152,7 @@ places-named points m n o is =
     (λ x has. class-named points.size points.opened (m ++ (o ++ n)) x (opened-joins points m n o is) has)
     (least-contained points.size points.opened (m ++ o)))
 
-whole-number : (n : ℕ) → n / 2 ^ 0 ≡ n
+pub whole-number : (n : ℕ) → n / 2 ^ 0 ≡ n
 whole-number n = omega arith
 
 composed-chosen : (points : Points) (m n o : List (ℕ × ℕ)) (dots others kept : ℕ) → AreListed points m n o

@@ -18,7 +18,7 @@ use Rattle.dotted_maps.specs.declared.term.Term.{Term}
 use Rattle.dotted_maps.proofs.Composed.{AreComposed, composed-sums}
 use Rattle.dotted_maps.proofs.Bilinear.{sums-multiply, sum-terms}
 
-below-same : (p n : ℕ) (f g : ℕ → ℕ) → ((k : ℕ) → k < n → Same p (f k) (g k)) → Same p (sum_below n f) (sum_below n g)
+pub below-same : (p n : ℕ) (f g : ℕ → ℕ) → ((k : ℕ) → k < n → Same p (f k) (g k)) → Same p (sum_below n f) (sum_below n g)
 below-same p zero f g same = refl
 below-same p (suc n) f g same =
     same-add p (f 0) (g 0) (sum_below n (λ k. f (suc k))) (sum_below n (λ k. g (suc k))) (same 0 (omega arith))
@@ -57,10 +57,10 @@ all-below n f is a (suc k) fits = (omega (arith, is a, fits), all-below n f is (
 abbrev term_at : ℕ → (ℕ → ℕ) → ℕ → Term
 term_at p f kept = record { dots = kept; coefficient = f kept % p }
 
-here-only : (k x c : ℕ) → x ≢ k → cond (nat_eq x k) c 0 ≡ 0
+pub here-only : (k x c : ℕ) → x ≢ k → cond (nat_eq x k) c 0 ≡ 0
 here-only k x c apart = grind (arith, nat_tests)
 
-here-is : (k c : ℕ) → cond (nat_eq k k) c 0 ≡ c
+pub here-is : (k c : ℕ) → cond (nat_eq k k) c 0 ≡ c
 here-is k c = grind (arith, nat_tests)
 
 coefficient-made : (p n : ℕ) (f : ℕ → ℕ) (kept : ℕ) → kept < n

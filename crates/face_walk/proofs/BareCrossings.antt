@@ -13,8 +13,9 @@ use Rattle.kh_types.proofs.JoinedClasses.{classes_of-same, slice_index-range}
 use Rattle.kh_types.proofs.Lists.{filter-range_agree, filter-range_all}
 use Rattle.kh_types.proofs.Ranges.{count_by-range_more}
 use Rattle.face_walk.specs.AddedArcs.{bare, is_open, open_dart_count, open_face_count, open_piece_count}
-use Rattle.face_walk.proofs.OpenFaces.{turned-below, turned-crossing, AreCycles-open_faces, piece_pairs-below}
+use Rattle.face_walk.proofs.OpenFaces.{turned-below, AreCycles-open_faces, piece_pairs-below}
 use Rattle.kh_types.proofs.RangeImages.{all-map_range}
+use Rattle.kh_types.proofs.DartLemmas.{turned-crossing}
 
 pub IsPairing-bare : (m : ℕ) → IsPairing m bare
 IsPairing-bare m = record { below = λ x below. below; back = λ x below. refl }

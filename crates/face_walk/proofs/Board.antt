@@ -11,7 +11,8 @@ use Rattle.kh_types.specs.Checkerboard.{solves_at, IsCheckerboard}
 use Rattle.kh_types.proofs.RangeCounts.{list_all-each}
 use Rattle.kh_types.proofs.DartPairs.{IsPairing-partner_at, IsDartOf-first_dart, partner-is, dart_place-below}
 use Rattle.face_walk.proofs.PlainCounts.{counted, with_bits, with_bits-below, bit-with_bits}
-use Rattle.face_walk.proofs.Cover.{AreOneOfTwo, piece_above, piece_above-two, pieces-ends, pieces_above-ends, sheets-apart}
+use Rattle.face_walk.proofs.Cover.{AreOneOfTwo, piece_above, piece_above-two, pieces_above-ends, sheets-apart}
+use Rattle.face_walk.proofs.OpenFaces.{open_pieces-ends}
 
 -- whether a crossing lies on the other sheet than the least of its piece
 abbrev pub is_other_sheet : ℕ → (ℕ → ℕ) → ℕ → Bool
@@ -51,7 +52,7 @@ IsCheckerboard-planar crossings twice planar =
           let c_bit = ap (λ k. bit choice k) c_is ∙ bit-with_bits is_other n (x / 4) (omega (arith, x_below)) in
           let d_bit = ap (λ k. bit choice k) d_is ∙ bit-with_bits is_other n (y / 4) (omega (arith, y_below)) in
           let first = slice_index (open_pieces n p) (x / 4) in
-          let one_piece = pieces-ends n p x pairing x_below in
+          let one_piece = open_pieces-ends n p x pairing x_below in
           let y_two = subst (λ (f : ℕ). AreOneOfTwo (piece_above n p (y / 4) 0) (piece_above n p (y / 4) 1) (piece_above n p f 0) (piece_above n p f 1))
           (sym one_piece) (piece_above-two n p (y / 4) pairing (omega (arith, y_below))) in
           let x_two = piece_above-two n p (x / 4) pairing (omega (arith, x_below)) in

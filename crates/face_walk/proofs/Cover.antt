@@ -13,11 +13,11 @@ use Rattle.std.proofs.lemmas.Bool.Decides.{nat_tests}
 use Rattle.kh_types.specs.Classes.{class_count, is_least}
 use Rattle.kh_types.specs.Darts.{IsPairing, face_step, turned}
 use Rattle.kh_types.specs.Faces.{open_faces, open_pieces, piece_pair}
-use Rattle.kh_types.proofs.ClassLemmas.{classes-together, classes-finest}
+use Rattle.kh_types.proofs.ClassLemmas.{classes-finest}
 use Rattle.kh_types.proofs.RangeCounts.{but, count_by-but}
 use Rattle.face_walk.specs.AddedArcs.{open_face_count, open_piece_count}
-use Rattle.kh_types.proofs.RangeImages.{all-map_range, map_range-at}
-use Rattle.face_walk.proofs.OpenFaces.{AreCycles-open_faces, IsNamed-open_pieces, piece_pairs-below}
+use Rattle.kh_types.proofs.RangeImages.{all-map_range}
+use Rattle.face_walk.proofs.OpenFaces.{AreCycles-open_faces, IsNamed-open_pieces, piece_pairs-below, open_pieces-ends}
 use Rattle.face_walk.proofs.PartArcs.{planar-bound}
 use Rattle.face_walk.proofs.PlainCounts.{count_by-one_to_one, count_by-halves}
 
@@ -145,15 +145,6 @@ faces-doubled n p pairing =
 
 -- each piece has at most two above it
 
--- two arcs above an arc: the crossings above its ends, on one sheet, and on the other
-pub pieces-ends : (n : ℕ) (p : ℕ → ℕ) (x : ℕ) → IsPairing (4 * n) p → x < 4 * n
-    → slice_index (open_pieces n p) (x / 4) ≡ slice_index (open_pieces n p) (p x / 4)
-pieces-ends n p x pairing below =
-    let pieces = open_pieces n p in
-    map_range-at (λ (pair : ℕ × ℕ). slice_index pieces pair.0 ≡ slice_index pieces pair.1) (piece_pair p) 0 (4 * n) x
-    (classes-together n (map (piece_pair p) (range_with_len 0 (4 * n))) (piece_pairs-below n p pairing))
-    (omega arith) (omega (arith, below))
-
 -- the piece of the crossing on a sheet above a crossing
 abbrev pub piece_above : ℕ → (ℕ → ℕ) → ℕ → ℕ → ℕ
 piece_above n p c s = slice_index (open_pieces (2 * n) (cover p)) (2 * c + s)
@@ -176,7 +167,7 @@ pieces_above-ends n p x s pairing below s_below =
     ap (λ b. lift b ((sheet y + y % 4 + p (base y) % 4 + 1) % 2) / 4) (ap p at) ∙ ap (λ b. lift (p x) b / 4) t
     ∙ crossing-lift (p x) (sheet_behind p x s) (two-below (s + x % 4 + p x % 4 + 1)) in
     ap (λ b. slice_index pieces b) (sym (crossing-lift x s s_below))
-    ∙ pieces-ends (2 * n) (cover p) y (IsPairing-cover n p pairing) (lift-below n x s below s_below)
+    ∙ open_pieces-ends (2 * n) (cover p) y (IsPairing-cover n p pairing) (lift-below n x s below s_below)
     ∙ ap (λ b. slice_index pieces b) there
 
 -- the pieces above a crossing are those above the least crossing of its piece, on the same sheets or the other way round

@@ -12,8 +12,8 @@ use Rattle.kh_types.specs.Acceptance.{accepted}
 use Rattle.kh_types.specs.Classes.{IsNamed}
 use Rattle.kh_types.specs.Code.{Code}
 use Rattle.kh_types.specs.Darts.{IsDart, IsPairing, dart_at, dart_place, darts, partner_at, face_step}
-use Rattle.kh_types.specs.Faces.{faces_of, face_count, pieces_of, planar_face_count}
-use Rattle.kh_types.proofs.AcceptedLemmas.{IsAccepted-is, HasArcsTwice-accepted}
+use Rattle.kh_types.specs.Faces.{faces_of, face_count, pieces_of}
+use Rattle.kh_types.proofs.AcceptedLemmas.{HasArcsTwice-accepted}
 use Rattle.kh_types.proofs.DartPairs.{IsPairing-partner_at, IsDart-at, dart_place-at, dart_at-place, dart_place-below}
 use Rattle.kh_types.proofs.Lists.{count_by-map}
 use Rattle.kh_types.proofs.WalkLemmas.{AreCycles}
@@ -50,10 +50,6 @@ IsNamed-faces code classes is same = grind (arith, nat_tests, IsNamed-faces_of)
 pub IsNamed-pieces : (code : Code) (classes : List ℕ) → IsTrue (accepted code) → classes ≡ pieces_of code.crossings
     → IsNamed (length classes) classes
 IsNamed-pieces code classes is same = grind (arith, nat_tests, IsNamed-pieces_of)
-
--- the faces of an accepted code are those of a drawing on the sphere
-pub sphere_faces : (code : Code) → IsTrue (accepted code) → face_count code.crossings ≡ planar_face_count code.crossings
-sphere_faces code is = ((IsAccepted-is code).0 is).faces
 
 -- the numbers of the faces of all darts are those of their places
 pub face_numbers-classes : (crossings : List (List ℕ)) → length (faces_of crossings) ≡ 4 * length crossings

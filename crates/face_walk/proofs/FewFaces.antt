@@ -34,14 +34,14 @@ genus_fault-fewer crossings twice = grind (arith, nat_tests, genus_fault-none, f
 
 -- an accepted code
 
-pub face_count-accepted : (code : Code) → IsTrue (accepted code) → face_count code.crossings ≡ planar_face_count code.crossings
-face_count-accepted code is = ((IsAccepted-is code).0 is).faces
+pub sphere_faces : (code : Code) → IsTrue (accepted code) → face_count code.crossings ≡ planar_face_count code.crossings
+sphere_faces code is = ((IsAccepted-is code).0 is).faces
 
 pub IsPlanar-accepted : (code : Code) → IsTrue (accepted code) → IsPlanar (length code.crossings) (partner_at code.crossings)
-IsPlanar-accepted code is = (IsPlanar-twice code.crossings (HasArcsTwice-accepted code is)).1 (face_count-accepted code is)
+IsPlanar-accepted code is = (IsPlanar-twice code.crossings (HasArcsTwice-accepted code is)).1 (sphere_faces code is)
 
 -- has as many faces as any code of as many crossings in as many pieces
 pub face_count-most : (code : Code) (others : List (List ℕ)) → IsTrue (accepted code) → HasArcsTwice others
     → length others ≡ length code.crossings → piece_count others ≡ piece_count code.crossings
     → face_count others ≤ face_count code.crossings
-face_count-most code others is twice crossings pieces = grind (arith, nat_tests, face_count-le, face_count-accepted)
+face_count-most code others is twice crossings pieces = grind (arith, nat_tests, face_count-le, sphere_faces)

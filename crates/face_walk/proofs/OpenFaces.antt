@@ -12,6 +12,7 @@ use Rattle.kh_types.proofs.WalkLemmas.{AreCycles}
 use Rattle.kh_types.specs.Permutations.{IsPermutation}
 use Rattle.kh_types.proofs.Cycles.{AreCycles-cycles_of}
 use Rattle.kh_types.proofs.RangeImages.{all-map_range, map_range-at}
+use Rattle.kh_types.proofs.DartLemmas.{turned-crossing}
 
 -- the place of the dart at the slot behind, and the way back from a face step
 abbrev pub turned_back : ℕ → ℕ
@@ -31,10 +32,6 @@ turned_back-below n place below = omega (arith, below)
 
 pub turned-below : (n place : ℕ) → place < 4 * n → turned place < 4 * n
 turned-below n place below = omega (arith, below)
-
--- a turn stays at its crossing
-pub turned-crossing : (place : ℕ) → turned place / 4 ≡ place / 4
-turned-crossing place = omega arith
 
 pub crossing-below : (n place : ℕ) → place < 4 * n → place / 4 < n
 crossing-below n place below = omega (arith, below)
@@ -64,7 +61,7 @@ IsNamed-open_pieces n partner pairing =
     IsNamed-classes_of n (map (piece_pair partner) (range_with_len 0 (4 * n))) (piece_pairs-below n partner pairing)
 
 -- the two ends of an arc are in one piece
-open_pieces-ends : (n : ℕ) (partner : ℕ → ℕ) (x : ℕ) → IsPairing (4 * n) partner → x < 4 * n
+pub open_pieces-ends : (n : ℕ) (partner : ℕ → ℕ) (x : ℕ) → IsPairing (4 * n) partner → x < 4 * n
     → slice_index (open_pieces n partner) (x / 4) ≡ slice_index (open_pieces n partner) (partner x / 4)
 open_pieces-ends n partner x pairing below =
     let pieces = open_pieces n partner in

@@ -34,7 +34,7 @@ impl Model for Faces {
 
 impl Faces {
     /// The number of faces, which is n + 2k for n crossings in k connected pieces.
-    #[tactic(auto, using(crate::proofs::FaceLemmas::sphere_faces))]
+    #[tactic(auto, using(crate::proofs::FewFaces::sphere_faces))]
     pub fn count(&self) -> u8
         ensures count { result ≡ face_count self.now.crossings }
         ensures sphere { result ≡ planar_face_count self.now.crossings }

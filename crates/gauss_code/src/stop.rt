@@ -9,7 +9,7 @@ use std::alloc::{AllocError, AllocFailed};
 
 /// Why no code was read from a text: the first fault of the bytes, else the first of the grammar,
 /// else the first of the others in this order, signs behind labels. A place is that of a byte,
-/// counted from 0, or the number of bytes where the text ends too early. This project's rule.
+/// counted from 0, or the number of bytes where the text ends too early.
 #[derive(Clone, Copy, Debug, PartialEq, Eq)]
 pub enum GaussStop {
     /// The byte at `place` begins no token, or no text of the grammar has the token there, or the

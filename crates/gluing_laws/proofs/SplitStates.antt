@@ -3,7 +3,7 @@
 -- To add up f over all states by the bits at three places, a function takes at each state with zeros there the sum of the eight values
 -- around it, and 0 at all others. One place at a time: the values at a number with 0 there and at the one with 1 there are added at the
 -- first. Three such steps give sums of eight, so that two functions whose eights have one sum have one sum over all states.
-use Rattle.std.proofs.Common.{◌≡◌, ◌≢◌, ℕ, zero, suc, ◌⊎◌, inl, inr, ◌+◌, ◌^◌, ◌<◌, ◌≤◌, ◌∙◌, ℤ, pos, ◌+ℤ◌, sym, refl, map, ap, ap₂, arith, Bool, cond}
+use Rattle.std.proofs.Common.{◌≡◌, ◌≢◌, ℕ, zero, suc, inl, inr, ◌+◌, ◌^◌, ◌<◌, ◌≤◌, ◌∙◌, ℤ, pos, ◌+ℤ◌, sym, refl, map, ap, ap₂, arith, Bool, cond}
 use Rattle.std.specs.Prelude.{nat_eq}
 use Rattle.std.specs.List.{range_with_len}
 use Rattle.std.proofs.Math.Nat.{pow-suc}
@@ -17,6 +17,7 @@ use Rattle.kh_types.proofs.JointNumbers.{bit-highest, bit-lower}
 use Rattle.kh_types.proofs.IntSums.{int_sum-range_agree}
 use Rattle.gluing_laws.proofs.KinkSums.{int_sum-doubled}
 use Rattle.gluing_laws.proofs.CodeCircles.{bit-above}
+use Rattle.gluing_laws.proofs.Stubs.{last_or_before}
 
 -- the sum of a function's values at a number with 0 at a place, and with 1 there; and nothing at the numbers with 1
 abbrev pub by_bit : ℕ → (ℕ → ℤ) → ℕ → ℤ
@@ -37,9 +38,6 @@ unfolding sums_over
 doubled f g n pairs =
     let e : 2 ^ suc n ≡ 2 ^ n + 2 ^ n = pow-suc 2 n ∙ omega arith in
     ap (λ k. int_sum (map f (range_with_len 0 k))) e ∙ int_sum-doubled g f (2 ^ n) pairs
-
-last_or_before : (k n : ℕ) → k < suc n → (k ≡ n) ⊎ (k < n)
-last_or_before k n below = grind (arith, nat_tests)
 
 -- one place
 by_bit-sum : (f : ℕ → ℤ) (n place : ℕ) → place < n → sums_over f n ≡ sums_over (by_bit place f) n

@@ -90,7 +90,7 @@ class_count-stubs n arcs (suc count) below within =
     ∙ class_count-fresh (n + count) (arcs (count + 1)) (stubs n arcs count) (stubs-below n arcs count below (omega arith)) (omega arith)
     ∙ class_count-stubs n arcs count below (omega arith)
 
-last_or_before : (i count : ℕ) → i < suc count → (i ≡ count) ⊎ (i < count)
+pub last_or_before : (i count : ℕ) → i < suc count → (i ≡ count) ⊎ (i < count)
 last_or_before i count below = grind (arith, nat_tests)
 
 Respects-stub : (f : ℕ → ℕ) (n : ℕ) (arcs : ℕ → ℕ) (count i : ℕ) → Respects f (stubs n arcs count) → i < count

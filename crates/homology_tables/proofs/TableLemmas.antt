@@ -11,8 +11,7 @@ use Rattle.std.proofs.lemmas.Bool.Decides.{nat_tests}
 use Rattle.std.proofs.lemmas.Int.{ints}
 use Rattle.std.proofs.lemmas.List.{get_or_append_left, get_or-append_right, get_or_default, length-append, length-map}
 use Rattle.std.proofs.lemmas.List.Elements.{All-append, All-nil, All-map, All-filter, All-weaker, filter_passes}
-use Rattle.std.proofs.lemmas.List.FromFn.{get_or-map-range_with_len, length-map-range_with_len}
-use Rattle.std.proofs.lemmas.Simd.{map-map}
+use Rattle.std.proofs.lemmas.List.FromFn.{length-map-range_with_len}
 use Rattle.std.proofs.lemmas.List.Kept.{AllPairs-filter}
 use Rattle.std.proofs.lemmas.List.Sums.{sum_by-le, count_by-le-length, length-filter}
 use Rattle.std.proofs.Math.Nat.{mul-le-mul_left}
@@ -21,19 +20,12 @@ use Rattle.kh_types.specs.declared.limits.TheConstants.{CROSSINGS, EXPONENT}
 use Rattle.kh_types.specs.Code.{Code}
 use Rattle.kh_types.specs.Generators.{generators, has_degrees}
 use Rattle.kh_types.specs.Table.{Row, Table, IsWithin, from_minus, dimension, is_shown, rows_within, table}
-use Rattle.kh_types.proofs.QuantumDegrees.{IsWithin-place, place-IsWithin}
+use Rattle.kh_types.proofs.QuantumDegrees.{IsWithin-place, place-IsWithin, get_or-map-from_minus}
 use Rattle.kh_types.proofs.RowSums.{row_by, rows_by}
 use Rattle.circle_smoothing.specs.declared.limits.TheConstants.{GENERATORS}
 use Rattle.circle_smoothing.specs.GeneratorCounts.{generator_count}
 use Rattle.circle_smoothing.proofs.GeneratorLemmas.{length-generators}
 use Rattle.homology_tables.specs.Tables.{IsRow, IsBefore, IsTable, total_of}
-
--- what stands at a place of values of degrees from -n to n
-get_or-map-from_minus : {X : Type 0} (f : ℤ → X) (n k : ℕ) (d : X) → k < 2 * n + 1
-    → get_or (map f (from_minus n)) k d ≡ f (pos k -ℤ pos n)
-get_or-map-from_minus {X} f n k d below =
-    ap (λ (xs : List X). get_or xs k d) (map-map f (λ m. pos m -ℤ pos n) (range_with_len 0 (2 * n + 1)))
-    ∙ get_or-map-range_with_len (λ m. f (pos m -ℤ pos n)) 0 (2 * n + 1) k k d below (omega arith)
 
 -- how many rows there are: the pairs of degrees are numbered, by j, then by i
 

@@ -37,7 +37,7 @@ impl Row {
 }
 
 /// Adds a row to those of a table, where its dimension is above 0: a table shows no others. What
-/// memory it takes is that in which `rows` grow. This project's rule.
+/// memory it takes is that in which `rows` grow.
 pub fn push_row(rows: &mut Vec<Row>, row: Row) -> Result<(), NoMemory>
     ensures ok { OnOk result
         (rows.new.items ≡ rows.old.items ++ filter is_shown (row ∷ [])) }

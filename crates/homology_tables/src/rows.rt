@@ -13,7 +13,7 @@ use sparse_block::Complex;
 
 /// Adds the rows of a quantum degree, where the places alive of a complex are the dimensions, with
 /// the homological degrees from -reach to reach. What memory it takes is that in which `rows` grow;
-/// where it runs out they are as before. This project's rule.
+/// where it runs out they are as before.
 pub fn push_rows<F: PrimeField>(
     rows: &mut Vec<Row>,
     complex: &Complex<F>,

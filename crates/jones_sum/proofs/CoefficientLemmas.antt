@@ -5,19 +5,12 @@ use Rattle.std.specs.List.{range_with_len, filter}
 use Rattle.std.specs.Ordering.{int_eq}
 use Rattle.std.proofs.lemmas.Int.{ints}
 use Rattle.std.proofs.lemmas.Simd.{map-map}
-use Rattle.std.proofs.lemmas.List.FromFn.{get_or-map-range_with_len, fill_by_all}
+use Rattle.std.proofs.lemmas.List.FromFn.{fill_by_all}
 use Rattle.kh_types.specs.Table.{from_minus, IsWithin}
 use Rattle.kh_types.specs.StateSum.{Term, terms, terms_text, polynomial_text}
 use Rattle.kh_types.specs.declared.limits.TheConstants.{EXPONENT}
-use Rattle.kh_types.proofs.QuantumDegrees.{place-IsWithin, map-from_minus_agree}
+use Rattle.kh_types.proofs.QuantumDegrees.{place-IsWithin, map-from_minus_agree, get_or-map-from_minus}
 use Rattle.jones_sum.specs.Coefficients.{coefficients_of, element_at, coefficient_in}
-
--- what a function makes of the numbers from -n to n, at a place
-pub get_or-map-from_minus : {X : Type 0} (f : ℤ → X) (n k : ℕ) (d : X) → k < 2 * n + 1
-    → get_or (map f (from_minus n)) k d ≡ f (pos k -ℤ pos n)
-get_or-map-from_minus {X} f n k d below =
-    ap (λ (xs : List X). get_or xs k d) (map-map f (λ m. pos m -ℤ pos n) (range_with_len 0 (2 * n + 1)))
-    ∙ get_or-map-range_with_len (λ m. f (pos m -ℤ pos n)) 0 (2 * n + 1) k k d below (omega arith)
 
 -- the value at an exponent stands at its place
 pub element_at-map : (f : ℤ → ℤ) (n : ℕ) (i : ℤ) → IsWithin n i → element_at (map f (from_minus n)) (i +ℤ pos n) ≡ f i

@@ -1,6 +1,5 @@
 -- The state sum has no coefficients outside of the exponents.
-use Rattle.std.proofs.Common.{◌≡◌, ℕ, suc, ◌+◌, ◌-◌, ◌*◌, ◌≤◌, ◌∙◌, List, [], ◌∷◌, map, length, ap, refl, arith, ℤ, pos, negsuc, neg_ℤ, ◌+ℤ◌, ◌-ℤ◌, Bool, true, false, cond}
-use Rattle.std.specs.Prelude.{nat_eq, ◌%◌}
+use Rattle.std.proofs.Common.{◌≡◌, ℕ, ◌+◌, ◌-◌, ◌*◌, ◌≤◌, ◌∙◌, List, [], ◌∷◌, map, length, ap, refl, arith, ℤ, pos, neg_ℤ, ◌+ℤ◌, ◌-ℤ◌, Bool, true, false, cond}
 use Rattle.std.proofs.lemmas.Int.{ints}
 use Rattle.kh_types.specs.declared.limits.TheConstants.{CROSSINGS, EXPONENT}
 use Rattle.kh_types.specs.Code.{Code}
@@ -13,6 +12,7 @@ use Rattle.kh_types.specs.Table.{IsWithin}
 use Rattle.kh_types.proofs.CircleBound.{circle_count-within}
 use Rattle.kh_types.proofs.QuantumDegrees.{IsWithin-place, one_count-le, plus_count-le}
 use Rattle.jones_sum.proofs.CircleLemmas.{circle_coefficient-none}
+use Rattle.kh_types.proofs.AlternatingSums.{signed_by-zero}
 
 int_sum-none : (f : ℕ → ℤ) (xs : List ℕ) → ((x : ℕ) → f x ≡ pos 0) → int_sum (map f xs) ≡ pos 0
 int_sum-none f [] none = refl
@@ -22,10 +22,6 @@ int_sum-none f (x ∷ xs) none =
 signed_none : (even : Bool) → cond even (pos 0) (neg_ℤ (pos 0)) ≡ pos 0
 signed_none true = refl
 signed_none false = refl
-
-signed_by-none : (degree : ℤ) → signed_by degree 0 ≡ pos 0
-signed_by-none (pos size) = signed_none (nat_eq (size % 2) 0)
-signed_by-none (negsuc size) = signed_none (nat_eq (suc size % 2) 0)
 
 -- a term has exponents in size at most the number of circles and two for each crossing
 term_of-outside : (n r plus minus circles most : ℕ) (exponent : ℤ) → r ≤ n → plus ≤ n → minus ≡ n - plus
@@ -37,7 +33,7 @@ term_of-outside n r plus minus circles most exponent low some rest fits outside 
     circle_coefficient-none circles shifted
     (λ chosen within is. outside
     (IsWithin-place most (2 * chosen + most + r + plus - (circles + 2 * minus)) exponent (omega arith) (omega (arith, ints, is)))) in
-    ap (signed_by degree) none ∙ signed_by-none degree
+    ap (signed_by degree) none ∙ signed_by-zero degree
 
 pub state_sum-outside : (code : Code) (exponent : ℤ) → IsAccepted code → length code.crossings ≤ CROSSINGS
     → (IsWithin EXPONENT exponent → ⊥) → state_sum code exponent ≡ pos 0

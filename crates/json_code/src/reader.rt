@@ -15,7 +15,7 @@ use std::alloc::Global;
 
 /// Reads a JSON text: an array of crossings, each an array of four numbers. A number above 255 is
 /// read as 0, which is no arc, and there are no loops. Memory may run out on any text but the empty
-/// one. This project's rule.
+/// one.
 pub fn read_json(alloc: Global, text: &[u8]) -> Result<RawCode, JsonStop>
     requires { length text.now ≤ INPUT_BYTES }
     ensures reads { result ≢ Err JsonStop.NoMemory → IsJsonReading text.now result }

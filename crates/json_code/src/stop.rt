@@ -4,7 +4,7 @@ ghost use Rattle.std.specs.Prelude.{◌≡◌};
 ghost use Rattle.serde_json.specs.Errors.{IsMemory};
 ghost use Rattle.json_code.specs.declared.stop.JsonStop.TheVariants.{JsonText, NoMemory};
 
-/// Why no code was read from a JSON text. This project's rule.
+/// Why no code was read from a JSON text.
 #[derive(Clone, Copy, Debug, PartialEq, Eq)]
 pub enum JsonStop {
     /// The text is no JSON.

@@ -1,6 +1,6 @@
 -- A text is read as one diagram, or refused with one reply.
 use Rattle.std.proofs.Common.{◌≡◌, ℕ, ◌⊎◌, inl, inr, List, IsTrue, refl, sym, ap, subst, ◌∙◌, Result, Ok, Err, None, Some}
-use Rattle.std.specs.Prelude.{Option, is_none}
+use Rattle.std.specs.Prelude.{Option}
 use Rattle.kh_types.specs.Code.{Code}
 use Rattle.kh_types.specs.Acceptance.{accepted, first_fault}
 use Rattle.kh_types.specs.declared.fault.CodeFault.{CodeFault}
@@ -10,16 +10,13 @@ use Rattle.kh_inputs.specs.Inputs.{input_form, IsCodeRead, IsFaulty, IsDiagramRe
 use Rattle.kh_inputs.specs.DiagramReplies.{IsOutcomeReply, IsDiagramReply}
 use Rattle.kh_inputs.proofs.TextFaults.{text-fault, IsFaultRefusal-some, IsFaultRefusal-one}
 use Rattle.kh_inputs.proofs.TextReadings.{IsReadAs-some, IsCodeRead-one}
+use Rattle.kh_types.proofs.FaultLemmas.{none_is}
 
 -- codes and diagrams
 
-none-from_test : (fault : Option CodeFault) → IsTrue (is_none fault) → fault ≡ None
-none-from_test None none = refl
-none-from_test (Some fault) none = absurd (cc)
-
 pub first_fault-accepted : (code : Code) → IsTrue (accepted code) → first_fault code ≡ None
 unfolding accepted
-first_fault-accepted code is_accepted = none-from_test (first_fault code) is_accepted
+first_fault-accepted code is_accepted = none_is (first_fault code) is_accepted
 
 IsDiagramRead-code : (bytes : List ℕ) (code : Code) (fault : Option CodeFault) → IsCodeRead bytes (Ok code) → first_fault code ≡ fault
     → (outcome : Result Code Reply) × IsDiagramRead bytes outcome

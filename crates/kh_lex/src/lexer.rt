@@ -11,7 +11,7 @@ use crate::token::Token;
 use kh_types::INPUT_BYTES;
 use std::alloc::{AllocFailed, Global};
 
-/// The tokens that cut a text, in order; or the first fault in the text. This project's rule.
+/// The tokens that cut a text, in order; or the first fault in the text.
 pub fn tokens(alloc: Global, text: &[u8]) -> Result<Vec<Token>, LexStop>
     requires { length text.now ≤ INPUT_BYTES }
     ensures cut { IfOk result (λ tokens. Cuts 0 text.now tokens.items) }

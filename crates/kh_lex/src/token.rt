@@ -1,6 +1,6 @@
 //! Tokens: what a text of a code is made of, apart from blanks.
 
-/// What a token is: a longest run of letters, a number, or one of five marks. This project's rule.
+/// What a token is: a longest run of letters, a number, or one of five marks.
 #[derive(Clone, Copy, Debug, PartialEq, Eq)]
 pub enum Kind {
     /// A longest run of ASCII letters.
@@ -19,7 +19,7 @@ pub enum Kind {
     Comma,
 }
 
-/// A word, a number or a mark that stands in a text. This project's rule.
+/// A word, a number or a mark that stands in a text.
 #[derive(Clone, Copy, Debug, PartialEq, Eq)]
 pub struct Token {
     /// What it is.

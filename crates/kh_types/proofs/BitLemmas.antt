@@ -1,5 +1,5 @@
 -- Bits of numbers.
-use Rattle.std.proofs.Common.{◌≡◌, ℕ, ◌+◌, ◌%◌, ◌^◌, ◌<◌, ◌≤◌, arith, ◌⊎◌}
+use Rattle.std.proofs.Common.{◌≡◌, ℕ, ◌+◌, ◌%◌, ◌^◌, ◌<◌, ◌≤◌, arith, ◌⊎◌, ◌*◌, ◌/◌}
 use Rattle.std.proofs.lemmas.Bool.Decides.{nat_tests}
 use Rattle.std.proofs.Math.Nat.{div-eq_of_lt}
 use Rattle.std.proofs.Math.Pow.{pow_mono}
@@ -20,3 +20,11 @@ pub ones-more : (count number : ℕ) → ones (count + 1) number ≡ ones count 
 ones-more count number = sum_by-range_more (bit number) 0 count count (omega arith)
 
 pub ruleset bits = (bit-past, ones-more)
+
+-- a bit is 0 or 1
+pub bit-below : (n k : ℕ) → bit n k < 2
+bit-below n k = omega arith
+
+-- a number without its lowest digit
+pub half-of : (s e : ℕ) → (s % 2 + 2 * e) / 2 ≡ e
+half-of s e = omega arith

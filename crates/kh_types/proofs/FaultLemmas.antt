@@ -62,7 +62,7 @@ none_of_all fault_at a (suc n) none =
     ∙ none_of_more fault_at a n (a + n) refl (none_of_all fault_at a n (λ k below. none k (omega arith))) (none n (omega arith))
 
 -- no fault, by its test
-none_is : (fault : Option CodeFault) → IsTrue (is_none fault) → fault ≡ None
+pub none_is : (fault : Option CodeFault) → IsTrue (is_none fault) → fault ≡ None
 none_is fault none = grind (arith, nat_tests)
 
 -- an accepted code breaks none of the four groups of rules

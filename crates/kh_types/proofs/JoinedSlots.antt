@@ -25,7 +25,7 @@ pub across-slot : (state crossing slot : ℕ) → slot < 4
     → across state (4 * crossing + slot) ≡ 4 * crossing + joined_slot (bit state crossing) slot
 across-slot state crossing slot below = grind (arith, nat_tests)
 
-slot-below : (place : ℕ) → place % 4 < 4
+pub slot-below : (place : ℕ) → place % 4 < 4
 slot-below place = omega arith
 
 pub across-crossing : (state place : ℕ) → across state place / 4 ≡ place / 4

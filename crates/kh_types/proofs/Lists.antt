@@ -3,9 +3,9 @@
 -- What std does not have: facts about all elements of a list by recursion, elements of lists that are made of others, searches, counts, and
 -- lists of which one has an element more (`HasMore`), as the names of classes do before a pair is joined.
 use Rattle.std.proofs.Common.{◌≡◌, ◌≢◌, ℕ, zero, suc, ◌+◌, ◌-◌, ◌<◌, ◌≤◌, ◌∙◌, List, [], ◌∷◌, ◌++◌, length, map, get_or, refl, sym, ap, ap₂, arith, Bool, true, false, cond, not, unwrap_or, ◌⊎◌}
-use Rattle.std.specs.Prelude.{None}
+use Rattle.std.specs.Prelude.{None, slice_index}
 use Rattle.std.specs.List.{All, AllByRecursion, Contains, filter, flat_map, find, count_by, range_with_len, enumerate_from, position, position_or_len, remove}
-use Rattle.std.proofs.lemmas.List.{length-append, length-map, get_or-map, take-map, drop-map, map-append}
+use Rattle.std.proofs.lemmas.List.{length-append, length-map, get_or-map, take-map, drop-map, map-append, get_or_append_left}
 use Rattle.std.proofs.lemmas.List.Elements.{filter-append, All-nil, All-append, All-head, Contains-append_left, Contains-append_right, All-contains, All-from_recursion}
 use Rattle.std.proofs.lemmas.List.Sums.{sum_by-cons, prefix_len-le-length}
 use Rattle.std.proofs.lemmas.List.FromFn.{length-range_with_len, get_or-range_with_len}
@@ -237,3 +237,6 @@ pub enumerate_from-push : {X : Type 0} (n : ℕ) (xs : List X) (x : X)
     → enumerate_from n (xs ++ x ∷ []) ≡ enumerate_from n xs ++ (n + length xs, x) ∷ []
 enumerate_from-push n [] x = ap (λ (m : ℕ). (m, x) ∷ []) (omega arith)
 enumerate_from-push {X} n (y ∷ xs) x = grind (arith, nat_tests, enumerate_from-push (n + 1) xs x)
+
+pub slice_index-left : (xs ys : List ℕ) (k : ℕ) → k < length xs → slice_index (xs ++ ys) k ≡ slice_index xs k
+slice_index-left xs ys k below = get_or_append_left xs ys 0 k below

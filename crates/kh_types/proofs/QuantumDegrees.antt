@@ -1,6 +1,6 @@
 -- The sizes of the degrees of generators, and which degrees have generators.
 use Rattle.std.proofs.lemmas.Bool.Decides.{nat_tests}
-use Rattle.std.proofs.Common.{◌≡◌, ℕ, ◌+◌, ◌-◌, ◌*◌, ◌/◌, ◌^◌, ◌<◌, ◌≤◌, ◌∙◌, [], ℤ, pos, negsuc, ◌+ℤ◌, ◌-ℤ◌, ◌⊎◌, inl, inr, map, suc, refl, sym, length, get_or, true, subst, arith}
+use Rattle.std.proofs.Common.{◌≡◌, ℕ, ◌+◌, ◌-◌, ◌*◌, ◌/◌, ◌^◌, ◌<◌, ◌≤◌, ◌∙◌, [], ℤ, pos, negsuc, ◌+ℤ◌, ◌-ℤ◌, ◌⊎◌, inl, inr, map, suc, refl, sym, length, get_or, true, subst, arith, ap, List}
 use Rattle.std.specs.List.{All, range_with_len}
 use Rattle.std.specs.Ordering.{int_eq}
 use Rattle.std.proofs.lemmas.Bool.{and_parts, cases_lt}
@@ -138,3 +138,10 @@ generators_at-outside code i j is few outside = elim (cases_lt 0 (length (genera
   | inl some ↦ absurd (outside (generators_at-within code i j is few some).1)
   | inr none ↦ nil_from_length (generators_at code i j) (omega arith)
 ]
+
+-- what a function makes of the numbers from -n to n, at a place
+pub get_or-map-from_minus : {X : Type 0} (f : ℤ → X) (n k : ℕ) (d : X) → k < 2 * n + 1
+    → get_or (map f (from_minus n)) k d ≡ f (pos k -ℤ pos n)
+get_or-map-from_minus {X} f n k d below =
+    ap (λ (xs : List X). get_or xs k d) (map-map f (λ m. pos m -ℤ pos n) (range_with_len 0 (2 * n + 1)))
+    ∙ get_or-map-range_with_len (λ m. f (pos m -ℤ pos n)) 0 (2 * n + 1) k k d below (omega arith)

@@ -34,3 +34,10 @@ sum_below-exchanged zero n f = sym (sum_below-zeros n (λ k. 0) (λ k. refl))
 sum_below-exchanged (suc m) n f =
     ap (λ z. sum_below n (λ k. f 0 k) + z) (sum_below-exchanged m n (λ i k. f (suc i) k))
     ∙ sym (sum_below-add n (λ k. f 0 k) (λ k. sum_below m (λ i. f (suc i) k)))
+
+-- a product with a factor that is 0
+pub zero-times : (x y : ℕ) → x ≡ 0 → x * y ≡ 0
+zero-times x y is = ap (λ k. k * y) is ∙ omega arith
+
+pub times-zero : (x y : ℕ) → y ≡ 0 → x * y ≡ 0
+times-zero x y is = ap (λ k. x * k) is ∙ omega arith

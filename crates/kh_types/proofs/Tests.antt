@@ -1,5 +1,5 @@
 -- Tests that agree.
-use Rattle.std.proofs.Common.{◌≡◌, ◌≢◌, ℕ, ◌+◌, ◌∙◌, sym, refl, ap, arith, Bool, true, not}
+use Rattle.std.proofs.Common.{◌≡◌, ◌≢◌, ℕ, ◌+◌, ◌∙◌, sym, refl, ap, arith, Bool, true, not, ◌||◌}
 use Rattle.std.specs.Prelude.{nat_eq}
 use Rattle.std.proofs.lemmas.Bool.{both_ways, eq-eqb, ne_eqb}
 use Rattle.std.proofs.lemmas.Bool.Decides.{nat_tests}
@@ -25,3 +25,10 @@ other-passes z y other = ap not (ne_eqb y z other)
 
 pub other-differs : (z y : ℕ) → is_other z y ≡ true → y ≢ z
 other-differs z y passes same = both_ways true (sym passes ∙ ap not (eq-eqb y z same)) refl
+
+pub twice-not : (b : Bool) → not (not b) ≡ b
+twice-not b = grind (arith, nat_tests)
+
+-- a test that passes unless another does
+pub unless-forth : (k e : Bool) → (not k || e) ≡ true → k ≡ true → e ≡ true
+unless-forth k e passes is = grind (arith, nat_tests)

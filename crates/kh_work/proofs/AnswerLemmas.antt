@@ -3,15 +3,15 @@
 -- to a limit, and the reply to bytes within the limit of an order, or of a task. Then the answers to what is done, task by task:
 -- the table and the Jones line of an accepted code, the Jones line alone, a schedule, an edit, and a number of the bench, which
 -- has a diagram or is too large. Each unfolds the reply of its order, with the tests of limits decided.
-use Rattle.std.proofs.Common.{◌≡◌, ◌≤◌, ◌<◌, ◌++◌, ℕ, List, length, IfOk, OnOk, inl, inr, refl, sym, ap, subst, ◌∙◌, Result, Ok, Err, None, Some, arith}
+use Rattle.std.proofs.Common.{◌≡◌, ◌≤◌, ◌<◌, ◌++◌, ℕ, List, length, IfOk, OnOk, inl, inr, refl, sym, ap, subst, ◌∙◌, Result, Ok, Err, Some, arith}
 use Rattle.std.specs.declared.option.Option.{Option}
 use Rattle.kh_types.specs.declared.limits.TheConstants.{INPUT_BYTES}
 use Rattle.kh_types.specs.Code.{Code}
-use Rattle.std.specs.Prelude.{false, is_none, nat_lt, unwrap_or, IfSome, IsTrue}
+use Rattle.std.specs.Prelude.{false, nat_lt, unwrap_or, IfSome, IsTrue}
 use Rattle.std.proofs.lemmas.Grind.{common_steps}
-use Rattle.kh_types.specs.Acceptance.{accepted, first_fault}
+use Rattle.std.proofs.lemmas.Bool.{lt-ltb, le-ltb}
+use Rattle.kh_types.specs.Acceptance.{accepted}
 use Rattle.kh_types.specs.Table.{table, table_text}
-use Rattle.kh_types.specs.declared.fault.CodeFault.{CodeFault}
 use Rattle.circle_smoothing.specs.GeneratorCounts.{generator_count}
 use Rattle.circle_smoothing.specs.declared.limits.TheConstants.{GENERATORS}
 use Rattle.word_line.specs.declared.command.Task.{Task}
@@ -54,7 +54,7 @@ use Rattle.kh_work.specs.Told.{AnswersOrder, AnswersWords}
 use Rattle.kh_runs.specs.Told.{IsReadOut}
 use Rattle.kh_inputs.proofs.DiagramReadings.{first_fault-accepted}
 use Rattle.kh_runs.proofs.SourceAnswers.{AnswersSource-long, AnswersSource-other}
-use Rattle.kh_work.proofs.ReplyLemmas.{IsInputReply-few, cond-false, cond-true, less-false, less-true}
+use Rattle.kh_work.proofs.ReplyLemmas.{IsInputReply-few, cond-false, cond-true}
 
 -- more bytes than an order reads are answered by the line of its limit
 pub AnswersOrder-long : (order : Order) (left : Option (List ℕ)) (reply : Reply) (limit : ℕ) → byte_limit order ≡ Some limit
@@ -204,12 +204,12 @@ bench_reply-table : (field number : ℕ) → number < NUMBERS
 unfolding bench_text
 bench_reply-table field number small =
     cond-true (nat_lt number NUMBERS) (reply_of Done (bench_text field number (code_of_number number))) (too_large_number number)
-    (less-true number NUMBERS small)
+    (lt-ltb number NUMBERS small)
 
 bench_reply-limit : (field number : ℕ) → NUMBERS ≤ number → bench_reply field number ≡ too_large_number number
 bench_reply-limit field number large =
     cond-false (nat_lt number NUMBERS) (reply_of Done (bench_text field number (code_of_number number))) (too_large_number number)
-    (less-false number NUMBERS large)
+    (le-ltb number NUMBERS large)
 
 pub IsAnswer-bench : (words : List (List ℕ)) (bytes : List ℕ) (command : Command) (number : ℕ) → IsCommand words command
     → command.task ≡ tasks.Bench → command.number ≡ Some number → number < NUMBERS

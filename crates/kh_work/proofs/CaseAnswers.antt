@@ -5,6 +5,7 @@
 -- certify, reduced and schedule. Last, the verdict on a log is told. All unfold what an answer is, with the reading put in.
 use Rattle.std.proofs.Common.{◌≡◌, ◌<◌, ◌≤◌, ◌⊎◌, inl, inr, ℕ, List, length, nat_lt, true, refl, sym, subst, Result, Ok, Err, Some}
 use Rattle.std.specs.Prelude.{IsTrue, Option}
+use Rattle.std.proofs.lemmas.Bool.{lt-ltb}
 use Rattle.kh_types.specs.Acceptance.{accepted, first_fault}
 use Rattle.kh_types.specs.Code.{Code}
 use Rattle.kh_types.specs.Table.{Table}
@@ -48,7 +49,7 @@ use Rattle.kh_work.specs.Verify.{IsVerdictReply}
 use Rattle.kh_work.proofs.AnswerLemmas.{answer-order, answer-task}
 use Rattle.kh_inputs.proofs.DiagramReadings.{first_fault-accepted}
 use Rattle.kh_work.proofs.ReducedLemmas.{order-reduced, reduced_reply-large}
-use Rattle.kh_work.proofs.ReplyLemmas.{cond-true, less-true}
+use Rattle.kh_work.proofs.ReplyLemmas.{cond-true}
 
 -- words without a command, and too many bytes
 
@@ -162,13 +163,13 @@ many_reply code = too_many_generators (generator_count code)
 homology_reply-many : (field : ℕ) (code : Code) → GENERATORS < generator_count code → many_reply code ≡ homology_reply field code
 homology_reply-many field code many =
     sym (cond-true (nat_lt GENERATORS (generator_count code)) (many_reply code) (reply_of Done (homology_text field code))
-    (less-true GENERATORS (generator_count code) many))
+    (lt-ltb GENERATORS (generator_count code) many))
 
 schedule_reply-many : (field : ℕ) (code : Code) (script : List (ℕ × ScheduleLine)) → GENERATORS < generator_count code
     → many_reply code ≡ schedule_reply field code script
 schedule_reply-many field code script many =
     sym (cond-true (nat_lt GENERATORS (generator_count code)) (many_reply code) (reply_of Done (schedule_text field code script))
-    (less-true GENERATORS (generator_count code) many))
+    (lt-ltb GENERATORS (generator_count code) many))
 
 pub IsAnswer-many : (words : List (List ℕ)) (bytes : List ℕ) (command : Command) (code : Code) → IsCommand words command
     → command.task ≡ tasks.Homology → length bytes ≤ INPUT_BYTES → IsCodeRead bytes (Ok code) → IsTrue (accepted code)
@@ -198,7 +199,7 @@ IsAnswer-many_marked words bytes command mark code meant is given few read is_ac
     (record {
       outcome = Ok code;
       read = (read, first_fault-accepted code is_accepted);
-      answered = reduced_reply-large command.field mark code marked (less-true GENERATORS (generator_count code) many);
+      answered = reduced_reply-large command.field mark code marked (lt-ltb GENERATORS (generator_count code) many);
     })
 
 pub IsAnswer-many_scheduled : (words : List (List ℕ)) (bytes : List ℕ) (command : Command) (code : Code) (script : List (ℕ × ScheduleLine))

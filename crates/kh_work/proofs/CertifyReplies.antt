@@ -19,7 +19,7 @@ use Rattle.kh_inputs.proofs.TextFaults.{few_crossings-read, few_loops-read}
 use Rattle.kh_work.specs.Certify.{IsCertifyReply}
 
 -- a code without a fault is accepted
-accepted-faultless : (code : Code) → first_fault code ≡ None → IsTrue (accepted code)
+pub accepted-faultless : (code : Code) → first_fault code ≡ None → IsTrue (accepted code)
 unfolding accepted
 accepted-faultless code none = ap is_none none
 

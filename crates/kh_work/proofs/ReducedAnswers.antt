@@ -1,6 +1,7 @@
 -- The answers to the codes of diagrams at a mark.
 use Rattle.std.proofs.Common.{◌≡◌, ◌≤◌, ◌++◌, ℕ, List, length, true, false, refl, sym, Ok, Some}
 use Rattle.std.specs.Prelude.{IsTrue}
+use Rattle.std.proofs.lemmas.Bool.{le-ltb}
 use Rattle.kh_types.specs.Code.{Code}
 use Rattle.kh_types.specs.Acceptance.{accepted}
 use Rattle.kh_types.specs.Table.{table_text}
@@ -23,7 +24,6 @@ use Rattle.kh_work.specs.declared.order.CodeOrder.TheVariants.{Reduced}
 use Rattle.kh_work.proofs.AnswerLemmas.{answer-order}
 use Rattle.kh_inputs.proofs.DiagramReadings.{first_fault-accepted}
 use Rattle.kh_work.proofs.ReducedLemmas.{order-reduced, reduced_reply-text, reduced_reply-unmarked}
-use Rattle.kh_work.proofs.ReplyLemmas.{less-false}
 
 pub IsAnswer-reduced : (words : List (List ℕ)) (bytes : List ℕ) (command : Command) (mark : ℕ) (code : Code) → IsCommand words command
     → command.task ≡ tasks.Reduced → command.mark ≡ Some mark → length bytes ≤ INPUT_BYTES → IsCodeRead bytes (Ok code) → IsTrue (accepted code)
@@ -36,7 +36,7 @@ IsAnswer-reduced words bytes command mark code is_command is_reduced is_given fe
     (record {
       outcome = Ok code;
       read = (read, first_fault-accepted code is_accepted);
-      answered = sym (reduced_reply-text command.field mark code marked (less-false GENERATORS (generator_count code) few_generators));
+      answered = sym (reduced_reply-text command.field mark code marked (le-ltb GENERATORS (generator_count code) few_generators));
     })
 
 pub IsAnswer-unmarked : (words : List (List ℕ)) (bytes : List ℕ) (command : Command) (mark : ℕ) (code : Code) → IsCommand words command

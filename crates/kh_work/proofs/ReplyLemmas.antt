@@ -1,7 +1,7 @@
 -- From what a text was read as to the reply of a command, step by step.
 use Rattle.std.proofs.Common.{◌≡◌, ◌≤◌, ◌<◌, ◌++◌, ℕ, Bool, true, false, cond, nat_lt, List, length, IfOk, arith, inr, refl, ap, ap₂, sym, subst, ◌∙◌, Result, Ok, Err, None, Some}
 use Rattle.std.specs.Prelude.{Option}
-use Rattle.std.proofs.lemmas.Grind.{common_steps}
+use Rattle.std.proofs.lemmas.Bool.{lt-ltb, le-ltb}
 use Rattle.kh_types.specs.Code.{Code}
 use Rattle.kh_types.specs.Table.{Table, table}
 use Rattle.homology_tables.specs.Tables.{total_of}
@@ -62,27 +62,20 @@ pub cond-false : (test : Bool) (this other : Reply) → test ≡ false → cond 
 cond-false true this other is = let e : true ≡ false = is in absurd (cc)
 cond-false false this other is = refl
 
--- a test of order, by what it tests
-pub less-true : (n limit : ℕ) → n < limit → nat_lt n limit ≡ true
-less-true n limit below = grind (arith, common_steps)
-
-pub less-false : (n limit : ℕ) → limit ≤ n → nat_lt n limit ≡ false
-less-false n limit beyond = grind (arith, common_steps)
-
 -- the diagram of a number is the one that is answered, and it has few enough generators
 pub bench_reply-diagram : (field number : ℕ) (code diagram : Code) → number < NUMBERS → code ≡ diagram → diagram ≡ code_of_number number
     → reply_of Done (bench_text field number code) ≡ bench_reply field number
 bench_reply-diagram field number code diagram small same is =
     ap (λ (c : Code). reply_of Done (bench_text field number c)) (same ∙ is)
     ∙ sym (cond-true (nat_lt number NUMBERS) (reply_of Done (bench_text field number (code_of_number number))) (too_large_number number)
-    (less-true number NUMBERS small))
+    (lt-ltb number NUMBERS small))
 
 -- a number that is none of a diagram is answered by the line of the limit
 pub bench_reply-over : (field number told : ℕ) → (number < NUMBERS → ⊥) → told ≡ number → too_large_number told ≡ bench_reply field number
 bench_reply-over field number told over same =
     ap too_large_number same
     ∙ sym (cond-false (nat_lt number NUMBERS) (reply_of Done (bench_text field number (code_of_number number))) (too_large_number number)
-    (less-false number NUMBERS (omega (arith, over))))
+    (le-ltb number NUMBERS (omega (arith, over))))
 
 pub generators_of_diagram : (number : ℕ) (code diagram : Code) → code ≡ diagram → diagram ≡ code_of_number number
     → ((n : ℕ) → generator_count (code_of_number n) ≤ GENERATORS) → generator_count code ≤ GENERATORS

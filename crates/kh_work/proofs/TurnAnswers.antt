@@ -1,6 +1,7 @@
 -- The answers to the codes of diagrams that are drawn, mirrored, reversed and put beside each other.
 use Rattle.std.proofs.Common.{◌≡◌, ◌≤◌, ◌++◌, ◌∙◌, ℕ, List, length, refl, Ok, Err, nat_lt}
 use Rattle.std.specs.Prelude.{IsTrue, codes}
+use Rattle.std.proofs.lemmas.Bool.{le-ltb}
 use Rattle.kh_types.specs.Code.{Code}
 use Rattle.kh_types.specs.Acceptance.{accepted}
 use Rattle.kh_types.specs.declared.limits.TheConstants.{CROSSINGS, INPUT_BYTES, LOOPS}
@@ -20,7 +21,7 @@ use Rattle.kh_replies.specs.Union.{union_reply}
 use Rattle.kh_work.specs.Answer.{IsAnswer}
 use Rattle.kh_work.proofs.AnswerLemmas.{answer-task}
 use Rattle.kh_inputs.proofs.DiagramReadings.{first_fault-accepted}
-use Rattle.kh_work.proofs.ReplyLemmas.{cond-false, less-false}
+use Rattle.kh_work.proofs.ReplyLemmas.{cond-false}
 
 pub IsAnswer-drawing : (words : List (List ℕ)) (bytes : List ℕ) (command : Command) (code : Code) → IsCommand words command
     → command.task ≡ Draw → length bytes ≤ INPUT_BYTES → IsCodeRead bytes (Ok code) → IsTrue (accepted code)
@@ -74,5 +75,5 @@ IsAnswer-refused_second words bytes command first refusal is_command is_union fe
 pub union_reply-text : (first second : Code) → crossings_together first second ≤ CROSSINGS → loops_together first second ≤ LOOPS
     → union_reply first second ≡ reply_of Done (pd_text (union_of first second) ++ codes "\n")
 union_reply-text first second few_crossings few_loops =
-    cond-false (nat_lt CROSSINGS (crossings_together first second)) _ _ (less-false CROSSINGS (crossings_together first second) few_crossings)
-    ∙ cond-false (nat_lt LOOPS (loops_together first second)) _ _ (less-false LOOPS (loops_together first second) few_loops)
+    cond-false (nat_lt CROSSINGS (crossings_together first second)) _ _ (le-ltb CROSSINGS (crossings_together first second) few_crossings)
+    ∙ cond-false (nat_lt LOOPS (loops_together first second)) _ _ (le-ltb LOOPS (loops_together first second) few_loops)

@@ -37,7 +37,7 @@ use Rattle.kink_and_finger_laws.specs.Drops.{dropped, is_ring, kept_crossings, k
 use Rattle.kink_and_finger_laws.specs.FingerAdd.{dart_with}
 use Rattle.kink_and_finger_laws.proofs.KeptCodes.{arc_by_place-below, kept-slots, length-kept, renamed_slots-at, straight-below, straight-finest, straight-joined}
 use Rattle.kink_and_finger_laws.proofs.KinkCircles.{before}
-use Rattle.kink_and_finger_laws.proofs.KinkDropSums.{count-later, count-none, sums-alike}
+use Rattle.kink_and_finger_laws.proofs.KinkDropSums.{count-later, count-none}
 use Rattle.kink_and_finger_laws.proofs.PassEnds.{over_from, over_to}
 use Rattle.kink_and_finger_laws.proofs.SmoothingPairs.{joined-below, smoothing-low, smoothings-all, smoothings-each}
 use Rattle.kink_and_finger_laws.proofs.StandingNames.{count-all, IsOfNames-smoothings, stands-none, stands-some, standing-classes}
@@ -45,6 +45,7 @@ use Rattle.kink_and_finger_laws.proofs.RisenNumbers.{end-le, low-between, low-wi
 use Rattle.kink_and_finger_laws.proofs.AddedCodes.{IsAdded, IsArc-low, IsInner}
 use Rattle.kink_and_finger_laws.proofs.AddedSizes.{IsDirected-added}
 use Rattle.kink_and_finger_laws.proofs.AddedSigns.{sign-old}
+use Rattle.kh_types.proofs.IntSums.{int_sum-range_agree}
 
 -- names of classes that are joined straight through: those that a function gives which has one value on each class, and whose value at
 -- an arc is in its class and not above it
@@ -326,7 +327,7 @@ state_sum-added code more rise end low sign gone added are loops exponent =
       loops,
     ) in
     ap (λ m. int_sum (map (parts_term (arc_count new + 1) (dropped more gone) exponent) (range_with_len 0 (2 ^ m)))) size
-    ∙ sums-alike (parts_term (arc_count new + 1) (dropped more gone) exponent) (state_term code exponent) 0 (2 ^ length old)
+    ∙ int_sum-range_agree (parts_term (arc_count new + 1) (dropped more gone) exponent) (state_term code exponent) 0 (2 ^ length old)
     (λ state from below.
     ap₂ (λ p m. kh.term_of p (m - p) exponent (ones m state) (parts_circle_count (arc_count new + 1) (dropped more gone) state)) plus size
     ∙ ap (λ c. kh.term_of (plus_count old) (length old - plus_count old) exponent (ones (length old) state) c) (circles state))

@@ -4,7 +4,7 @@
 -- there the searches for the first under pass and the first over pass find what they found, and numbers compare as the old arcs
 -- did. A new crossing lies in components of three arcs at least, and its over pass goes as its sign says. So the positive
 -- crossings are the old ones, and those of the new ones that are so named.
-use Rattle.std.proofs.Common.{◌≡◌, ◌≢◌, ℕ, zero, suc, inl, inr, ◌+◌, ◌<◌, ◌≤◌, ◌∙◌, List, length, refl, sym, ap, ap₂, subst, arith, Bool, true, false, cond, eq-eqb, eqb-true}
+use Rattle.std.proofs.Common.{◌≡◌, ◌≢◌, ℕ, inl, inr, ◌+◌, ◌<◌, ◌≤◌, ◌∙◌, List, length, refl, sym, ap, ap₂, subst, arith, Bool, true, false, cond, eq-eqb, eqb-true}
 use Rattle.std.specs.Prelude.{nat_eq, nat_lt, if◌then◌else◌, Option, Some, None}
 use Rattle.std.specs.List.{count_by, find, range_with_len}
 use Rattle.std.specs.Option.{option_or}
@@ -31,6 +31,7 @@ use Rattle.kink_and_finger_laws.proofs.RisenNumbers.{rise-le_end, rise-less, ris
 use Rattle.kink_and_finger_laws.proofs.AddedCodes.{IsNew, IsAdded, arc_of-uncut}
 use Rattle.kink_and_finger_laws.proofs.AddedRuns.{first_number, first-rise, first-end, IsStep-across, IsStep-inner}
 use Rattle.kink_and_finger_laws.proofs.AddedSizes.{IsDirected-added, component-added, next-added, size-grows, size-three, size-new}
+use Rattle.kh_types.proofs.Searches.{find-range_agree}
 
 -- in a component of three arcs or more two steps do not lead back
 next-next_large : (crossings : List (List ℕ)) (arc : ℕ) → IsDirected crossings → IsArc crossings arc → 3 ≤ size_at crossings arc
@@ -73,19 +74,12 @@ sign-large crossings crossing positive directed is large passes = by positive (i
     by true false fails passes = absurd (back (ap (next crossings) (sym (over-negative crossings crossing directed is fails)) ∙ passes))
     by false true holds passes = absurd (back (ap (next crossings) passes ∙ sym (over-positive crossings crossing directed is holds)))
 
--- a search in a longer range, where nothing behind the shorter passes
-find-alike : (p q : ℕ → Bool) (a n : ℕ) → ((k : ℕ) → a ≤ k → k < a + n → p k ≡ q k)
-    → find p (range_with_len a n) ≡ find q (range_with_len a n)
-find-alike p q a zero alike = refl
-find-alike p q a (suc n) alike =
-    grind (arith, nat_tests, find-alike p q (a + 1) n (λ k from below. alike k (omega (arith, from)) (omega (arith, below))))
-
 find-longer : (p q : ℕ → Bool) (a n m : ℕ) → ((k : ℕ) → a ≤ k → k < a + n → q k ≡ p k)
     → ((k : ℕ) → a + n ≤ k → k < a + n + m → q k ≡ false) → find q (range_with_len a (n + m)) ≡ find p (range_with_len a n)
 find-longer p q a n m alike none =
     ap (λ xs. find q xs) (range-append a n m) ∙ find-append q (range_with_len a n) (range_with_len (a + n) m)
     ∙ ap (λ o. option_or (find q (range_with_len a n)) o) (find-none q (a + n) m none)
-    ∙ or-none (find q (range_with_len a n)) ∙ find-alike q p a n alike
+    ∙ or-none (find q (range_with_len a n)) ∙ find-range_agree q p a n alike
   where
     or-none : (o : Option ℕ) → option_or o None ≡ o
     or-none None = refl

@@ -119,7 +119,7 @@ mark v z = cond (nat_eq z v) 1 0
 pub mark-off : (v z : ℕ) → z ≢ v → mark v z ≡ 0
 mark-off v z apart = ap (λ t. cond t 1 0) (ne_eqb z v apart)
 
-mark-own : (v : ℕ) → mark v v ≡ 1
+pub mark-own : (v : ℕ) → mark v v ≡ 1
 mark-own v = ap (λ t. cond t 1 0) (eq-eqb v v refl)
 
 pub count-leaf : (n : ℕ) (pairs : List (ℕ × ℕ)) (a b : ℕ) → AreBelow n pairs → Respects (λ z. mark a z) pairs → a < n → b < n → b ≢ a

@@ -1,7 +1,8 @@
 -- A function of darts with the values at the ends of two sides exchanged.
-use Rattle.std.proofs.Common.{◌≡◌, ◌≢◌, ℕ, ◌⊎◌, ◌<◌, ◌∙◌, sym, ap, arith, refl, true, false, cond, eq-eqb}
+use Rattle.std.proofs.Common.{◌≡◌, ◌≢◌, ℕ, ◌⊎◌, ◌<◌, ◌∙◌, sym, ap, arith, refl, true, cond, eq-eqb}
 use Rattle.std.specs.Prelude.{nat_eq}
 use Rattle.std.proofs.lemmas.Bool.Decides.{nat_tests}
+use Rattle.std.proofs.lemmas.Bool.{ne_eqb}
 use Rattle.kh_types.specs.Darts.{IsPairing}
 
 -- a function with the values at two places exchanged
@@ -12,17 +13,14 @@ exchanged g a b x = cond (nat_eq x a) (g b) (cond (nat_eq x b) (g a) (g x))
 pub eq_self : (x : ℕ) → nat_eq x x ≡ true
 eq_self x = eq-eqb x x refl
 
-ne_test : (x y : ℕ) → x ≢ y → nat_eq x y ≡ false
-ne_test x y apart = grind (arith, nat_tests)
-
 pub exchanged-first : {X : Type 0} (g : ℕ → X) (a b : ℕ) → exchanged g a b a ≡ g b
 exchanged-first g a b = ap (λ t. cond t (g b) (cond (nat_eq a b) (g a) (g a))) (eq_self a)
 
 pub exchanged-second : {X : Type 0} (g : ℕ → X) (a b : ℕ) → a ≢ b → exchanged g a b b ≡ g a
-exchanged-second g a b apart = grind (arith, nat_tests, ne_test b a (λ same. apart (sym same)), eq_self b)
+exchanged-second g a b apart = grind (arith, nat_tests, ne_eqb b a (λ same. apart (sym same)), eq_self b)
 
 pub exchanged-else : {X : Type 0} (g : ℕ → X) (a b x : ℕ) → x ≢ a → x ≢ b → exchanged g a b x ≡ g x
-exchanged-else g a b x not_a not_b = grind (arith, nat_tests, ne_test x a not_a, ne_test x b not_b)
+exchanged-else g a b x not_a not_b = grind (arith, nat_tests, ne_eqb x a not_a, ne_eqb x b not_b)
 
 -- four darts, a and b of one crossing and c and d of another; a and d are partners, and so are b and c
 pub record AreSides (m : ℕ) (partner : ℕ → ℕ) (a b c d : ℕ) : Type 0 where

@@ -11,7 +11,8 @@ use Rattle.kink_and_finger_laws.proofs.TwoEnds.{is_head_at, HasTwoEnds}
 use Rattle.kink_and_finger_laws.specs.Planar.{HasColours, IsPlanarBy}
 use Rattle.kink_and_finger_laws.specs.Drops.{kept_crossings, kept_signs}
 use Rattle.kink_and_finger_laws.proofs.DroppedDarts.{is_code_head, is_colour, dartwise, IsDropped}
-use Rattle.kink_and_finger_laws.proofs.KeptCodes.{block_place, block_slot, length-kept, kept-name, kept-sign}
+use Rattle.kink_and_finger_laws.proofs.KeptCodes.{length-kept, kept-name, kept-sign}
+use Rattle.kink_and_finger_laws.proofs.Smoothed.{block_place, block_slot}
 
 code_head-dartwise : (crossings : List (List ℕ)) (f : ℕ → ℕ) (x : ℕ)
     → is_code_head crossings (dartwise f x) ≡ enters (positive_at crossings (f (x / 4))) (x % 4)

@@ -4,7 +4,7 @@
 -- equally many circles, that in which both close has one more, and the fourth has the circles of what is left. So three of the
 -- terms cancel, and the fourth is the term of what is left; which bits close depends on the parity of the slots, two cases. The
 -- state sum is split by both bits and added up; first for slots below 4, then for all, and for accepted codes.
-use Rattle.std.proofs.Common.{◌≡◌, ◌≢◌, ℕ, suc, ◌⊎◌, inl, inr, ◌+◌, ◌-◌, ◌%◌, ◌^◌, ◌<◌, ◌≤◌, ◌∙◌, ℤ, ◌+ℤ◌, List, sym, refl, map, ap, ap₂, arith, Bool, true, cond, not, ◌&&◌, ◌||◌, count_by, length, IsTrue, eqb-true}
+use Rattle.std.proofs.Common.{◌≡◌, ◌≢◌, ℕ, suc, inl, inr, ◌+◌, ◌-◌, ◌%◌, ◌^◌, ◌<◌, ◌≤◌, ◌∙◌, ℤ, ◌+ℤ◌, List, sym, refl, map, ap, ap₂, arith, Bool, true, cond, not, ◌&&◌, ◌||◌, count_by, length, IsTrue, eqb-true}
 use Rattle.std.specs.Prelude.{nat_eq}
 use Rattle.std.specs.List.{filter, range_with_len}
 use Rattle.std.proofs.lemmas.List.{length-map}
@@ -32,17 +32,19 @@ use Rattle.kink_and_finger_laws.proofs.DroppedDarts.{is_code_head}
 use Rattle.kink_and_finger_laws.specs.DropCircles.{closing_at, through_at, parts_circle_count, parts_plus, parts_minus, parts_term, parts_sum}
 use Rattle.kink_and_finger_laws.proofs.InsertedBits.{with_bit}
 use Rattle.kink_and_finger_laws.specs.Pulls.{dart_in, early, late}
-use Rattle.kink_and_finger_laws.proofs.Smoothed.{dart_in-below, dart_in-place, IsPermutation-late}
-use Rattle.kink_and_finger_laws.proofs.OldDarts.{heads-partner, dart_in-slot}
+use Rattle.kink_and_finger_laws.proofs.Smoothed.{dart_in-below, IsPermutation-late}
+use Rattle.kink_and_finger_laws.proofs.OldDarts.{heads-partner, dart_in-slot, place_in}
 use Rattle.kink_and_finger_laws.proofs.KeptCodes.{length-kept}
 use Rattle.kink_and_finger_laws.proofs.StandingNames.{count-parts}
 use Rattle.kink_and_finger_laws.proofs.StrandCircles.{circles-dropped}
 use Rattle.kink_and_finger_laws.proofs.KinkCircles.{before}
-use Rattle.kink_and_finger_laws.proofs.KinkDropSums.{count-later, count-filter, count-one, term-is, sums-alike}
+use Rattle.kink_and_finger_laws.proofs.KinkDropSums.{count-later, count-filter, count-one, term-is}
 use Rattle.kink_and_finger_laws.proofs.Insertions.{int_sum-with_bit, HasBit-with_bit}
 use Rattle.kink_and_finger_laws.proofs.FingerDrops.{places-two, late-below}
 use Rattle.kink_and_finger_laws.proofs.FingerTerms.{term_of-finger, term_of-finger_other}
 use Rattle.kink_and_finger_laws.proofs.FingerCircles.{AreBigonNames-bigon, FourStates, FourStates-bigon}
+use Rattle.kh_types.proofs.BitLemmas.{parity}
+use Rattle.kh_types.proofs.IntSums.{int_sum-range_agree}
 
 -- slots below 4
 
@@ -50,9 +52,6 @@ pub HasBigonAt-slots : (crossings : List (List ℕ)) (c d p q : ℕ) → HasBigo
 HasBigonAt-slots crossings c d p q bigon = grind (arith, nat_tests)
 
 -- one of the two crossings is positive, and the other is not
-
-parity : (x : ℕ) → (x % 2 ≡ 0) ⊎ (x % 2 ≡ 1)
-parity x = grind arith
 
 signs-alike : (b e : Bool) (p q : ℕ) → p < 4 → q < 4 → (p + q) % 2 ≡ 1 → enters e ((q + 1) % 4) ≡ not (enters b (p % 4))
     → enters b ((p + 1) % 4) ≡ not (enters e (q % 4)) → e ≡ not b
@@ -63,7 +62,7 @@ pub bigon-signs : (code : Code) (c d p q : ℕ) → IsDirected code.crossings �
 bigon-signs code c d p q directed alone bigon p_slot q_slot =
     let crossings = code.crossings in
     let head_in : (z r : ℕ) → is_code_head code.crossings (dart_in z r) ≡ enters (positive_at code.crossings z) (r % 4) =
-    λ z r. ap (λ a. enters (positive_at code.crossings a) (dart_in z r % 4)) (dart_in-place z r)
+    λ z r. ap (λ a. enters (positive_at code.crossings a) (dart_in z r % 4)) (place_in z r)
     ∙ ap (enters (positive_at code.crossings z)) (dart_in-slot z r) in
     let b = positive_at code.crossings c in
     let e = positive_at code.crossings d in
@@ -234,7 +233,7 @@ four_terms plus minus new_plus new_minus exponent r0 c0 r1 c1 r2 c2 r3 c3 s0 d0 
         → kh.term_of plus minus exponent r c ≡ term_at new_plus new_minus exponent s d
     term_is plus minus new_plus new_minus exponent r c s d plus_is minus_is r_is c_is = grind (arith, nat_tests)
 
-one_of_two : (b : Bool) → one_if b + one_if (not b) ≡ 1
+pub one_of_two : (b : Bool) → one_if b + one_if (not b) ≡ 1
 one_of_two b = grind (arith, nat_tests)
 
 state_sum-slots : (code : Code) (c d p q : ℕ) → IsDirected code.crossings → HasNoSingleArcs code.crossings → HasBigonAt code.crossings c d p q → p < 4 → q < 4 → (exponent : ℤ)
@@ -337,7 +336,7 @@ state_sum-slots code c d p q directed alone bigon p_slot q_slot exponent =
     ap (λ m. int_sum (map (parts_term (arc_count code.crossings + 1) (without_finger code c d) exponent) (range_with_len 0 (2 ^ m)))) left_size
     ∙ sym
     (split
-    ∙ sums-alike (λ state. g (with_bit (length code.crossings - 2) (late c (length code.crossings - 2 + 1) d) 0 state)
+    ∙ int_sum-range_agree (λ state. g (with_bit (length code.crossings - 2) (late c (length code.crossings - 2 + 1) d) 0 state)
     +ℤ g (with_bit (length code.crossings - 2) (late c (length code.crossings - 2 + 1) d) 1 state))
     (parts_term (arc_count code.crossings + 1) (without_finger code c d) exponent) 0 (2 ^ (length code.crossings - 2))
     (λ state from below. each state (omega (arith, below))))

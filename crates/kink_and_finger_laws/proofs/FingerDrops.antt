@@ -22,11 +22,12 @@ use Rattle.kink_and_finger_laws.specs.Pulls.{dart_in, late, early, early_dart, s
 use Rattle.kink_and_finger_laws.specs.Dropping.{HasBigonAt}
 use Rattle.kink_and_finger_laws.proofs.DroppedDarts.{is_code_head, is_colour, dartwise, class_name, IsDropped}
 use Rattle.kink_and_finger_laws.proofs.OldDarts.{IsClosedPlanar-accepted, arc_of_dart-partner, heads-partner, colours-partner, on_arcs, on_arcs-at, arc_of_dart-below, heads-across, colours-next, dart_in-next}
-use Rattle.kink_and_finger_laws.proofs.KeptCodes.{block_place, block_slot, places-but, straight-finest}
-use Rattle.kink_and_finger_laws.proofs.Smoothed.{IsClosedPlanar-smoothed, smoothed-named, dart_in-below, IsPermutation-late, IsPermutation-dartwise}
+use Rattle.kink_and_finger_laws.proofs.KeptCodes.{places-but, straight-finest}
+use Rattle.kink_and_finger_laws.proofs.Smoothed.{IsClosedPlanar-smoothed, smoothed-named, dart_in-below, IsPermutation-late, IsPermutation-dartwise, block_place, block_slot}
 use Rattle.kink_and_finger_laws.proofs.SmoothedValues.{smoothed-flipped, IsTakenBack, IsTakenBack-smoothed}
-use Rattle.kink_and_finger_laws.proofs.KinkDrops.{class_name-across, on_arcs-across, pair_of, pair_of-partner, pair_of-same, twice_not, early-away}
+use Rattle.kink_and_finger_laws.proofs.KinkDrops.{class_name-across, on_arcs-across, pair_of, pair_of-partner, pair_of-same, early-away}
 use Rattle.kink_and_finger_laws.proofs.CrossedSides.{eq_self, AreSides, crossed, crossed-a, crossed-b, crossed-c, crossed-d, crossed-else, crossed-partner}
+use Rattle.kh_types.proofs.Tests.{twice-not}
 
 -- the sides of a bigon
 AreSides-bigon : (crossings : List (List ℕ)) (c d p q : ℕ) → HasBigonAt crossings c d p q
@@ -197,7 +198,7 @@ IsDropped-finger code choice k c d p q is coloured size bigon =
     × (is_code_head crossings (dart_in z (r + 2)) ≡ not (is_code_head crossings (dart_in z r))) =
     λ z r which.
     let one = heads-across crossings z r in
-    (sym (twice_not (is_code_head crossings (dart_in z r))) ∙ ap not (sym one), one) in
+    (sym (twice-not (is_code_head crossings (dart_in z r))) ∙ ap not (sym one), one) in
     let heads = crossed-partner (is_code_head crossings) not (4 * length code.crossings) partner a b s t
     (IsClosedPlanar-accepted code is).pairing are (heads-partner crossings directed.0 directed.1) in
     let head_joints = crossed-joints (is_code_head crossings) not crossings c d p q bigon head_across in

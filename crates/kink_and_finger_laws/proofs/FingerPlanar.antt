@@ -14,7 +14,6 @@ use Rattle.kh_types.specs.Acceptance.{accepted}
 use Rattle.kh_types.proofs.AcceptedLemmas.{IsAccepted-is, HasArcsTwice-directed}
 use Rattle.kh_types.proofs.DartPairs.{IsPairing-partner_at}
 use Rattle.kh_types.proofs.Heads.{HasEnds-directed}
-use Rattle.face_walk.proofs.Cover.{pieces-ends}
 use Rattle.gluing_laws.specs.Codes.{arc_of_dart}
 use Rattle.kink_and_finger_laws.specs.FingerAdd.{opened, fingered, fingered_crossings, with_finger, differ, side_dart, AreOfOneFace, AreOfTwoPieces}
 use Rattle.kink_and_finger_laws.specs.Pulls.{IsClosedPlanar, dart_in}
@@ -25,6 +24,7 @@ use Rattle.kink_and_finger_laws.proofs.NamedPartners.{AreEnds, AreEnds-has, acce
 use Rattle.kink_and_finger_laws.proofs.OldDarts.{IsClosedPlanar-accepted}
 use Rattle.kink_and_finger_laws.proofs.PassEnds.{HasPasses}
 use Rattle.kink_and_finger_laws.proofs.TouchingArcs.{AreBigon-bigon, AreBigonNames, CanTouch, IsClosedPlanar-bigon, bigon_names, bigon_partner}
+use Rattle.face_walk.proofs.OpenFaces.{open_pieces-ends}
 
 -- the ends of the two arcs at which the sides are that touch: one of the over arc and one of the under arc, that first which the
 -- second crossing has
@@ -163,7 +163,7 @@ planar-fingered code a b positive ordered holds can places =
     let q = second_slot positive ordered in
     let piece : (t h : ℕ) → t < 4 * n → partner_at crossings t ≡ h
     → slice_index (pieces_of crossings) (t / 4) ≡ slice_index (pieces_of crossings) (h / 4) =
-    λ t h below is. pieces-ends n partner t (IsPairing-partner_at crossings twice) below ∙ ap (λ z. slice_index (pieces_of crossings) (z / 4)) is in
+    λ t h below is. open_pieces-ends n partner t (IsPairing-partner_at crossings twice) below ∙ ap (λ z. slice_index (pieces_of crossings) (z / 4)) is in
     let touch = can_touch crossings a b positive ordered ta ha tb hb can.apart over under (piece ta ha over.tail_below over.to_head)
     (piece tb hb under.tail_below under.to_head) places in
     face_count-named new (bigon_partner n partner x y p q) (HasArcsTwice-directed new (IsDirected-fingered crossings a b positive ordered can))

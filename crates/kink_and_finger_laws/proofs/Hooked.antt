@@ -21,10 +21,11 @@ use Rattle.kh_types.proofs.RangeCounts.{count_by-alike}
 use Rattle.kh_types.proofs.WalkLemmas.{AreCycles}
 use Rattle.face_walk.specs.AddedArcs.{IsPlanar, HasArcMore, is_open, open_dart_count, open_face_count, open_piece_count, with_arc}
 use Rattle.face_walk.proofs.AddedArcs.{HasArcMore-with_arc, IsPairing-more, StaysInPiece-together, open_dart_count-more, open_faces-split}
-use Rattle.face_walk.proofs.OpenFaces.{AreCycles-open_faces, IsNamed-open_pieces, IsPermutation-face_step, crossing-below, face_back, open_faces-in_pieces, piece_pairs-below, turned-crossing}
+use Rattle.face_walk.proofs.OpenFaces.{AreCycles-open_faces, IsNamed-open_pieces, IsPermutation-face_step, crossing-below, face_back, open_faces-in_pieces, piece_pairs-below}
 use Rattle.face_walk.proofs.PartArcs.{planar-bound}
 use Rattle.kink_and_finger_laws.proofs.CrossedSides.{exchanged}
 use Rattle.kink_and_finger_laws.proofs.Steps.{all_of, all_on}
+use Rattle.kh_types.proofs.DartLemmas.{turned-crossing}
 
 -- the arc at x is cut, and x gets an arc to t, the other end one to s
 abbrev pub hooked : (ℕ → ℕ) → ℕ → ℕ → ℕ → ℕ → ℕ

@@ -13,17 +13,11 @@ use Rattle.std.proofs.lemmas.Int.{ints}
 use Rattle.kh_types.specs.Bits.{bit, ones}
 use Rattle.kh_types.specs.StateSum.{int_sum}
 use Rattle.kh_types.proofs.BitLemmas.{ones-more}
-use Rattle.kh_types.proofs.EdgeBits.{bit-set_other}
-use Rattle.kh_types.proofs.JointNumbers.{bit-highest}
+use Rattle.kh_types.proofs.JointNumbers.{bit-highest, bit-lower}
 use Rattle.kink_and_finger_laws.proofs.InsertedBits.{with_bit}
 use Rattle.kink_and_finger_laws.specs.Pulls.{early}
 use Rattle.gluing_laws.proofs.CodeCircles.{bit-above}
 use Rattle.gluing_laws.proofs.SplitStates.{doubled, sums_over}
-
-bit-lower : (n state k : ℕ) → state < 2 ^ n → k < n → bit (2 ^ n + state) k ≡ bit state k
-bit-lower n state k below k_below =
-    let turned : 2 ^ n + state ≡ state + 2 ^ n = omega arith in
-    ap (λ s. bit s k) turned ∙ bit-set_other state n (bit-above n state below) k (λ same. absurd (omega (arith, k_below, same)))
 
 -- the three cases of a bit more
 

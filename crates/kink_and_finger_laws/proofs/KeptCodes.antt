@@ -27,6 +27,7 @@ use Rattle.gluing_laws.specs.Codes.{arc_of_dart}
 use Rattle.kink_and_finger_laws.specs.Drops.{straight_pairs, straight_names, renamed_slots, kept_places, kept_crossings, kept_signs}
 use Rattle.kink_and_finger_laws.specs.Pulls.{early}
 use Rattle.kink_and_finger_laws.proofs.DroppedDarts.{dartwise, class_name}
+use Rattle.kink_and_finger_laws.proofs.Smoothed.{block_place, block_slot}
 
 -- all places but one
 
@@ -77,12 +78,6 @@ places-but c k within = grind (arith, nat_tests, filter-but c (k - c))
 
 pub renamed_slots-at : (names slots : List ℕ) (slot : ℕ) → slot < 4 → arc_in (renamed_slots names slots) slot ≡ slice_index names (arc_in slots slot)
 renamed_slots-at names slots slot below = grind (arith, nat_tests)
-
-pub block_place : (a x : ℕ) → (4 * a + x % 4) / 4 ≡ a
-block_place a x = omega arith
-
-pub block_slot : (a x : ℕ) → (4 * a + x % 4) % 4 ≡ x % 4
-block_slot a x = omega arith
 
 pub arc_of_dart-dartwise : (crossings : List (List ℕ)) (f : ℕ → ℕ) (x : ℕ)
     → arc_of_dart crossings (dartwise f x) ≡ arc_by_place crossings (f (x / 4)) (x % 4)

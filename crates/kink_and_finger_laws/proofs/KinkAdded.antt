@@ -12,8 +12,7 @@ use Rattle.kh_types.specs.Faces.{open_pieces, piece_pair}
 use Rattle.kh_types.proofs.ClassLemmas.{classes-finest, merged-both, slice_index-joined}
 use Rattle.face_walk.specs.AddedArcs.{HasArcMore, IsPlanar}
 use Rattle.face_walk.proofs.AddedArcs.{IsPairing-more}
-use Rattle.face_walk.proofs.OpenFaces.{IsNamed-open_pieces, crossing-below, piece_pairs-below}
-use Rattle.face_walk.proofs.Cover.{pieces-ends}
+use Rattle.face_walk.proofs.OpenFaces.{IsNamed-open_pieces, crossing-below, piece_pairs-below, open_pieces-ends}
 use Rattle.kink_and_finger_laws.specs.Pulls.{kinked, AreNew, IsClosedPlanar}
 use Rattle.kink_and_finger_laws.proofs.Hooked.{hooked, IsHook, IsPairing-hooked, IsPlanar-beside, IsPlanar-hooked, merged-same, open_pieces-hooked}
 use Rattle.kink_and_finger_laws.proofs.PulledDarts.{with_bare, AreKinked}
@@ -60,7 +59,7 @@ pieces-bare n partner x y pairing x_below y_below same =
     classes-finest class (n + 1) (map (piece_pair bare) (range_with_len 0 (4 * (n + 1))))
     (all_of (λ pair. class pair.0 ≡ class pair.1) (piece_pair bare) 0 (4 * (n + 1))
     (λ z from below. elim (cases_lt z (4 * n)) [
-      | inl low ↦ pieces-ends n partner z pairing low ∙ ap (λ w. class (w / 4)) (sym (bare-low n partner z low))
+      | inl low ↦ open_pieces-ends n partner z pairing low ∙ ap (λ w. class (w / 4)) (sym (bare-low n partner z low))
       | inr high ↦ ap (λ w. class (w / 4)) (sym (bare-high n partner z high))
     ]))
     (piece_pairs-below (n + 1) bare (IsPairing-bare n partner pairing)) (y / 4) (x / 4) (omega (arith, y_below)) (omega (arith, x_below)) same

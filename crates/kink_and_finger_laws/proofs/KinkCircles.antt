@@ -5,7 +5,7 @@
 -- other two slots, and the straight pairs tie the kink's arc to them besides. That arc stands at no other slot, so a mark on it
 -- alone shows that it was in a class of its own: with the straight pairs there is one class fewer. Last, the circles of a code
 -- are its classes, but for that of the number 0, and its loops; so the two statements follow.
-use Rattle.std.proofs.Common.{◌≡◌, ◌≢◌, ℕ, ◌⊎◌, inl, inr, ◌+◌, ◌*◌, ◌/◌, ◌%◌, ◌<◌, ◌≤◌, ◌∙◌, List, [], ◌∷◌, ◌++◌, sym, ap, subst, arith, refl, false, cond, not, length, map, eq-eqb, eqb-true, IsTrue}
+use Rattle.std.proofs.Common.{◌≡◌, ◌≢◌, ℕ, ◌⊎◌, inl, inr, ◌+◌, ◌*◌, ◌/◌, ◌%◌, ◌<◌, ◌≤◌, ◌∙◌, List, [], ◌∷◌, ◌++◌, sym, ap, subst, arith, refl, false, not, length, map, eq-eqb, eqb-true, IsTrue}
 use Rattle.std.specs.Prelude.{slice_index, nat_eq}
 use Rattle.std.specs.List.{filter, range_with_len}
 use Rattle.std.proofs.lemmas.Bool.{both_ways, cases_eq, ne_eqb}
@@ -28,12 +28,12 @@ use Rattle.kink_and_finger_laws.specs.Drops.{straight_pairs, kept_places, withou
 use Rattle.kink_and_finger_laws.specs.Dropping.{HasKinkAt}
 use Rattle.kink_and_finger_laws.specs.Pulls.{dart_in, early}
 use Rattle.kink_and_finger_laws.specs.DropCircles.{joined_at, outer_pairs, through_at, closing_at, parts_circle_count}
-use Rattle.kink_and_finger_laws.proofs.Smoothed.{dart_in-below, dart_in-place, dart_in-apart}
-use Rattle.kink_and_finger_laws.proofs.OldDarts.{arc_of_dart-in}
+use Rattle.kink_and_finger_laws.proofs.Smoothed.{dart_in-below, dart_in-apart}
+use Rattle.kink_and_finger_laws.proofs.OldDarts.{arc_of_dart-in, place_in}
 use Rattle.kink_and_finger_laws.proofs.KinkDrops.{kink-partner}
 use Rattle.kink_and_finger_laws.proofs.KeptCodes.{arc_by_place-below, all-gone, gone-all, places-but}
 use Rattle.kink_and_finger_laws.proofs.SmoothingPairs.{smoothings-all, smoothings-each, outer-all, outer-each, joined-below, passes-low, all_first, all_second}
-use Rattle.kink_and_finger_laws.proofs.BigonJoins.{closing-joined, joined-closing, joined-through, through-joined, mark, mark-off, marked, named-own, pass-straight, straight-pass}
+use Rattle.kink_and_finger_laws.proofs.BigonJoins.{closing-joined, joined-closing, joined-through, through-joined, mark, mark-off, marked, named-own, pass-straight, straight-pass, mark-own}
 use Rattle.kink_and_finger_laws.proofs.StrandCircles.{circles-dropped}
 
 -- a state that goes through the kink has the classes of the other crossings' smoothings and the straight pairs
@@ -78,7 +78,7 @@ classes_of-through crossings n state c p twice kink large is =
     ]))
 
 -- the arc of a kink stands at its two slots alone
-kink-own : (crossings : List (List ℕ)) (c p place slot : ℕ) → HasArcsTwice crossings → HasKinkAt crossings c p → place < length crossings
+pub kink-own : (crossings : List (List ℕ)) (c p place slot : ℕ) → HasArcsTwice crossings → HasKinkAt crossings c p → place < length crossings
     → slot < 4 → arc_by_place crossings place slot ≡ arc_by_place crossings c p
     → (4 * place + slot ≡ dart_in c p) ⊎ (4 * place + slot ≡ dart_in c (p + 1))
 kink-own crossings c p place slot twice kink below slot_below same =
@@ -88,9 +88,6 @@ kink-own crossings c p place slot twice kink below slot_below same =
       | inl own ↦ inl own
       | inr other ↦ inr (other ∙ kink-partner crossings c p twice kink)
     ]
-
-mark-own : (v : ℕ) → mark v v ≡ 1
-mark-own v = ap (λ t. cond t 1 0) (eq-eqb v v refl)
 
 pub class_count-closing : (crossings : List (List ℕ)) (n state c p : ℕ) → HasArcsTwice crossings → HasKinkAt crossings c p
     → arc_count crossings + 1 ≤ n → bit state c ≡ closing_at p
@@ -178,7 +175,7 @@ class_count-closing crossings n state c p twice kink large is =
     (outer-all (λ pair. mark v pair.0 ≡ mark v pair.1) crossings (nat_eq c) state
     (λ place below stays.
     let away : (r slot : ℕ) → slot < 4 → 4 * place + slot ≢ dart_in c r =
-    λ r slot slot_below same. not_gone c place stays (block_of place slot slot_below ∙ ap (λ z. z / 4) same ∙ dart_in-place c r) in
+    λ r slot slot_below same. not_gone c place stays (block_of place slot slot_below ∙ ap (λ z. z / 4) same ∙ place_in c r) in
     let at : (slot : ℕ) → slot < 4 → mark v (arc_by_place crossings place slot) ≡ 0 =
     λ slot slot_below. off place slot below slot_below (away p slot slot_below) (away (p + 1) slot slot_below) in
     marked (λ z. mark v z) (bit state place) (slots_in crossings place) at))

@@ -17,7 +17,7 @@ use Rattle.kh_types.specs.Acceptance.{accepted}
 use Rattle.kh_types.specs.Bits.{one_if, ones}
 use Rattle.kh_types.specs.Code.{Code, arc_count}
 use Rattle.kh_types.specs.Directions.{is_positive, plus_count, minus_count, positive_at}
-use Rattle.kh_types.specs.StateSum.{int_sum, state_sum, state_term, circle_coefficient, signed_by_parity}
+use Rattle.kh_types.specs.StateSum.{int_sum, state_sum, state_term}
 use Rattle.kh_types.specs.StateSum as kh
 use Rattle.kh_types.proofs.AcceptedLemmas.{HasArcsTwice-accepted}
 use Rattle.kh_types.proofs.Heads.{HasNoSingleArcs-accepted}
@@ -31,14 +31,15 @@ use Rattle.kink_and_finger_laws.proofs.DroppedDarts.{is_code_head}
 use Rattle.kink_and_finger_laws.specs.DropCircles.{parts_circle_count, parts_plus, parts_minus, parts_term, parts_sum}
 use Rattle.kink_and_finger_laws.proofs.InsertedBits.{with_bit}
 use Rattle.kink_and_finger_laws.specs.Pulls.{dart_in, early}
-use Rattle.kink_and_finger_laws.proofs.Smoothed.{dart_in-below, dart_in-place}
-use Rattle.kink_and_finger_laws.proofs.OldDarts.{heads-partner, dart_in-slot}
+use Rattle.kink_and_finger_laws.proofs.Smoothed.{dart_in-below}
+use Rattle.kink_and_finger_laws.proofs.OldDarts.{heads-partner, dart_in-slot, place_in}
 use Rattle.kink_and_finger_laws.proofs.KinkDrops.{kink-partner}
 use Rattle.kink_and_finger_laws.proofs.KeptCodes.{length-kept}
 use Rattle.kink_and_finger_laws.proofs.StandingNames.{count-parts, count_by-cons}
 use Rattle.kink_and_finger_laws.proofs.KinkCircles.{kept_are, circles-through, circles-closing}
 use Rattle.gluing_laws.proofs.KinkSums.{term_of-positive_kink, term_of-negative_kink}
 use Rattle.kink_and_finger_laws.proofs.Insertions.{int_sum-with_bit, HasBit-with_bit}
+use Rattle.kh_types.proofs.IntSums.{int_sum-range_agree}
 
 -- the sign of a kink
 
@@ -51,7 +52,7 @@ kink-sign code c p is kink =
     let crossings = code.crossings in
     let directed = HasNoSingleArcs-accepted code is in
     let head_in : (q : ℕ) → is_code_head code.crossings (dart_in c q) ≡ enters (positive_at code.crossings c) (q % 4) =
-    λ q. ap (λ a. enters (positive_at code.crossings a) (dart_in c q % 4)) (dart_in-place c q)
+    λ q. ap (λ a. enters (positive_at code.crossings a) (dart_in c q % 4)) (place_in c q)
     ∙ ap (enters (positive_at code.crossings c)) (dart_in-slot c q) in
     sign-by_slot (positive_at code.crossings c) p kink.slot
     (sym (head_in (p + 1))
@@ -121,12 +122,6 @@ plus-kept code c below =
 
 pub term-is : (plus minus : ℕ) (exponent : ℤ) (r circles : ℕ) → kh.term_of plus minus exponent r circles ≡ term_at plus minus exponent r circles
 term-is plus minus exponent r circles = grind (arith, nat_tests)
-
-pub sums-alike : (f g : ℕ → ℤ) (a n : ℕ) → ((state : ℕ) → a ≤ state → state < a + n → f state ≡ g state)
-    → int_sum (map f (range_with_len a n)) ≡ int_sum (map g (range_with_len a n))
-sums-alike f g a zero same = refl
-sums-alike f g a (suc n) same =
-    grind (arith, nat_tests, sums-alike f g (a + 1) n (λ state from below. same state (omega (arith, from)) (omega (arith, below))))
 
 pub state_sum-without_kink : (code : Code) (c p : ℕ) → IsTrue (accepted code) → HasKinkAt code.crossings c p → (exponent : ℤ)
     → parts_sum (arc_count code.crossings + 1) (without_kink code c) exponent ≡ state_sum code exponent
@@ -205,7 +200,7 @@ state_sum-without_kink code c p is kink exponent =
     ap (λ m. int_sum (map (parts_term (arc_count code.crossings + 1) (without_kink code c) exponent) (range_with_len 0 (2 ^ m)))) left_size
     ∙ sym
     (split
-    ∙ sums-alike (λ state. state_term code exponent (with_bit (length code.crossings - 1) c 0 state)
+    ∙ int_sum-range_agree (λ state. state_term code exponent (with_bit (length code.crossings - 1) c 0 state)
     +ℤ state_term code exponent (with_bit (length code.crossings - 1) c 1 state))
     (parts_term (arc_count code.crossings + 1) (without_kink code c) exponent) 0 (2 ^ (length code.crossings - 1))
     (λ state from below. each state (omega (arith, below))))

@@ -21,9 +21,9 @@ use Rattle.kink_and_finger_laws.specs.Drops.{straight_names}
 use Rattle.kink_and_finger_laws.specs.Pulls.{dart_in, late, early, early_dart, smoothed, IsClosedPlanar}
 use Rattle.kink_and_finger_laws.specs.Dropping.{HasKinkAt}
 use Rattle.kink_and_finger_laws.proofs.DroppedDarts.{is_code_head, is_colour, class_name, IsDropped}
-use Rattle.kink_and_finger_laws.proofs.OldDarts.{IsClosedPlanar-accepted, arc_of_dart-partner, partner-named, heads-partner, colours-partner, on_arcs, on_arcs-at, arc_of_dart-below, arc_of_dart-in, across_cases, heads-across, colours-next, dart_in-next}
+use Rattle.kink_and_finger_laws.proofs.OldDarts.{IsClosedPlanar-accepted, arc_of_dart-partner, partner-named, heads-partner, colours-partner, on_arcs, on_arcs-at, arc_of_dart-below, arc_of_dart-in, across_cases, heads-across, colours-next, dart_in-next, place_in}
 use Rattle.kink_and_finger_laws.proofs.KeptCodes.{places-but, straight-joined, straight-finest}
-use Rattle.kink_and_finger_laws.proofs.Smoothed.{IsClosedPlanar-smoothed, smoothed-named, dart_in-below, dart_in-place, dart_cases, IsPermutation-late, IsPermutation-dartwise, dart_in-apart}
+use Rattle.kink_and_finger_laws.proofs.Smoothed.{IsClosedPlanar-smoothed, smoothed-named, dart_in-below, dart_cases, IsPermutation-late, IsPermutation-dartwise, dart_in-apart}
 use Rattle.kink_and_finger_laws.proofs.SmoothedValues.{smoothed-flipped, IsTakenBack, IsTakenBack-smoothed}
 
 -- the names of the two arcs of each pass of a crossing that is gone are one
@@ -81,9 +81,6 @@ pub turned_at-flips : (m : ℕ) (partner : ℕ → ℕ) (test : ℕ → Bool) (v
     → ((x : ℕ) → x < m → test (partner x) ≡ not (test x))
     → (x : ℕ) → x < m → turned_at test v s (partner x) ≡ not (turned_at test v s x)
 turned_at-flips m partner test v s pairing v_below mates flips x below = grind (arith, nat_tests)
-
-pub twice_not : (b : Bool) → not (not b) ≡ b
-twice_not b = grind (arith, nat_tests)
 
 pub kink-partner : (crossings : List (List ℕ)) (c p : ℕ) → HasArcsTwice crossings → HasKinkAt crossings c p
     → partner_at crossings (dart_in c p) ≡ dart_in c (p + 1)
@@ -179,7 +176,7 @@ IsDropped-kink code choice k c p is coloured size kink =
           λ z below. on_arcs-at crossings taken.whole twice shared z (large z below) in
           let own : taken.whole (dart_in c (p + 1)) ≡ taken.whole (dart_in c p) = ap taken.whole (sym mates) ∙ taken.shared v v_below in
           let all : (q : ℕ) → taken.whole (dart_in c q) ≡ taken.whole (dart_in c p) =
-          λ q. elim (dart_cases c p (dart_in c q) (dart_in-place c q)) [
+          λ q. elim (dart_cases c p (dart_in c q) (place_in c q)) [
             | inl a ↦ ap taken.whole a ∙ own
             | inr b ↦ elim b [
               | inl a ↦ ap taken.whole a ∙ sym taken.first ∙ own

@@ -3,12 +3,13 @@
 -- names give names of crossings. Numbers behind all others that are joined with each other and with no others are one class more.
 -- So a bare crossing, put last, is one more piece; it is one more face, as the face steps turn round it; and its four darts are
 -- open. So crossings are planar with it exactly where they are without it.
-use Rattle.std.proofs.Common.{◌≡◌, ◌≢◌, ℕ, zero, suc, ◌⊎◌, inl, inr, ◌+◌, ◌*◌, ◌/◌, ◌<◌, ◌≤◌, ◌∙◌, List, [], ◌∷◌, ◌++◌, refl, sym, ap, subst, length, map, arith, Bool, true, false, cond}
+use Rattle.std.proofs.Common.{◌≡◌, ℕ, zero, suc, ◌⊎◌, inl, inr, ◌+◌, ◌*◌, ◌/◌, ◌<◌, ◌≤◌, ◌∙◌, List, [], ◌∷◌, ◌++◌, refl, sym, ap, subst, length, map, arith, Bool, true, false, cond}
 use Rattle.std.specs.Prelude.{slice_index, nat_eq, nat_lt}
 use Rattle.std.specs.List.{filter, count_by, range_with_len}
 use Rattle.std.proofs.lemmas.List.{length-append}
 use Rattle.std.proofs.lemmas.List.Elements.{filter-append}
 use Rattle.std.proofs.lemmas.Bool.Decides.{nat_tests}
+use Rattle.std.proofs.lemmas.Bool.{ne_eqb, lt-ltb, cases_lt, le-ltb}
 use Rattle.kh_types.specs.Classes.{classes_of, class_count, is_least, Respects, AreBelow}
 use Rattle.kh_types.proofs.ClassLemmas.{classes-together, classes-finest}
 use Rattle.kh_types.proofs.Ranges.{range-append}
@@ -129,27 +130,15 @@ open_piece_count-renamed n partner other name old crossing_name old_crossing is_
 eq_true : (x y : ℕ) → x ≡ y → nat_eq x y ≡ true
 eq_true x y same = grind (arith, nat_tests)
 
-eq_false : (x y : ℕ) → x ≢ y → nat_eq x y ≡ false
-eq_false x y other = grind (arith, nat_tests)
-
-pub below_or_from : (x n : ℕ) → (x < n) ⊎ (n ≤ x)
-below_or_from x n = grind arith
-
 -- the classes of the numbers below n, and one class of all numbers from n on
 abbrev with_block : List ℕ → ℕ → ℕ → ℕ
 with_block classes n x = cond (nat_lt x n) (slice_index classes x) n
 
-lt_true : (x n : ℕ) → x < n → nat_lt x n ≡ true
-lt_true x n below = grind (arith, nat_tests)
-
-lt_false : (x n : ℕ) → n ≤ x → nat_lt x n ≡ false
-lt_false x n from = grind (arith, nat_tests)
-
 block-below : (classes : List ℕ) (n x : ℕ) → x < n → with_block classes n x ≡ slice_index classes x
-block-below classes n x below = ap (λ b. cond b (slice_index classes x) n) (lt_true x n below)
+block-below classes n x below = ap (λ b. cond b (slice_index classes x) n) (lt-ltb x n below)
 
 block-from : (classes : List ℕ) (n x : ℕ) → n ≤ x → with_block classes n x ≡ n
-block-from classes n x from = ap (λ b. cond b (slice_index classes x) n) (lt_false x n from)
+block-from classes n x from = ap (λ b. cond b (slice_index classes x) n) (le-ltb x n from)
 
 filter_none : (p : ℕ → Bool) (a n : ℕ) → ((x : ℕ) → a ≤ x → x < a + n → p x ≡ false) → length (filter p (range_with_len a n)) ≡ 0
 filter_none p a zero fails = refl
@@ -178,7 +167,7 @@ class_count-block n k pairs others below others_below onward back =
     let parts = onward (λ x. slice_index large x) (classes-together (n + suc k) others others_below) in
     let at_n : slice_index large n ≤ n = large_named.least n (omega arith) in
     let le_block : (x : ℕ) → x < n + suc k → slice_index large x ≤ with_block small n x =
-    λ x x_below. elim (below_or_from x n) [
+    λ x x_below. elim (cases_lt x n) [
       | inl low ↦
           let name = slice_index small x in
           let name_below : name < n = omega (arith, named.least x low, low) in
@@ -189,7 +178,7 @@ class_count-block n k pairs others below others_below onward back =
     let respects = back (with_block small n) (block_respected n pairs below pairs below (classes-together n pairs below))
     (λ x from x_below. block-from small n x from ∙ sym (block-from small n n (omega arith))) in
     let block_le : (z : ℕ) → with_block small n z ≤ z =
-    λ z. elim (below_or_from z n) [
+    λ z. elim (cases_lt z n) [
       | inl low ↦ omega (arith, block-below small n z low, named.least z low)
       | inr high ↦ omega (arith, block-from small n z high, high)
     ] in
@@ -209,7 +198,7 @@ class_count-block n k pairs others below others_below onward back =
     let here : test n ≡ true = eq_true (slice_index large n) n (is_block n (omega arith) ∙ block-from small n n (omega arith)) in
     let rest = filter_none test (n + 1) k
     (λ x from x_below.
-    eq_false (slice_index large x) x
+    ne_eqb (slice_index large x) x
     (λ same. omega (arith, same, is_block x (omega (arith, x_below)), block-from small n x (omega (arith, from)), from))) in
     let zero_n : 0 + n ≡ n = omega arith in
     let cut : range_with_len 0 (n + suc k) ≡ range_with_len 0 n ++ n ∷ range_with_len (n + 1) k =
@@ -233,7 +222,7 @@ open_piece_count-bare n partner more is_partner same bare =
     let pairs = map (piece_pair partner) (range_with_len 0 (4 * n)) in
     let others = map (piece_pair more) (range_with_len 0 (4 * (n + 1))) in
     let more_below : (x : ℕ) → x < 4 * (n + 1) → more x < 4 * (n + 1) =
-    λ x below. elim (below_or_from x (4 * n)) [
+    λ x below. elim (cases_lt x (4 * n)) [
       | inl low ↦ omega (arith, same x low, is_partner.below x low)
       | inr high ↦ omega (arith, bare x high below, below)
     ] in
@@ -252,7 +241,7 @@ open_piece_count-bare n partner more is_partner same bare =
     (λ h holds block.
     all_of (λ pair. h pair.0 ≡ h pair.1) (piece_pair more) 0 (4 * (n + 1))
     (λ x from below.
-    elim (below_or_from x (4 * n)) [
+    elim (cases_lt x (4 * n)) [
       | inl low ↦
           all_on (λ pair. h pair.0 ≡ h pair.1) (piece_pair partner) 0 (4 * n) holds x from (omega (arith, low))
           ∙ ap (λ z. h (z / 4)) (sym (same x low))
@@ -272,7 +261,7 @@ open_face_count-bare n partner more is_partner same bare =
     let pairs = map (step_pair (face_step partner)) (range_with_len 0 (4 * n)) in
     let others = map (step_pair (face_step more)) (range_with_len 0 (4 * (n + 1))) in
     let more_below : (x : ℕ) → x < 4 * (n + 1) → more x < 4 * (n + 1) =
-    λ x below. elim (below_or_from x (4 * n)) [
+    λ x below. elim (cases_lt x (4 * n)) [
       | inl low ↦ omega (arith, same x low, is_partner.below x low)
       | inr high ↦ omega (arith, bare x high below, below)
     ] in
@@ -318,7 +307,7 @@ open_face_count-bare n partner more is_partner same bare =
     all_of (λ pair. h pair.0 ≡ h pair.1) (step_pair (face_step more)) 0 (4 * (n + 1))
     (λ x from below.
     let small : x < 4 * (n + 1) = omega (arith, below) in
-    elim (below_or_from x (4 * n)) [
+    elim (cases_lt x (4 * n)) [
       | inl low ↦
           all_on (λ pair. h pair.0 ≡ h pair.1) (step_pair (face_step partner)) 0 (4 * n) holds x from (omega (arith, low))
           ∙ ap (λ z. h (turned z)) (sym (same x low))

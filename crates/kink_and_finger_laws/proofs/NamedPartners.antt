@@ -21,7 +21,8 @@ use Rattle.gluing_laws.specs.Codes.{arc_of_dart}
 use Rattle.kink_and_finger_laws.specs.Pulls.{IsClosedPlanar, dart_in}
 use Rattle.kink_and_finger_laws.proofs.AddedCodes.{IsAdded, arc_of-uncut, head_dart, tail_dart}
 use Rattle.kink_and_finger_laws.proofs.MoreCrossings.{IsPlanar-agree}
-use Rattle.kink_and_finger_laws.proofs.OldDarts.{arc_of_dart-arc_of, arc_of_dart-in, arc_of_dart-partner, partner-named}
+use Rattle.kink_and_finger_laws.proofs.OldDarts.{arc_of_dart-in, arc_of_dart-partner, partner-named}
+use Rattle.gluing_laws.proofs.DartPairs.{arc_of-dart}
 
 pub face_count-named : (crossings : List (List ℕ)) (partner : ℕ → ℕ) → HasArcsTwice crossings → IsClosedPlanar (length crossings) partner
     → ((z : ℕ) → z < 4 * length crossings → arc_of_dart crossings (partner z) ≡ arc_of_dart crossings z)
@@ -66,7 +67,7 @@ AreEnds-has crossings a twice ends =
     let head = dart_place (head_of crossings a) in
     let below = dart_place-below crossings in
     let name : (d : Dart) → IsDartOf crossings a d → arc_of_dart crossings (dart_place d) ≡ a =
-    λ d is. sym (arc_of_dart-arc_of crossings (dart_place d)) ∙ ap (λ e. arc_of crossings e) (dart_at-place crossings d is.within) ∙ is.on_arc in
+    λ d is. sym (arc_of-dart crossings (dart_place d)) ∙ ap (λ e. arc_of crossings e) (dart_at-place crossings d is.within) ∙ is.on_arc in
     let tail_name = name (tail_of crossings a) ends.tail in
     let head_name = name (head_of crossings a) ends.head in
     let tail_below = below (tail_of crossings a) ends.tail.within in
@@ -84,7 +85,7 @@ AreEnds-has crossings a twice ends =
       to_tail = partner-named crossings twice head tail head_below tail_below (λ same. apart (sym same)) (tail_name ∙ sym head_name);
       others = λ z z_below not_tail not_head on.
           let is : IsDartOf crossings a (dart_at z) =
-          record { within = IsDart-at crossings z z_below; on_arc = arc_of_dart-arc_of crossings z ∙ on } in
+          record { within = IsDart-at crossings z z_below; on_arc = arc_of-dart crossings z ∙ on } in
           elim (cases_Bool (is_head crossings (dart_at z))) [
             | inl enters ↦ not_head (sym (dart_place-at z) ∙ ap dart_place (ends.one_head (dart_at z) is enters))
             | inr leaves ↦
@@ -99,12 +100,12 @@ module _ {old new : List (List ℕ)} {rise end low : ℕ → ℕ} {sign : ℕ �
     (added : IsAdded old new rise end low sign) where
   pub name-tail : (a : ℕ) → HasEnds old a → arc_of_dart new (dart_place (tail_of old a)) ≡ rise a
   name-tail a ends =
-      sym (arc_of_dart-arc_of new (dart_place (tail_of old a)))
+      sym (arc_of-dart new (dart_place (tail_of old a)))
       ∙ ap (λ d. arc_of new d) (dart_at-place old (tail_of old a) ends.tail.within) ∙ tail_dart added a ends
 
   pub name-head : (a : ℕ) → HasEnds old a → arc_of_dart new (dart_place (head_of old a)) ≡ end a
   name-head a ends =
-      sym (arc_of_dart-arc_of new (dart_place (head_of old a)))
+      sym (arc_of-dart new (dart_place (head_of old a)))
       ∙ ap (λ d. arc_of new d) (dart_at-place old (head_of old a) ends.head.within) ∙ head_dart added a ends
 
   -- the partners of darts of arcs that were not cut share their names
@@ -114,8 +115,8 @@ module _ {old new : List (List ℕ)} {rise end low : ℕ → ℕ} {sign : ℕ �
       let twice = HasArcsTwice-directed old added.directed in
       let own : (w : ℕ) → w < 4 * length old → rise (arc_of_dart old w) ≡ end (arc_of_dart old w) → arc_of_dart new w ≡ rise (arc_of_dart old w) =
       λ w w_below same.
-      let old_is = arc_of_dart-arc_of old w in
-      sym (arc_of_dart-arc_of new w)
+      let old_is = arc_of-dart old w in
+      sym (arc_of-dart new w)
       ∙ arc_of-uncut added (dart_at w) (IsDart-at old w w_below) (ap rise old_is ∙ same ∙ ap end (sym old_is)) ∙ ap rise old_is in
       let same = arc_of_dart-partner old twice z below in
       own (partner_at old z) (IsOtherPlace-partner_at old z twice below).below (ap rise same ∙ uncut ∙ ap end (sym same))

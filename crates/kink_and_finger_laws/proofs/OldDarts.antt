@@ -17,9 +17,7 @@ use Rattle.gluing_laws.specs.Arcs.{arc_by_place, enters}
 use Rattle.gluing_laws.specs.Codes.{arc_of_dart}
 use Rattle.kink_and_finger_laws.specs.Pulls.{IsClosedPlanar, dart_in}
 use Rattle.kink_and_finger_laws.proofs.DroppedDarts.{is_code_head, is_colour}
-
-pub arc_of_dart-arc_of : (crossings : List (List ℕ)) (x : ℕ) → arc_of crossings (dart_at x) ≡ arc_of_dart crossings x
-arc_of_dart-arc_of crossings x = grind (arith, nat_tests)
+use Rattle.gluing_laws.proofs.DartPairs.{arc_of-dart}
 
 pub IsClosedPlanar-accepted : (code : Code) → IsTrue (accepted code) → IsClosedPlanar (length code.crossings) (partner_at code.crossings)
 IsClosedPlanar-accepted code is =
@@ -27,7 +25,7 @@ IsClosedPlanar-accepted code is =
 
 pub arc_of_dart-partner : (crossings : List (List ℕ)) → HasArcsTwice crossings → (x : ℕ) → x < 4 * length crossings
     → arc_of_dart crossings (partner_at crossings x) ≡ arc_of_dart crossings x
-arc_of_dart-partner crossings twice x below = grind (arith, nat_tests, arc_of_dart-arc_of, IsOtherPlace-partner_at)
+arc_of_dart-partner crossings twice x below = grind (arith, nat_tests, arc_of-dart, IsOtherPlace-partner_at)
 
 -- two darts of one name, which are not one, are partners
 pub partner-named : (crossings : List (List ℕ)) → HasArcsTwice crossings → (x y : ℕ) → x < 4 * length crossings
@@ -38,7 +36,7 @@ partner-named crossings twice x y x_below y_below differs same =
     (record {
       below = y_below;
       differs = differs;
-      same_arc = arc_of_dart-arc_of crossings y ∙ same ∙ sym (arc_of_dart-arc_of crossings x);
+      same_arc = arc_of-dart crossings y ∙ same ∙ sym (arc_of-dart crossings x);
     }))
 
 pub heads-partner : (crossings : List (List ℕ)) → IsDirected crossings → HasNoSingleArcs crossings → (x : ℕ) → x < 4 * length crossings
@@ -75,7 +73,7 @@ on_arcs-at crossings whole twice shared x below =
     let is = IsDart-at crossings x below in
     let arc = arc_of crossings (dart_at x) in
     let first = IsDartOf-first_dart crossings arc twice (twice.slots dart is) in
-    ap (on_arcs crossings whole) (sym (arc_of_dart-arc_of crossings x))
+    ap (on_arcs crossings whole) (sym (arc_of-dart crossings x))
     ∙ elim (dart_or_partner crossings dart (first_dart crossings arc) twice is first.within first.on_arc) [
       | inl same ↦ ap (λ d. whole (dart_place d)) same ∙ ap whole (dart_place-at x)
       | inr mate ↦
@@ -87,14 +85,14 @@ pub arc_of_dart-below : (crossings : List (List ℕ)) → HasArcsTwice crossings
     → arc_of_dart crossings x < arc_count crossings + 1
 arc_of_dart-below crossings twice x below =
     let is = twice.slots (dart_at x) (IsDart-at crossings x below) in
-    omega (arith, sym (arc_of_dart-arc_of crossings x), is.within)
+    omega (arith, sym (arc_of-dart crossings x), is.within)
 
 -- round a crossing
 
 pub dart_in-slot : (c q : ℕ) → dart_in c q % 4 ≡ q % 4
 dart_in-slot c q = omega arith
 
-place_in : (c q : ℕ) → dart_in c q / 4 ≡ c
+pub place_in : (c q : ℕ) → dart_in c q / 4 ≡ c
 place_in c q = omega arith
 
 pub arc_of_dart-in : (crossings : List (List ℕ)) (c q : ℕ) → arc_of_dart crossings (dart_in c q) ≡ arc_by_place crossings c (q % 4)

@@ -13,10 +13,12 @@ use Rattle.kh_types.specs.Darts.{IsPairing, turned}
 use Rattle.kh_types.proofs.RangeCounts.{count_by-alike, count_by-one_more}
 use Rattle.face_walk.specs.AddedArcs.{is_open, open_dart_count, IsPlanar}
 use Rattle.kh_types.specs.Permutations.{IsPermutation}
-use Rattle.face_walk.proofs.OpenFaces.{turned-crossing}
 use Rattle.kink_and_finger_laws.specs.Pulls.{pulled, bared, dart_in, late, early, late_dart, early_dart, smoothed, IsClosedPlanar}
 use Rattle.kink_and_finger_laws.proofs.Pulls.{AreHeld, pulled-first, pulled-second, IsPairing-pulled, IsPlanar-pulled}
 use Rattle.kink_and_finger_laws.proofs.MoreCrossings.{open_face_count-renamed, open_piece_count-renamed, IsPlanar-not_bare}
+use Rattle.kh_types.proofs.DartLemmas.{turned-crossing}
+use Rattle.face_walk.proofs.OpenFaces.{crossing-below}
+use Rattle.kink_and_finger_laws.proofs.OldDarts.{place_in}
 
 -- what is not pulled stays with some other dart
 pulled-held : (m : ℕ) (partner : ℕ → ℕ) (s t x : ℕ) → IsPairing m partner → AreHeld m partner s t → x < m → partner x ≢ x → x ≢ s → x ≢ t
@@ -37,9 +39,6 @@ dart_cases c p x is = grind arith
 
 dart_in-turned_last : (c slot : ℕ) → turned (dart_in c slot) ≡ dart_in c (slot + 3)
 dart_in-turned_last c slot = omega arith
-
-pub dart_in-place : (c slot : ℕ) → dart_in c slot / 4 ≡ c
-dart_in-place c slot = omega arith
 
 pub dart_in-apart : (c slot : ℕ) → (dart_in c (slot + 1) ≢ dart_in c (slot + 2)) × (dart_in c (slot + 3) ≢ dart_in c slot)
     × (dart_in c (slot + 3) ≢ dart_in c (slot + 1)) × (dart_in c (slot + 3) ≢ dart_in c (slot + 2))
@@ -96,7 +95,7 @@ IsBared-closed n partner c p closed below =
         ]
       ];
       elsewhere = λ x x_below away.
-          let not : (slot : ℕ) → x ≢ dart_in c slot = λ slot same. away (ap (λ z. z / 4) same ∙ dart_in-place c slot) in
+          let not : (slot : ℕ) → x ≢ dart_in c slot = λ slot same. away (ap (λ z. z / 4) same ∙ place_in c slot) in
           pulled-held (4 * n) (pulled partner s t) u v x pairing held_more x_below
           (one_held x x_below (not (p + 1)) (not (p + 2))) (not (p + 3)) (not p);
     }
@@ -115,11 +114,8 @@ IsPermutation-late c k within = grind (arith, nat_tests)
 pub block_place : (a x : ℕ) → (4 * a + x % 4) / 4 ≡ a
 block_place a x = omega arith
 
-block_slot : (a x : ℕ) → (4 * a + x % 4) % 4 ≡ x % 4
+pub block_slot : (a x : ℕ) → (4 * a + x % 4) % 4 ≡ x % 4
 block_slot a x = omega arith
-
-pub place_below : (n x : ℕ) → x < 4 * n → x / 4 < n
-place_below n x below = omega (arith, below)
 
 -- a permutation of crossings, of their darts
 abbrev pub dartwise : (ℕ → ℕ) → ℕ → ℕ
@@ -215,7 +211,7 @@ IsClosedPlanar-smoothed k partner c p closed within =
     λ x below away same.
     let y_below = darts.back_below x below in
     bare.elsewhere (early_dart c k x) y_below
-    (λ is. away (from_c c k (x / 4) within (place_below (k + 1) x below) (sym (block_place (early c k (x / 4)) x) ∙ is)))
+    (λ is. away (from_c c k (x / 4) within (crossing-below (k + 1) x below) (sym (block_place (early c k (x / 4)) x) ∙ is)))
     (sym (darts.back_f (bared partner c p (early_dart c k x)) (bare.pairing.below (early_dart c k x) y_below))
     ∙ ap (early_dart c k) same) in
     let in_order : (x : ℕ) → x < 4 * (k + 1) → smoothed partner c k p (late_dart c k x) ≡ late_dart c k (bared partner c p x) =

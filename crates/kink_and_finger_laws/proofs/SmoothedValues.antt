@@ -6,7 +6,9 @@ use Rattle.kh_types.specs.Darts.{IsPairing}
 use Rattle.kink_and_finger_laws.specs.Pulls.{pulled, bared, dart_in, late, early, late_dart, early_dart, smoothed, IsClosedPlanar}
 use Rattle.kink_and_finger_laws.proofs.PulledDarts.{taken_back}
 use Rattle.kink_and_finger_laws.proofs.Pulls.{AreHeld, IsPairing-pulled}
-use Rattle.kink_and_finger_laws.proofs.Smoothed.{holds-twice, dart_in-apart, dart_in-place, IsBared-closed, IsPermutation-late, IsPermutation-dartwise, block_place, place_below}
+use Rattle.kink_and_finger_laws.proofs.Smoothed.{holds-twice, dart_in-apart, IsBared-closed, IsPermutation-late, IsPermutation-dartwise, block_place}
+use Rattle.face_walk.proofs.OpenFaces.{crossing-below}
+use Rattle.kink_and_finger_laws.proofs.OldDarts.{place_in}
 
 -- a test that partners tell apart, and the darts that are joined at the crossing too, is told apart by the new partners
 bared-flipped : (n : ℕ) (partner : ℕ → ℕ) (c p : ℕ) (test : ℕ → Bool) → IsClosedPlanar n partner → c < n
@@ -25,7 +27,7 @@ smoothed-flipped k partner c p test closed within flips first second x below =
     let y_below = darts.back_below x (omega (arith, below)) in
     ap test (darts.back_f (bared partner c p (early_dart c k x)) (bare.pairing.below (early_dart c k x) y_below))
     ∙ bared-flipped (k + 1) partner c p test closed (omega (arith, within)) flips first second (early_dart c k x) y_below
-    (λ is. early_not_last c k (x / 4) within (place_below k x below) (sym (block_place (early c k (x / 4)) x) ∙ is))
+    (λ is. early_not_last c k (x / 4) within (crossing-below k x below) (sym (block_place (early c k (x / 4)) x) ∙ is))
   where
     early_not_last : (c k x : ℕ) → c ≤ k → x < k → early c k x ≡ c → ⊥
     early_not_last c k x within below is = grind (arith, nat_tests)
@@ -79,7 +81,7 @@ IsTakenBack-smoothed k partner c p h closed within shared =
     let whole : ℕ → ℕ = taken_back partner (taken_back (pulled partner s t) (λ x. h (late_dart c k x)) u v) s t in
     let kept_at : (x : ℕ) → x / 4 ≢ c → taken_back partner (taken_back (pulled partner s t) (λ x. h (late_dart c k x)) u v) s t x ≡ h (late_dart c k x) =
     λ x away.
-    let not_at : (slot : ℕ) → x ≢ dart_in c slot = λ slot same. away (ap (λ z. z / 4) same ∙ dart_in-place c slot) in
+    let not_at : (slot : ℕ) → x ≢ dart_in c slot = λ slot same. away (ap (λ z. z / 4) same ∙ place_in c slot) in
     taken_back-else partner middle s t x (not_at (p + 1)) (not_at (p + 2))
     ∙ taken_back-else (pulled partner s t) (λ x. h (late_dart c k x)) u v x (not_at (p + 3)) (not_at p) in
     record {
@@ -90,7 +92,7 @@ IsTakenBack-smoothed k partner c p h closed within shared =
           ∙ sym (taken_back-else partner middle s t v apart.4 apart.5);
       kept = λ x below.
           kept_at (early_dart c k x)
-          (λ is. early_not_last c k (x / 4) within (place_below k x below) (sym (block_place (early c k (x / 4)) x) ∙ is))
+          (λ is. early_not_last c k (x / 4) within (crossing-below k x below) (sym (block_place (early c k (x / 4)) x) ∙ is))
           ∙ ap h (darts.f_back x (omega (arith, below)));
     }
   where
@@ -102,4 +104,4 @@ IsTakenBack-smoothed k partner c p h closed within shared =
 
     late_small : (c k x : ℕ) → c ≤ k → x < 4 * (k + 1) → x / 4 ≢ c → late_dart c k x < 4 * k
     late_small c k x within below away =
-        let q = late_place c k (x / 4) within (place_below (k + 1) x below) away in omega (arith, q)
+        let q = late_place c k (x / 4) within (crossing-below (k + 1) x below) away in omega (arith, q)

@@ -1,8 +1,8 @@
 -- What is left is sound.
 use Rattle.std.proofs.lemmas.Bool.Decides.{nat_tests}
-use Rattle.std.proofs.Common.{◌≡◌, ◌≢◌, ℕ, inl, inr, ◌+◌, ◌-◌, ◌*◌, ◌%◌, ◌<◌, ◌≤◌, ◌∙◌, List, sym, ap, arith, refl, Bool, true, false, not, ◌&&◌, ◌||◌, length, IsTrue, eqb-true, eq-eqb, zero, suc}
+use Rattle.std.proofs.Common.{◌≡◌, ◌≢◌, ℕ, ◌+◌, ◌-◌, ◌*◌, ◌%◌, ◌<◌, ◌∙◌, List, sym, ap, arith, refl, Bool, true, false, not, ◌&&◌, length, IsTrue, eqb-true, eq-eqb}
 use Rattle.std.specs.Prelude.{nat_eq}
-use Rattle.std.proofs.lemmas.Bool.{and_parts, both_ways, cases_Bool}
+use Rattle.std.proofs.lemmas.Bool.{and_parts, both_ways}
 use Rattle.std.specs.List.{list_any, range_with_len}
 use Rattle.kh_types.specs.Acceptance.{accepted}
 use Rattle.kh_types.specs.Bits.{bit}
@@ -17,6 +17,7 @@ use Rattle.kink_and_finger_laws.proofs.TwoEnds.{ArePaired-ends}
 use Rattle.kink_and_finger_laws.proofs.Dropped.{HasTwoEnds-dropped, HasColours-dropped, IsPlanarBy-dropped}
 use Rattle.kink_and_finger_laws.proofs.KinkDrops.{IsDropped-kink}
 use Rattle.kink_and_finger_laws.proofs.FingerDrops.{IsDropped-finger}
+use Rattle.kh_types.proofs.RangeCounts.{list_any-one}
 
 pub IsSound-kink : (code : Code) (c p : ℕ) → IsTrue (accepted code) → HasKinkAt code.crossings c p → IsPlanarRest (without_kink code c)
 IsSound-kink code c p is kink =
@@ -58,14 +59,6 @@ IsSound-finger code c d p q is bigon =
 
 -- the tests find what they should
 
-any_range : (test : ℕ → Bool) (a n : ℕ) → list_any test (range_with_len a n) ≡ true
-    → (x : ℕ) × (a ≤ x) × (x < a + n) × (test x ≡ true)
-any_range test a zero holds = absurd (both_ways false refl holds)
-any_range test a (suc n) holds = elim (cases_Bool (test a)) [
-  | inl here ↦ (a, omega arith, omega arith, here)
-  | inr away ↦
-      let rest = any_range test (a + 1) n (sym (ap (λ t. t || list_any test (range_with_len (a + 1) n)) away) ∙ holds) in
-      (rest.0, omega (arith, rest.1), omega (arith, rest.2), rest.3)
 ]
 
 pub HasKinkAt-found : (crossings : List (List ℕ)) (c : ℕ) → c < length crossings → is_kink (slots_in crossings c) ≡ true
@@ -77,9 +70,9 @@ pub HasBigonAt-found : (crossings : List (List ℕ)) (c d : ℕ) → c < length 
 HasBigonAt-found crossings c d c_below d_below holds =
     let parts = and_parts (not (nat_eq c d))
     (list_any (λ p. list_any (is_bigon_at crossings c d p) (range_with_len 0 4)) (range_with_len 0 4)) holds in
-    let at = any_range (λ p. list_any (is_bigon_at crossings c d p) (range_with_len 0 4)) 0 4 parts.1 in
+    let at = list_any-one (λ p. list_any (is_bigon_at crossings c d p) (range_with_len 0 4)) 0 4 parts.1 in
     let p = at.0 in
-    let found = any_range (is_bigon_at crossings c d at.0) 0 4 at.3 in
+    let found = list_any-one (is_bigon_at crossings c d at.0) 0 4 at.3 in
     let q = found.0 in
     let tests = and_parts (nat_eq (partner_at crossings (4 * c + at.0)) (4 * d + after found.0))
     (nat_eq (partner_at crossings (4 * d + found.0)) (4 * c + after at.0) && nat_eq ((at.0 + found.0) % 2) 1) found.3 in

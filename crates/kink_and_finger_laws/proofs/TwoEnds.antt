@@ -5,16 +5,17 @@
 -- test, and a count above zero gives a dart. So one head and one tail for each name make arcs paired, and paired arcs give each
 -- head its one tail, and back.
 use Rattle.std.proofs.lemmas.Bool.Decides.{nat_tests}
-use Rattle.std.proofs.Common.{◌≡◌, ℕ, zero, suc, ◌⊎◌, inl, inr, ◌+◌, ◌*◌, ◌/◌, ◌%◌, ◌<◌, ◌≤◌, ◌∙◌, List, ◌∷◌, length, refl, sym, ap, ap₂, arith, Bool, true, false, cond, not, ◌&&◌, eq-eqb, eqb-true}
+use Rattle.std.proofs.Common.{◌≡◌, ℕ, zero, suc, ◌⊎◌, inl, inr, ◌+◌, ◌*◌, ◌/◌, ◌%◌, ◌<◌, ◌≤◌, ◌∙◌, List, length, refl, sym, ap, ap₂, arith, Bool, true, false, cond, not, ◌&&◌, eq-eqb, eqb-true}
 use Rattle.std.specs.Prelude.{nat_eq, if◌then◌else◌}
 use Rattle.std.specs.List.{count_by, flat_map, range_with_len}
-use Rattle.std.proofs.lemmas.Bool.{cases_Bool, and_parts}
-use Rattle.std.proofs.lemmas.List.Sums.{sum_by-append, sum_by-cons}
+use Rattle.std.proofs.lemmas.Bool.{cases_Bool, and_parts, and_from}
+use Rattle.std.proofs.lemmas.List.Sums.{sum_by-append}
 use Rattle.kh_types.proofs.RangeCounts.{found-counted, count_by-but, only-counted}
 use Rattle.code_passes.specs.Passes.{Pass}
 use Rattle.code_passes.specs.Parts.{Parts, is_positive_at, ArePaired, passes_at, head_count, tail_count}
 use Rattle.gluing_laws.specs.Codes.{arc_of_dart}
 use Rattle.gluing_laws.specs.Arcs.{arc_by_place, enters}
+use Rattle.kink_and_finger_laws.proofs.StandingNames.{count_by-cons}
 
 -- whether the dart at a place of darts is a head, where each crossing has a sign
 abbrev pub is_head_at : List Bool → ℕ → Bool
@@ -38,9 +39,6 @@ is_head_of strands name x = is_head_at strands.positive x && nat_eq (arc_of_dart
 abbrev pub is_tail_of : Parts → ℕ → ℕ → Bool
 is_tail_of strands name x = not (is_head_at strands.positive x) && nat_eq (arc_of_dart strands.crossings x) name
 
-count-step : (p : ℕ → Bool) (x : ℕ) (xs : List ℕ) → count_by p (x ∷ xs) ≡ cond (p x) 1 0 + count_by p xs
-count-step p x xs = sum_by-cons (λ y. cond (p y) 1 0) x xs
-
 -- a count over the darts, crossing by crossing
 pub count-darts : (p : ℕ → Bool) (a n : ℕ)
     → count_by p (range_with_len (4 * a) (4 * suc n))
@@ -54,10 +52,10 @@ count-darts p a n =
     omega (
       arith,
       ap (λ m. count_by p (range_with_len (4 * a) m)) e,
-      count-step p (4 * a) (range_with_len (4 * a + 1) (suc (suc (suc (4 * n))))),
-      count-step p (4 * a + 1) (range_with_len (4 * a + 1 + 1) (suc (suc (4 * n)))),
-      count-step p (4 * a + 1 + 1) (range_with_len (4 * a + 1 + 1 + 1) (suc (4 * n))),
-      count-step p (4 * a + 1 + 1 + 1) (range_with_len (4 * a + 1 + 1 + 1 + 1) (4 * n)),
+      count_by-cons p (4 * a) (range_with_len (4 * a + 1) (suc (suc (suc (4 * n))))),
+      count_by-cons p (4 * a + 1) (range_with_len (4 * a + 1 + 1) (suc (suc (4 * n)))),
+      count_by-cons p (4 * a + 1 + 1) (range_with_len (4 * a + 1 + 1 + 1) (suc (4 * n))),
+      count_by-cons p (4 * a + 1 + 1 + 1) (range_with_len (4 * a + 1 + 1 + 1 + 1) (4 * n)),
       ap {B = ℕ} (λ x. cond (p x) 1 0) two,
       ap {B = ℕ} (λ x. cond (p x) 1 0) three,
       ap (λ x. count_by p (range_with_len x (4 * n))) four,
@@ -160,7 +158,7 @@ count-at_most : (p : ℕ → Bool) (a n : ℕ)
 count-at_most p a zero one = omega arith
 count-at_most p a (suc n) one =
     let rest = range_with_len (a + 1) n in
-    let step = count-step p a (range_with_len (a + 1) n) in
+    let step = count_by-cons p a (range_with_len (a + 1) n) in
     elim (cases_Bool (p a)) [
       | inr off ↦
           let none : cond (p a) 1 0 ≡ 0 = ap {B = ℕ} (λ t. cond t 1 0) off in
@@ -184,16 +182,13 @@ count-at_most p a (suc n) one =
 pub count-some : (p : ℕ → Bool) (n x : ℕ) → x < n → p x ≡ true → 0 < count_by p (range_with_len 0 n)
 count-some p n x below holds = grind (arith, nat_tests, count_by-but p 0 n x (omega arith) (omega (arith, below)) holds)
 
-both : (a b : Bool) → a ≡ true → b ≡ true → (a && b) ≡ true
-both a b first second = grind (arith, nat_tests)
-
 not_false : (b : Bool) → not b ≡ true → b ≡ false
 not_false b is = grind (arith, nat_tests)
 
 pub head-of : (strands : Parts) (name x : ℕ) → is_head_at strands.positive x ≡ true → arc_of_dart strands.crossings x ≡ name
     → is_head_of strands name x ≡ true
 head-of strands name x head same =
-    both (is_head_at strands.positive x) (nat_eq (arc_of_dart strands.crossings x) name) head (eq-eqb (arc_of_dart strands.crossings x) name same)
+    and_from (is_head_at strands.positive x) (nat_eq (arc_of_dart strands.crossings x) name) head (eq-eqb (arc_of_dart strands.crossings x) name same)
 
 pub of-head : (strands : Parts) (name x : ℕ) → is_head_of strands name x ≡ true
     → (is_head_at strands.positive x ≡ true) × (arc_of_dart strands.crossings x ≡ name)
@@ -204,7 +199,7 @@ of-head strands name x holds =
 tail-of : (strands : Parts) (name x : ℕ) → is_head_at strands.positive x ≡ false → arc_of_dart strands.crossings x ≡ name
     → is_tail_of strands name x ≡ true
 tail-of strands name x tail same =
-    both (not (is_head_at strands.positive x)) (nat_eq (arc_of_dart strands.crossings x) name) (ap not tail)
+    and_from (not (is_head_at strands.positive x)) (nat_eq (arc_of_dart strands.crossings x) name) (ap not tail)
     (eq-eqb (arc_of_dart strands.crossings x) name same)
 
 of-tail : (strands : Parts) (name x : ℕ) → is_tail_of strands name x ≡ true

@@ -1,5 +1,5 @@
 -- One test of all that two pairs of objects have to be: it computes.
-use Rattle.std.proofs.Common.{◌≡◌, ◌≢◌, ℕ, ◌+◌, ◌^◌, ◌<◌, ◌∷◌, refl, arith, Bool, true, false, not, ◌&&◌, ◌||◌}
+use Rattle.std.proofs.Common.{◌≡◌, ◌≢◌, ℕ, ◌+◌, ◌^◌, ◌<◌, ◌∷◌, arith, Bool, true, not, ◌&&◌, ◌||◌}
 use Rattle.std.specs.Prelude.{nat_eq, nat_lt}
 use Rattle.std.specs.List.{list_all, range_with_len}
 use Rattle.std.proofs.lemmas.Bool.{and_parts, eq-eqb, eqb-true, ltb-true, not-true, or_left, or_right}
@@ -8,6 +8,7 @@ use Rattle.layer_laws.specs.Cuts.{cut_objects, is_step}
 use Rattle.layer_laws.specs.Slid.{is_left, left_objects}
 use Rattle.layer_laws.proofs.Reorderings.{is_in, is_reordered, at_odds}
 use Rattle.layer_laws.proofs.TwoPairs.{ArePairs, behind_first, is_alone}
+use Rattle.kh_types.proofs.Tests.{unless-forth}
 
 abbrev pub is_alone_left : ℕ → ℕ → ℕ → ℕ → ℕ → ℕ → Bool
 is_alone_left k closing above below x y =
@@ -38,13 +39,8 @@ abbrev pub are_pairs : ℕ → ℕ → ℕ → ℕ → Bool
 are_pairs k closing above below =
     are_steps k closing above below && (are_listed k closing above below && are_alone k closing above below)
 
--- a premise that is true may be left out
-pub given-that : (a b : Bool) → (not a || b) ≡ true → a ≡ true → b ≡ true
-given-that true b either is = either
-given-that false b either is = at_odds false is refl
-
 pub same-if : (a : Bool) (x y : ℕ) → a ≡ true → (not a || nat_eq x y) ≡ true → x ≡ y
-same-if a x y is either = eqb-true x y (given-that a (nat_eq x y) either is)
+same-if a x y is either = eqb-true x y (unless-forth a (nat_eq x y) either is)
 
 unequal : (x y : ℕ) → not (nat_eq x y) ≡ true → x ≢ y
 unequal x y is same = at_odds (nat_eq x y) (eq-eqb x y same) (not-true (nat_eq x y) is)
@@ -93,8 +89,8 @@ module _ (k closing above below : ℕ) (kind : ℕ → ℕ) (are : are_pairs k c
         no_second_tail = not-true (is_in below others) gone_second.0;
         no_second_head = not-true (is_in (closing + 2 ^ k) others) gone_second.1;
         alone = λ x y x_within y_within x_left y_left.
-            given-that (is_left closing above below y) (is_alone k closing above below x y)
-            (given-that (is_left closing above below x)
+            unless-forth (is_left closing above below y) (is_alone k closing above below x y)
+            (unless-forth (is_left closing above below x)
             (not (is_left closing above below y) || is_alone k closing above below x y)
             (list_all-at (is_alone_left k closing above below x) 0 (2 ^ k) y
             (list_all-at (λ x. list_all (is_alone_left k closing above below x) (range_with_len 0 (2 ^ k))) 0 (2 ^ k) x more_parts.1

@@ -8,9 +8,10 @@ use Rattle.kh_types.specs.Bits.{one_if, ones}
 use Rattle.kh_types.proofs.RangeCounts.{list_all-at}
 use Rattle.layer_laws.specs.Cuts.{is_step}
 use Rattle.layer_laws.specs.Slid.{above_of, below_of, is_joined, is_left, is_near, kind_after, kind_before, left_objects, left_power}
-use Rattle.layer_laws.proofs.PairTests.{are_pairs, given-that, pairs-from, same-if}
+use Rattle.layer_laws.proofs.PairTests.{are_pairs, pairs-from, same-if}
 use Rattle.layer_laws.proofs.Reorderings.{is_reordered}
 use Rattle.layer_laws.proofs.TwoPairs.{ArePairs}
+use Rattle.kh_types.proofs.Tests.{unless-forth}
 
 -- another state that is next to the closing one
 abbrev pub third_of : ℕ → ℕ
@@ -94,7 +95,7 @@ near-kinds o t above below within near =
     let one = nat_eq (kind_before o t) (kind_before o o) in
     let other = nat_eq (kind_after o t) (kind_after o o) in
     let all =
-    given-that (is_near o t) (one && other)
+    unless-forth (is_near o t) (one && other)
     (list_all-at (λ t. not (is_near o t) || (nat_eq (kind_before o t) (kind_before o o) && nat_eq (kind_after o t) (kind_after o o))) 0 8 t
     (at (λ o. list_all (λ t. not (is_near o t) || (nat_eq (kind_before o t) (kind_before o o)
     && nat_eq (kind_after o t) (kind_after o o))) (range_with_len 0 8)) o all-near above below)
@@ -128,7 +129,7 @@ exchanged-is o t above below within last =
     let counts = nat_eq (ones 3 other) (ones 3 t) in
     let back = nat_eq (exchanged o other) t in
     let all =
-    given-that (is_last o t) (is_last o other && (nat_lt other 8 && (kinds && (counts && back))))
+    unless-forth (is_last o t) (is_last o other && (nat_lt other 8 && (kinds && (counts && back))))
     (list_all-at (is_exchanged o) 0 8 t (at (λ o. list_all (is_exchanged o) (range_with_len 0 8)) o all-exchanged above below)
     (omega arith) (omega (arith, within))) last in
     let first = and_parts (is_last o other) (nat_lt other 8 && (kinds && (counts && back))) all in
@@ -161,7 +162,7 @@ signed-is o x y above below x_within y_within x_last y_last =
     let joined_other = joined_at o (exchanged o x) (exchanged o y) in
     let sum = power_at o x y + (turn_of o x + (turn_of o y + power_at o (exchanged o x) (exchanged o y))) in
     let all =
-    given-that (is_last o x && is_last o y)
+    unless-forth (is_last o x && is_last o y)
     (nat_eq (one_if joined) (one_if joined_other) && (not joined || nat_eq (sum % 2) 0))
     (list_all-at (is_signed o x) 0 8 y
     (list_all-at (λ x. list_all (is_signed o x) (range_with_len 0 8)) 0 8 x

@@ -17,6 +17,7 @@ use Rattle.kh_types.specs.Classes.{AreBelow, class_count, classes_of, is_least, 
 use Rattle.kh_types.specs.Bits.{one_if}
 use Rattle.kh_types.proofs.ClassLemmas.{length-joined, merged-low, merged-moved}
 use Rattle.kh_types.proofs.LabelDegrees.{sum_by-later}
+use Rattle.kh_types.proofs.Lists.{slice_index-left}
 
 -- all numbers raised
 abbrev pub lifted : ℕ → List ℕ → List ℕ
@@ -24,12 +25,6 @@ lifted m xs = map (λ x. m + x) xs
 
 abbrev pub lifted_pairs : ℕ → List (ℕ × ℕ) → List (ℕ × ℕ)
 lifted_pairs m pairs = map (λ pair. (m + pair.0, m + pair.1)) pairs
-
--- entries of a list
-pub index-front : (xs ys : List ℕ) (k : ℕ) → k < length xs → slice_index (xs ++ ys) k ≡ slice_index xs k
-index-front [] ys k below = absurd (omega (arith, below))
-index-front (x ∷ xs) ys zero below = refl
-index-front (x ∷ xs) ys (suc k) below = index-front xs ys k (omega (arith, below))
 
 pub index-back : (xs ys : List ℕ) (k : ℕ) → slice_index (xs ++ ys) (length xs + k) ≡ slice_index ys k
 index-back [] ys k = let e : length {A = ℕ} [] + k ≡ k = omega arith in ap (slice_index ys) e
@@ -72,8 +67,8 @@ joined-front m front back pair size below first second =
     let y = slice_index front pair.1 in
     let x_below : x < m = below pair.0 (omega (arith, first, size)) in
     let y_below : y < m = below pair.1 (omega (arith, second, size)) in
-    ap₂ (λ a b. merged_all a b (front ++ lifted m back)) (index-front front (lifted m back) pair.0 (omega (arith, first, size)))
-    (index-front front (lifted m back) pair.1 (omega (arith, second, size)))
+    ap₂ (λ a b. merged_all a b (front ++ lifted m back)) (slice_index-left front (lifted m back) pair.0 (omega (arith, first, size)))
+    (slice_index-left front (lifted m back) pair.1 (omega (arith, second, size)))
     ∙ map-append (merged x y) front (lifted m back)
     ∙ ap (λ zs. map (merged x y) front ++ zs)
     (map-kept (merged x y) (lifted m back)
@@ -170,7 +165,7 @@ class_count-append_lists m front back size =
     counted all ∙ ap (λ k. sum_by (test all) (range_with_len 0 k)) whole ∙ sum_by-parts (test all) 0 m n
     ∙ ap₂ (λ x y. x + y)
     (sum_by-range_alike (test all) (test front) 0 m
-    (λ x from below. ap (λ c. cond (nat_eq c x) 1 0) (index-front front (lifted m back) x (omega (arith, below, size))))
+    (λ x from below. ap (λ c. cond (nat_eq c x) 1 0) (slice_index-left front (lifted m back) x (omega (arith, below, size))))
     ∙ ap (λ k. sum_by (test front) (range_with_len 0 k)) (sym size) ∙ sym (counted front))
     (sum_by-range_alike (λ k. test all (m + k)) (test back) 0 n
     (λ k from below.

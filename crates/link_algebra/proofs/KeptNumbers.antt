@@ -28,7 +28,7 @@ use Rattle.link_algebra.proofs.MirrorParts.{IsTurnOf-mirror, listed}
 use Rattle.link_algebra.proofs.MirrorPasses.{arc-there, follows-next, label-mirrored, paired_parts, there-arc, under-of}
 use Rattle.link_algebra.proofs.PartLemmas.{map-numbered}
 use Rattle.link_algebra.proofs.TurnedCodes.{mirror-rotated, mirror-signs}
-use Rattle.link_algebra.proofs.Twice.{twice-not}
+use Rattle.kh_types.proofs.Tests.{twice-not}
 
 less-of : (a b : ℕ) → int_lt (pos b) (pos a) ≡ true → b < a
 less-of a b less = grind (arith, ints, nat_tests)

@@ -57,9 +57,6 @@ spun-round b c place round = omega (arith, round, spun-crossing b place, spun-sl
 spun-turned : (b place : ℕ) → turned (spun b place) ≡ spun b (turned place)
 spun-turned b place = omega arith
 
-turned-crossing : (place : ℕ) → turned place / 4 ≡ place / 4
-turned-crossing place = omega arith
-
 onto-turned : (by : ℕ → ℕ) (place : ℕ) → turned (onto by place) ≡ onto by (turned place)
 onto-turned by place = grind (arith, nat_tests)
 

@@ -18,6 +18,7 @@ use Rattle.link_algebra.proofs.MirrorParts.{mirror_turn}
 use Rattle.link_algebra.proofs.Renamings.{IsRotated}
 use Rattle.link_algebra.proofs.RotatedCodes.{component_count-rotated}
 use Rattle.link_algebra.proofs.TurnedCodes.{IsRotated-through, mirror-accepted, mirror-dimension, mirror-rotated, mirror-signs, mirror-sum, mirror_by, mirror_name, mirror_number, reversal-accepted, reversal-rotated, reversal-signs, reversal_name, reversal_number}
+use Rattle.kh_types.proofs.Tests.{twice-not}
 
 -- two turns that make a whole one
 alike-turned : (by other f back g home : ℕ → ℕ) (old middle new : Code) → IsTrue (accepted old) → IsRotated by f back old middle
@@ -25,9 +26,6 @@ alike-turned : (by other f back g home : ℕ → ℕ) (old middle new : Code) �
     → AreAlike old.crossings new.crossings
 alike-turned by other f back g home old middle new is first second whole =
     grind (arith, nat_tests, whole, IsRotated-through, IsArc-slot, AreAlike-renamed)
-
-pub twice-not : (b : Bool) → not (not b) ≡ b
-twice-not b = grind (arith, nat_tests)
 
 module _ (code : Code) (holds : IsTrue (accepted code)) where
   there-too : (crossing : ℕ) → IsCrossing code.crossings crossing → IsCrossing (mirror_of code).crossings crossing

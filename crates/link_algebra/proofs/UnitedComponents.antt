@@ -6,7 +6,7 @@ use Rattle.std.proofs.Common.{List, [], ap, ap₂, arith, cond, inl, inr, length
 use Rattle.std.proofs.lemmas.Bool.{ne_eqb}
 use Rattle.std.proofs.lemmas.Bool.Decides.{nat_tests}
 use Rattle.std.proofs.lemmas.List.{append_assoc, get_or-append-add, get_or-map, get_or_append_left, length-append, length-map, map-id}
-use Rattle.std.proofs.lemmas.List.Sums.{sum_by-append, sum_by-cons}
+use Rattle.std.proofs.lemmas.List.Sums.{sum_by-cons}
 use Rattle.std.specs.List.{count_by, flat_map}
 use Rattle.std.specs.Prelude.{nat_eq, slice_index, slice_index_or}
 use Rattle.kh_types.proofs.ListSums.{sum_by-alike, sum_by-map}
@@ -15,9 +15,11 @@ use Rattle.kh_types.specs.Code.{Code, IsArc, IsCrossing, arc_count, arc_in, plac
 use Rattle.kh_types.specs.Components.{arcs_in, component_of, components_of, passes_of}
 use Rattle.kh_types.specs.Bits.{one_if}
 use Rattle.kh_types.specs.Darts.{HasArcsTwice}
-use Rattle.link_algebra.proofs.ClassParts.{classes-parts, index-back, index-front, index-lifted, length-classes, lifted, lifted_pairs}
+use Rattle.link_algebra.proofs.ClassParts.{classes-parts, index-back, index-lifted, length-classes, lifted, lifted_pairs}
 use Rattle.link_algebra.proofs.UnitedCircles.{AreMoved, AreMoved-own, AreMoved-raised, HoldsNames, HoldsNames-first, HoldsNames-rest, HoldsNames-twice, SlotsHold, length-both, lowered, lowered-below, moved-append, pairs-moved, slot-raised}
 use Rattle.link_algebra.specs.Unions.{raised_slots, union_of}
+use Rattle.kh_types.proofs.Lists.{slice_index-left}
+use Rattle.orient_arcs.proofs.OneOrder.{count-append}
 
 all-moved : (g : List ℕ → List ℕ) (start below : ℕ) (crossings : List (List ℕ))
     → ((slots : List ℕ) → SlotsHold below slots → AreMoved start (g slots) slots) → HoldsNames below crossings
@@ -146,9 +148,6 @@ count-lifted m name xs =
     same_test : (m a b : ℕ) → one_if (nat_eq (m + a) (m + b)) ≡ one_if (nat_eq a b)
     same_test m a b = grind (arith, nat_tests)
 
-count-append : (name : ℕ) (xs ys : List ℕ) → count_by (nat_eq name) (xs ++ ys) ≡ count_by (nat_eq name) xs + count_by (nat_eq name) ys
-count-append name xs ys = sum_by-append (λ y. cond (nat_eq name y) 1 0) xs ys
-
 slots-first : (first second : Code) (crossing : ℕ) → IsCrossing first.crossings crossing
     → slots_of (union_of first second).crossings crossing ≡ slots_of first.crossings crossing
 slots-first first second crossing is = grind (arith, nat_tests, get_or_append_left)
@@ -184,7 +183,7 @@ IsPart-first first second first_twice second_twice =
       holds = hold;
       component = λ arc is.
           let e : arc + 2 * 0 ≡ arc = omega arith in
-          ap₂ (λ xs k. slice_index xs k) all e ∙ index-front front (lifted m back) arc (omega (arith, is.within, sizes.0)) ∙ omega arith;
+          ap₂ (λ xs k. slice_index xs k) all e ∙ slice_index-left front (lifted m back) arc (omega (arith, is.within, sizes.0)) ∙ omega arith;
       border =
           let e : arc_count first.crossings + 2 * 0 + 1 ≡ length front + 0 = omega (arith, sizes.0) in
           let at = ap₂ (λ xs k. slice_index xs k) all e ∙ index-back front (lifted m back) 0 in

@@ -24,10 +24,10 @@ use Rattle.kink_and_finger_laws.proofs.MovableArcs.{AreFingerable}
 use Rattle.kink_and_finger_laws.proofs.Opened.{low, lowered}
 use Rattle.kink_and_finger_laws.proofs.Sound.{IsSound-finger, IsSound-kink}
 use Rattle.view_laws.proofs.Renumbered.{dimension-renumbered_code}
-use Rattle.drop_laws.specs.DropSigns.{AreBigonSigns, AreKinkSigns}
-use Rattle.drop_laws.proofs.BigonCuts.{IsBigonCut-dropped}
-use Rattle.drop_laws.proofs.KinkCuts.{IsKinkCut-dropped}
-use Rattle.drop_laws.proofs.Signs.{AreBigonSigns-dropped, AreKinkSigns-dropped}
+use Rattle.drop_view_laws.specs.DropSigns.{AreBigonSigns, AreKinkSigns}
+use Rattle.drop_view_laws.proofs.BigonCuts.{IsBigonCut-dropped}
+use Rattle.drop_view_laws.proofs.KinkCuts.{IsKinkCut-dropped}
+use Rattle.drop_view_laws.proofs.Signs.{AreBigonSigns-dropped, AreKinkSigns-dropped}
 use Rattle.link_laws.proofs.DroppedBigons.{dimension-dropped_bigon}
 use Rattle.link_laws.proofs.DroppedKinks.{dimension-dropped_kink}
 use Rattle.link_laws.proofs.Restored.{restored}

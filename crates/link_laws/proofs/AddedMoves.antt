@@ -38,12 +38,12 @@ use Rattle.diagram_moves.proofs.DropRefusals.{is_bigon-has, is_kink-at}
 use Rattle.diagram_moves.proofs.DroppedCodes.{IsKept-finger, IsKept-kink}
 use Rattle.diagram_moves.proofs.FaultLemmas.{both-none}
 use Rattle.diagram_moves.proofs.KinksBack.{held-none, within-none}
-use Rattle.drop_laws.proofs.DroppedMoves.{IsFingerDrop-moved, IsKinkDrop-moved}
+use Rattle.drop_view_laws.proofs.DroppedMoves.{IsFingerDrop-moved, IsKinkDrop-moved}
 use Rattle.slide_view_laws.proofs.Moves.{IsSlidFrom-moved}
 use Rattle.link_laws.proofs.Restored.{restored}
 use Rattle.link_laws.specs.Links.{AreOneLink, arcs_renumbered, bigon_dropped, kink_dropped, strand_slid}
 use Rattle.link_laws.proofs.Paths.{link-back, link-change, link-onward}
-use Rattle.drop_laws.proofs.FrontCircles.{early-low}
+use Rattle.drop_view_laws.proofs.FrontCircles.{early-low}
 
 late-next : (n : ℕ) → late n (n + 1) (n + 1) ≡ n
 late-next n = grind (arith, nat_tests)

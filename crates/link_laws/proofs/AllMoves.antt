@@ -14,7 +14,7 @@ use Rattle.diagram_moves.specs.declared.change.Move.TheVariants.{FingerAdd, Fing
 use Rattle.diagram_moves.proofs.AddLemmas.{fingers_are_taken, fingers_on_the_sphere_are_accepted, kinks_are_taken}
 use Rattle.diagram_moves.proofs.BackAgain.{answered-ok}
 use Rattle.diagram_moves.proofs.FaultLemmas.{both-none}
-use Rattle.drop_laws.proofs.DroppedMoves.{IsFingerDrop-moved, IsKinkDrop-moved}
+use Rattle.drop_view_laws.proofs.DroppedMoves.{IsFingerDrop-moved, IsKinkDrop-moved}
 use Rattle.slide_view_laws.proofs.SeenSlides.{HasSeenSlide-moved}
 use Rattle.link_laws.proofs.Added.{dimension-fingered, dimension-kinked}
 use Rattle.link_laws.proofs.DroppedBigons.{dimension-dropped_bigon}

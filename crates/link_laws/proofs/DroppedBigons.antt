@@ -25,11 +25,11 @@ use Rattle.view_laws.proofs.InnerEdges.{complex-cut, dimension-cut}
 use Rattle.link_laws.specs.SeenBy.{IsSeenBy}
 use Rattle.link_laws.proofs.CutViews.{count_by, cut-view, saddle_by}
 use Rattle.link_laws.proofs.OneObject.{like-one}
-use Rattle.drop_laws.specs.DropSigns.{AreBigonSigns}
-use Rattle.drop_laws.specs.DroppedCubes.{IsBigonCut, bigon_closing, bigon_first, bigon_left, bigon_through, bigon_view}
+use Rattle.drop_view_laws.specs.DropSigns.{AreBigonSigns}
+use Rattle.drop_view_laws.specs.DroppedCubes.{IsBigonCut, bigon_closing, bigon_first, bigon_left, bigon_through, bigon_view}
 use Rattle.view_laws.specs.Fronts.{first_to}
-use Rattle.drop_laws.specs.NamesLeft.{number_left}
-use Rattle.drop_laws.proofs.DroppedMoves.{dimension-bigon_first}
+use Rattle.drop_view_laws.specs.NamesLeft.{number_left}
+use Rattle.drop_view_laws.proofs.DroppedMoves.{dimension-bigon_first}
 use Rattle.view_laws.proofs.ClosedOne.{closes-elsewhere, closes-there}
 use Rattle.order_laws.proofs.Reordered.{reordered-length}
 

@@ -22,10 +22,10 @@ use Rattle.view_laws.proofs.InnerEdges.{complex-cut, dimension-cut}
 use Rattle.link_laws.specs.SeenBy.{IsSeenBy}
 use Rattle.link_laws.proofs.CutViews.{count_by, cut-view, saddle_by}
 use Rattle.link_laws.proofs.OneObject.{like-one}
-use Rattle.drop_laws.specs.DropSigns.{AreKinkSigns}
-use Rattle.drop_laws.specs.DroppedCubes.{IsKinkCut, kink_first, kink_left, kink_view}
-use Rattle.drop_laws.specs.NamesLeft.{number_left}
-use Rattle.drop_laws.proofs.DroppedMoves.{dimension-kink_first}
+use Rattle.drop_view_laws.specs.DropSigns.{AreKinkSigns}
+use Rattle.drop_view_laws.specs.DroppedCubes.{IsKinkCut, kink_first, kink_left, kink_view}
+use Rattle.drop_view_laws.specs.NamesLeft.{number_left}
+use Rattle.drop_view_laws.proofs.DroppedMoves.{dimension-kink_first}
 use Rattle.order_laws.proofs.Reordered.{reordered-length}
 use Rattle.view_laws.proofs.ClosedOne.{closes-there, closes-elsewhere}
 

@@ -23,7 +23,8 @@ use Rattle.square_laws.proofs.MarkedLabels.{IsMarked-marked_by, IsName-marked_by
 use Rattle.square_laws.proofs.Merges.{IsSwitch}
 use Rattle.square_laws.proofs.TouchedCircles.{fits, fits-decides}
 use Rattle.mark_laws.specs.Turns.{turn_count}
-use Rattle.mark_laws.proofs.LessMarks.{less-turns, less_count, lists_less, marks-sum, turns-marked}
+use Rattle.mark_laws.proofs.LessMarks.{less-turns, less_count, lists_less, turns-marked}
+use Rattle.square_laws.proofs.Paths.{marks-sum}
 
 -- how many of the lists behind an edge give the labels of a generator
 abbrev behind_count : Bool → Code → Generator → ℕ → List ℕ → ℕ

@@ -3,7 +3,7 @@
 -- Where marks give the labels of a generator, its turns are the lists with one mark left out. So for any list of marks we count the ways to
 -- leave one out that give the labels of a generator; circle by circle this is the number of its marks, where the labels are lowered there.
 use Rattle.std.proofs.lemmas.Bool.Decides.{nat_tests}
-use Rattle.std.proofs.Common.{◌≡◌, ◌≢◌, ℕ, zero, suc, inl, inr, ◌⊎◌, ◌+◌, ◌*◌, ◌^◌, ◌≤◌, ◌∙◌, List, [], ◌∷◌, map, refl, sym, ap, ap₂, arith, Bool, true, cond, IsTrue}
+use Rattle.std.proofs.Common.{◌≡◌, ◌≢◌, ℕ, zero, suc, inl, inr, ◌+◌, ◌*◌, ◌^◌, ◌≤◌, ◌∙◌, List, [], ◌∷◌, map, refl, sym, ap, ap₂, arith, Bool, true, cond, IsTrue}
 use Rattle.std.specs.Prelude.{nat_eq, slice_index}
 use Rattle.std.specs.Bool.{Decides}
 use Rattle.std.specs.List.{All, Contains, range_with_len, sum_by}
@@ -21,15 +21,16 @@ use Rattle.kh_types.specs.Differential.{label_of}
 use Rattle.kh_types.specs.Generators.{Generator, generator_of}
 use Rattle.kh_types.specs.Residues.{Same}
 use Rattle.kh_types.proofs.CircleNumbers.{IsCircle-of}
-use Rattle.kh_types.proofs.ListSums.{sum_by-alike, sum_by-map, sum_by-none, sum_by-plus, sum_by-single, sum_by-zeros}
+use Rattle.kh_types.proofs.ListSums.{sum_by-alike, sum_by-map, sum_by-none, sum_by-plus, sum_by-zeros}
 use Rattle.kh_types.proofs.RangeCounts.{list_all-at, list_all-each}
 use Rattle.kh_types.proofs.Residues.{same-equal}
 use Rattle.cell_laws.proofs.Members.{Contains-kept, sum_by-members, sum_by-nothing, sum_by-term}
 use Rattle.square_laws.proofs.EdgeMarks.{IsMarked, is_marked, is_marked-decides, label_of-le}
-use Rattle.square_laws.proofs.LabelNumbers.{IsName-names, label-exists, label-once, sum_by-names}
+use Rattle.square_laws.proofs.LabelNumbers.{IsName-names, sum_by-names}
 use Rattle.square_laws.proofs.Marks.{hits, hits-circle, hits-cons, hits-exchanged, hits-sum}
 use Rattle.square_laws.proofs.Merges.{circle_in}
 use Rattle.mark_laws.specs.Turns.{is_lowered, turn_count}
+use Rattle.square_laws.proofs.Paths.{term-marked, marks-sum}
 
 -- the labels of a generator but for one circle, where they are 1 more
 pub record IsLowered (code : Code) (labels : ℕ → ℕ) (generator : Generator) (circle : ℕ) : Type 0 where
@@ -228,29 +229,6 @@ less-turns code state first second marked is names marks =
 
     one_left : (n l : ℕ) → n ≤ 1 → n ≡ l + 1 → n * 1 ≡ 1
     one_left n l small is = omega (arith, small, is)
-
--- a sum over all labels of a state of what is `total` at those that marks give: there is one, where each circle has one mark at most
--- (as in square_laws)
-term-marked : (code : Code) (generator : Generator) (marked : List ℕ) (n : ℕ) → (IsMarked code generator marked → n ≡ 0)
-    → n * one_if (is_marked code generator marked) ≡ 0
-term-marked code generator marked n zero_where = grind (arith, nat_tests, cases_Bool, is_marked, is_marked-decides)
-
-pub marks-sum : (code : Code) (state : ℕ) (marked : List ℕ) (term : ℕ → ℕ) (total : ℕ) → IsTrue (accepted code)
-    → ((number : ℕ) → IsMarked code (generator_of state number) marked → term number ≡ total)
-    → (total ≡ 0) ⊎ ((arc : ℕ) → IsName code arc → hits code state marked arc ≤ 1)
-    → sum_by (λ number. term number * one_if (is_marked code (generator_of state number) marked))
-    (range_with_len 0 (2 ^ circle_count code state)) ≡ total
-marks-sum code state marked term total is terms (inl none) = grind (arith, nat_tests, sum_by-none, is_marked, term-marked)
-marks-sum code state marked term total is terms (inr small) =
-    let found = label-exists code state (hits code state marked) is small (hits-circle code state marked) in
-    let gives : IsMarked code (generator_of state found.0) marked = record { at = λ arc name. sym (found.2 arc name) } in
-    sum_by-single (λ number. term number * one_if (is_marked code (generator_of state number) marked)) 0 (2 ^ circle_count code state)
-    found.0 (omega arith) (omega (arith, found.1))
-    (λ number from below other. term-marked code (generator_of state number) marked (term number) (λ too.
-    absurd (other (label-once code state number found.0 (omega arith) found.1
-    (λ arc name. sym (too.at arc name) ∙ gives.at arc name)))))
-    ∙ ap (λ b. term found.0 * one_if b) ((is_marked-decides code (generator_of state found.0) marked).1 gives)
-    ∙ (let once : term found.0 * 1 ≡ term found.0 = omega arith in once) ∙ terms found.0 gives
 
 -- the turns of all generators that marks give, one or none, are as many modulo 2 as the lists with one mark less: where a circle has two
 -- marks, there are two such lists or none

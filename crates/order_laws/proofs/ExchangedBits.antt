@@ -9,7 +9,7 @@ use Rattle.std.proofs.Common.{◌≡◌, ℕ, inl, inr, zero, suc, ◌+◌, ◌*
 use Rattle.std.proofs.lemmas.Bool.{cases_eq, cases_lt}
 use Rattle.std.proofs.lemmas.Nat.Bits.{bit_at-suc, bit_at_lowest}
 use Rattle.kh_types.specs.Bits.{bit, ones}
-use Rattle.kh_types.proofs.BitLemmas.{ones-more}
+use Rattle.kh_types.proofs.BitLemmas.{ones-more, half-of}
 use Rattle.kh_types.proofs.EdgeBits.{bit-set_other, bit-set_there}
 use Rattle.kh_types.proofs.ListSums.{sum_by-range_alike}
 use Rattle.cell_laws.proofs.Matched.{sum_by-paired}
@@ -30,9 +30,6 @@ moved (suc k) (suc l) = suc (moved k l)
 low_even : (s e : ℕ) → (s % 2 + 2 * e) % 2 ≡ s % 2
 low_even s e = omega arith
 
-half_of : (s e : ℕ) → (s % 2 + 2 * e) / 2 ≡ e
-half_of s e = omega arith
-
 pub exchanged-twice : (k s : ℕ) → exchanged k (exchanged k s) ≡ s
 exchanged-twice zero s = again s
   where
@@ -40,7 +37,7 @@ exchanged-twice zero s = again s
     again s = omega arith
 exchanged-twice (suc k) s =
     let e = exchanged k (s / 2) in
-    ap₂ (λ a b. a + 2 * exchanged k b) (low_even s e) (half_of s e) ∙ ap (λ b. s % 2 + 2 * b) (exchanged-twice k (s / 2)) ∙ halves s
+    ap₂ (λ a b. a + 2 * exchanged k b) (low_even s e) (half-of s e) ∙ ap (λ b. s % 2 + 2 * b) (exchanged-twice k (s / 2)) ∙ halves s
   where
     halves : (s : ℕ) → s % 2 + 2 * (s / 2) ≡ s
     halves s = omega arith
@@ -74,7 +71,7 @@ bit-exchanged zero s (suc (suc l)) =
 bit-exchanged (suc k) s zero =
     bit_at_lowest (exchanged (suc k) s) ∙ low_even s (exchanged k (s / 2)) ∙ sym (bit_at_lowest s)
 bit-exchanged (suc k) s (suc l) =
-    bit_at-suc (exchanged (suc k) s) (moved k l) ∙ ap (λ n. bit n (moved k l)) (half_of s (exchanged k (s / 2)))
+    bit_at-suc (exchanged (suc k) s) (moved k l) ∙ ap (λ n. bit n (moved k l)) (half-of s (exchanged k (s / 2)))
     ∙ bit-exchanged k (s / 2) l ∙ sym (bit_at-suc s l)
 
 pub exchanged-below : (k rest s : ℕ) → s < 2 ^ (k + (2 + rest)) → exchanged k s < 2 ^ (k + (2 + rest))

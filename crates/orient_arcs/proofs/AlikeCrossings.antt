@@ -4,9 +4,9 @@
 -- is said by darts: the partner of a dart is the other one with its name, faces and pieces go by partners, an equation of the checkerboard
 -- is one of a dart and its partner, circles are classes of darts under smoothings. So all of these agree.
 use Rattle.std.proofs.lemmas.Bool.Decides.{nat_tests}
-use Rattle.std.proofs.Common.{◌≡◌, ℕ, zero, suc, inl, inr, ◌+◌, ◌-◌, ◌*◌, ◌/◌, ◌%◌, ◌^◌, ◌<◌, ◌≤◌, ◌∙◌, List, [], ◌∷◌, length, map, get_or, refl, sym, ap, ap₂, subst, arith, Bool, true, ℤ}
+use Rattle.std.proofs.Common.{◌≡◌, ℕ, zero, suc, inl, inr, ◌+◌, ◌-◌, ◌*◌, ◌/◌, ◌%◌, ◌^◌, ◌<◌, ◌∙◌, List, [], ◌∷◌, length, map, get_or, refl, sym, ap, ap₂, subst, arith, true, ℤ}
 use Rattle.std.specs.Prelude.{nat_eq, slice_index}
-use Rattle.std.specs.List.{find, list_all, range_with_len}
+use Rattle.std.specs.List.{list_all, range_with_len}
 use Rattle.std.proofs.lemmas.Bool.{eq-eqb, eqb-true}
 use Rattle.std.proofs.lemmas.List.Elements.{All-from_get_or, recursion_from_All}
 use Rattle.kh_types.specs.declared.dart.Dart.{Dart}
@@ -36,7 +36,7 @@ use Rattle.gluing_laws.specs.Codes.{arc_of_dart}
 use Rattle.orient_arcs.proofs.DartSmoothings.{dart_passes, passes_of-darts, dart_passes-below}
 use Rattle.kh_types.proofs.IntSums.{int_sum-alike}
 use Rattle.kh_types.proofs.Searches.{find-range_agree}
-use Rattle.gluing_laws.proofs.DartPairs.{dart_smoothings}
+use Rattle.gluing_laws.proofs.DartPairs.{dart_smoothings, arc_of-dart}
 use Rattle.gluing_laws.proofs.CodeCircles.{dart_smoothings-below, smoothings_of-darts}
 use Rattle.gluing_laws.specs.Alike.{AreAlike}
 use Rattle.gluing_laws.proofs.Renamed.{class_count-range}
@@ -144,9 +144,6 @@ arcs-below-at n [] below place slot place_below slot_below = absurd (omega (arit
 arcs-below-at n (slots ∷ crossings) below zero slot place_below slot_below = below.0 slot slot_below
 arcs-below-at n (slots ∷ crossings) below (suc place) slot place_below slot_below =
     arcs-below-at n crossings below.1 place slot (omega (arith, place_below)) slot_below
-
-arc_of-dart : (crossings : List (List ℕ)) (dart : ℕ) → arc_of crossings (dart_at dart) ≡ arc_of_dart crossings dart
-arc_of-dart crossings dart = grind (arith, nat_tests)
 
 -- whatever joins darts makes as many classes of names
 pub class_count-darts : (m n : ℕ) (crossings others : List (List ℕ)) → AreAlike crossings others → ArcsBelow m crossings

@@ -20,7 +20,7 @@ use Rattle.orient_arcs.proofs.Ordered.{AreOrdered-components}
 count-more : (y z : ℕ) (zs : List ℕ) → count_by (nat_eq y) (z ∷ zs) ≡ cond (nat_eq y z) 1 0 + count_by (nat_eq y) zs
 count-more y z zs = sum_by-cons (λ x. cond (nat_eq y x) 1 0) z zs
 
-count-append : (y : ℕ) (xs zs : List ℕ) → count_by (nat_eq y) (xs ++ zs) ≡ count_by (nat_eq y) xs + count_by (nat_eq y) zs
+pub count-append : (y : ℕ) (xs zs : List ℕ) → count_by (nat_eq y) (xs ++ zs) ≡ count_by (nat_eq y) xs + count_by (nat_eq y) zs
 count-append y xs zs = sum_by-append (λ x. cond (nat_eq y x) 1 0) xs zs
 
 in-count : (y : ℕ) (zs : List ℕ) → IsIn y zs → 1 ≤ count_by (nat_eq y) zs

@@ -9,7 +9,7 @@ use std::alloc::{AllocError, AllocFailed};
 
 /// Why no code was read from a text. The first fault of the bytes counts, else the first of the
 /// grammar, else a limit, crossings before loops. A place is that of a byte, counted from 0, or the
-/// number of bytes where the text ends too early. This project's rule.
+/// number of bytes where the text ends too early.
 #[derive(Clone, Copy, Debug, PartialEq, Eq)]
 pub enum PdStop {
     /// The byte at `place` begins no token, or no text of the grammar has the token there, or the

@@ -11,7 +11,7 @@ use Rattle.std.specs.Ordering.{int_eq}
 use Rattle.std.proofs.Math.Path.{fun_ext}
 use Rattle.std.proofs.Math.Pow.{pow_mono}
 use Rattle.std.proofs.lemmas.Nat.{pow_pos}
-use Rattle.std.proofs.lemmas.Bool.{cases_lt, eq-eqb, eqb-true, false≢true, ne_eqb}
+use Rattle.std.proofs.lemmas.Bool.{cases_lt, eq-eqb, eqb-true, false≢true, ne_eqb, and_from}
 use Rattle.std.proofs.lemmas.Bool.Decides.{nat_tests}
 use Rattle.std.proofs.lemmas.Int.{ints}
 use Rattle.std.proofs.lemmas.List.{get_or_default}
@@ -76,10 +76,6 @@ and_parts : (a b : Bool) → (a && b) ≡ true → (a ≡ true) × (b ≡ true)
 and_parts true b holds = (refl, holds)
 and_parts false b holds = absurd (false≢true holds)
 
-and_both : (a b : Bool) → a ≡ true → b ≡ true → (a && b) ≡ true
-and_both true b first second = second
-and_both false b first second = absurd (false≢true first)
-
 -- a state has a generator of a reduced degree where a number of labels v- gives it, each number from 1 to that of the circles
 reduced_degree-shape : (code : Code) (mark : ℕ) (j : ℤ) (state : ℕ) → IsTrue (accepted code) → IsName code mark
     → shape_has_reduced j (shape_of code state)
@@ -102,7 +98,7 @@ reduced_degree-shape code mark j state is name =
     let n = found.0 + 1 in
     let has = label-with count place n less (omega arith) (omega (arith, found.1)) in
     list_any-below of_label (2 ^ count) has.label has.below
-    (and_both (int_eq (quantum_degree code (generator_of state has.label)) below) (is_reduced code mark (generator_of state has.label))
+    (and_from (int_eq (quantum_degree code (generator_of state has.label)) below) (is_reduced code mark (generator_of state has.label))
     (same has.label ∙ ap (gives_degree shape below) has.weight ∙ found.2) (eq-eqb (bit has.label place) 1 has.minus)))
     (λ passes.
     let found = list_any-found of_label (2 ^ count) passes in

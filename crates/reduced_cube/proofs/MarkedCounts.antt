@@ -9,9 +9,9 @@ use Rattle.std.proofs.lemmas.Int.{ints}
 use Rattle.kh_types.specs.Bits.{bit, ones, one_if}
 use Rattle.kh_types.specs.StateSum.{circle_coefficient}
 use Rattle.kh_types.proofs.BitLemmas.{bit-past, ones-more}
-use Rattle.kh_types.proofs.EdgeBits.{bit-set_there, bit-set_other}
 use Rattle.kh_types.proofs.ListSums.{sum_by-none, sum_by-range_alike}
 use Rattle.kh_types.proofs.LabelDegrees.{degree_of_label, labels_with, labels_with-is, lower-test, sum_by-halves, upper-test}
+use Rattle.kh_types.proofs.JointNumbers.{bit-lower, bit-highest}
 
 -- what a label adds to the count of those with a degree and v- on the circle of a number
 abbrev marked : ℕ → ℤ → ℕ → ℕ → ℕ
@@ -20,17 +20,6 @@ marked count degree mark label = cond (int_eq (degree_of_label count label) degr
 abbrev pub marked_with : ℕ → ℤ → ℕ → ℕ
 marked_with count degree mark =
     count_by (λ label. int_eq (degree_of_label count label) degree && nat_eq (bit label mark) 1) (range_with_len 0 (2 ^ count))
-
-bit-upper : (count label place : ℕ) → label < 2 ^ count → place < count → bit (2 ^ count + label) place ≡ bit label place
-bit-upper count label place below less =
-    let none = bit-past label count count below (omega arith) in
-    let turned : 2 ^ count + label ≡ label + 2 ^ count = omega arith in
-    ap (λ (l : ℕ). bit l place) turned ∙ bit-set_other label count none place (λ same. omega arith)
-
-bit-last : (count label : ℕ) → label < 2 ^ count → bit (2 ^ count + label) count ≡ 1
-bit-last count label below =
-    let turned : 2 ^ count + label ≡ label + 2 ^ count = omega arith in
-    ap (λ (l : ℕ). bit l count) turned ∙ bit-set_there label count (bit-past label count count below (omega arith))
 
 and-true : (b c : Bool) → c ≡ true → one_if (b && c) ≡ one_if b
 and-true true c is = ap one_if is
@@ -64,7 +53,7 @@ marked_with-last count degree =
     (λ label. cond (int_eq (degree_of_label count label) (degree +ℤ pos 1)) 1 0) 0 (2 ^ count)
     (λ label from below.
     and-true (int_eq (degree_of_label (count + 1) (2 ^ count + label)) degree) (nat_eq (bit (2 ^ count + label) count) 1)
-    (ap (λ (b : ℕ). nat_eq b 1) (bit-last count label (omega arith)))
+    (ap (λ (b : ℕ). nat_eq b 1) (bit-highest count label (omega arith)))
     ∙ ap (λ b. cond b 1 0) (upper-test count degree label (omega arith))) in
     marked_with-halves count count degree ∙ omega (arith, lower, upper)
 
@@ -80,7 +69,7 @@ marked_with-more count mark degree less =
     (sum_by-range_alike (λ label. marked (count + 1) degree mark (2 ^ count + label)) (marked count (degree +ℤ pos 1) mark) 0 (2 ^ count)
     (λ label from below.
     ap₂ (λ (b : Bool) (x : ℕ). cond (b && nat_eq x 1) 1 0) (upper-test count degree label (omega arith))
-    (bit-upper count label mark (omega arith) less)))
+    (bit-lower count label mark (omega arith) less)))
 
 -- the labels with v- on one of the circles are as many as the labels of the others, which have a degree greater by 1
 pub marked_with-is : (count mark : ℕ) (degree : ℤ) → mark < count

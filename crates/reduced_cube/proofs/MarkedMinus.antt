@@ -11,10 +11,11 @@ use Rattle.square_laws.proofs.EdgeMarks.{IsChange, label_of-circle, label_of-le}
 use Rattle.square_laws.proofs.Marks.{on_or_off}
 use Rattle.kh_types.specs.Bits.{one_if}
 use Rattle.square_laws.proofs.Merges.{IsSwitch, switch-edge}
-use Rattle.square_laws.proofs.Pairs.{IsStep, coefficient_at-edge, edge_or_zero, times-zero}
+use Rattle.square_laws.proofs.Pairs.{IsStep, coefficient_at-edge, edge_or_zero}
 use Rattle.square_laws.proofs.SquareKinds.{circle-on}
 use Rattle.kh_types.proofs.ListSums.{sum_by-none}
 use Rattle.square_laws.proofs.TouchedCircles.{fits, fits-decides}
+use Rattle.kh_types.proofs.Sums.{times-zero}
 
 -- a merge with v- gives v-, a split of v- gives v- v-, and all other circles keep their labels
 minus-change : (merges : Bool) (code : Code) (tail head : Generator) (crossing mark : ℕ) → IsName code mark

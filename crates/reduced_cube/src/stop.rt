@@ -1,6 +1,6 @@
 //! What ends the making of a reduced table.
 
-/// Why there is no reduced table. This project's rule.
+/// Why there is no reduced table.
 #[derive(Clone, Copy, Debug, PartialEq, Eq)]
 pub enum ReducedStop {
     /// The mark is neither an arc nor a loop of the diagram.

@@ -1,7 +1,7 @@
 -- Adding a crossing changes nothing but the names of cells: a cell of an object, a state whose first bit is the smoothing of that
 -- crossing, and a label, becomes the cell of the new object that comes from the object, the smoothing and the labels of the closed
 -- circles, at the rest of the state, with the rest of the label. This is one to one, and keeps both degrees.
-use Rattle.std.proofs.Common.{◌≡◌, ℕ, suc, ◌+◌, ◌*◌, ◌/◌, ◌%◌, ◌^◌, ◌<◌, ◌∙◌, ℤ, pos, ◌+ℤ◌, ◌-ℤ◌, List, [], ◌∷◌, length, map, refl, sym, subst, ap, ap₂, arith}
+use Rattle.std.proofs.Common.{◌≡◌, ℕ, suc, ◌+◌, ◌*◌, ◌/◌, ◌%◌, ◌^◌, ◌<◌, ◌∙◌, ℤ, pos, ◌+ℤ◌, ◌-ℤ◌, List, length, sym, subst, ap, ap₂, arith}
 use Rattle.std.specs.Prelude.{slice_index}
 use Rattle.std.specs.List.{Contains}
 use Rattle.std.proofs.Math.Path.{fun_ext}
@@ -9,9 +9,7 @@ use Rattle.std.proofs.lemmas.Int.{ints}
 use Rattle.kh_types.specs.Bits.{ones}
 use Rattle.kh_types.specs.Code.{Code}
 use Rattle.kh_types.proofs.AcceptedLemmas.{HasArcsTwice-accepted}
-use Rattle.square_laws.proofs.LabelNumbers.{number_from}
 use Rattle.added_crossing_laws.specs.Codes.{closed_at, pairing_behind, points_at}
-use Rattle.added_crossing_laws.specs.Labels.{number_of}
 use Rattle.cell_laws.specs.Alike.{AreListed, AreMatched}
 use Rattle.cell_laws.specs.Layers.{Layer, Layers, cells_of, layer_of}
 use Rattle.cell_laws.proofs.Matched.{AreListed-matched}
@@ -27,6 +25,7 @@ use Rattle.scan_laws.proofs.Origins.{IsOrigin, origin-from, origin-of}
 use Rattle.scan_laws.proofs.Parts.{circle_with, circles_left, circles_with, closed_part, left_part}
 use Rattle.cell_laws.proofs.SplitLabels.{AreParts, counts, part, ones-parts, part-below, parts-whole, whole, whole-below, whole-parts}
 use Rattle.scan_laws.proofs.States.{count-more, joint, joint-first, joint-parts, joint-rest, ones-joint}
+use Rattle.scan_laws.proofs.Obeyed.{number_of-map}
 
 -- a cell of the scan, by the smoothing of the next crossing and the state of the others
 pub record IsOld (code : Code) (scan : Scan) (o e u label : ℕ) : Type 0 where
@@ -41,10 +40,6 @@ origin_at code scan o e u label = origin_of o e (closed_part code scan.done (pai
 
 abbrev pub rest_at : Code → Scan → ℕ → ℕ → ℕ → ℕ → ℕ
 rest_at code scan o e u label = left_part code scan.done (pairs_of scan o) e u label
-
-number_of-from : (f : ℕ → ℕ) (xs : List ℕ) → number_of f xs ≡ number_from (map f xs)
-number_of-from f [] = refl
-number_of-from f (x ∷ xs) = ap (λ n. f x + 2 * n) (number_of-from f xs)
 
 module _ (p : ℕ) (code : Code) (plus minus : ℕ) (scan next : Scan) (added : IsAdded p code scan next) where
   abbrev layers : Layers
@@ -225,7 +220,7 @@ module _ (p : ℕ) (code : Code) (plus minus : ℕ) (scan next : Scan) (added : 
       let m = pairs_of scan x.object in
       ap (λ (t : ℕ). part (circles_at code scan.done m t) (λ (z : ℕ). slice_index (classes_at code scan.done m t) z) arcs x.label)
       (sym (joint-parts x.state))
-      ∙ sym (number_of-from (label_by (classes_at code scan.done m x.state) (points_at code scan.done).alive x.label) arcs)
+      ∙ sym (number_of-map (label_by (classes_at code scan.done m x.state) (points_at code scan.done).alive x.label) arcs)
 
   pub to-generator : to ≡ next_generator code scan added.more.number
   to-generator =

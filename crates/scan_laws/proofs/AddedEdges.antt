@@ -22,12 +22,13 @@ use Rattle.scan_laws.specs.Adding.{Origin}
 use Rattle.scan_laws.specs.NextGenerators.{IsAdded, next_generator}
 use Rattle.scan_laws.proofs.AddedCells.{IsOld, homological-next, listed-next, named, new-of, old-cell, origin_at, quantum-next, rest_at, to, to-generator}
 use Rattle.scan_laws.proofs.AddedEntries.{AreSameAt, joint-apart, same-within}
-use Rattle.scan_laws.proofs.Coefficients.{between-states, nowhere}
+use Rattle.scan_laws.proofs.Coefficients.{between-states}
 use Rattle.scan_laws.proofs.Edges.{outer-none}
 use Rattle.scan_laws.proofs.Objects.{object-among}
 use Rattle.scan_laws.proofs.OuterEdges.{outer-same}
 use Rattle.scan_laws.proofs.Parts.{closed_part}
 use Rattle.scan_laws.proofs.States.{bit-joint_first, joint, joint-parts}
+use Rattle.cell_laws.proofs.LayerCells.{nowhere}
 
 -- no edge leads between two states that differ in the first bit and in later ones
 not-both : (e f u v crossing : ℕ) → e < 2 → f < 2 → e ≢ f → u ≢ v → 1 ≤ crossing → IsStep (joint e u) (joint f v) crossing → ⊥

@@ -28,13 +28,15 @@ use Rattle.scan_laws.specs.Complexes.{layers_of}
 use Rattle.scan_laws.specs.Adding.{Origin, added_coefficient, new_coefficient, saddle_coefficient, sign_at}
 use Rattle.scan_laws.specs.NextGenerators.{IsAdded}
 use Rattle.scan_laws.proofs.AddedCells.{IsOld, named, new-of, origin_at, rest_at}
-use Rattle.scan_laws.proofs.Coefficients.{between-states, inside-state, nowhere}
+use Rattle.scan_laws.proofs.Coefficients.{between-states}
 use Rattle.scan_laws.proofs.Edges.{fits_at, outer-none, outer-one}
-use Rattle.scan_laws.proofs.Matrices.{matrix_by, sets_by, two-objects, below-same, matrix-sets}
+use Rattle.scan_laws.proofs.Matrices.{matrix_by, sets_by, two-objects, matrix-sets}
 use Rattle.scan_laws.proofs.Objects.{colour, object-led}
 use Rattle.scan_laws.proofs.Obeyed.{inner-law, saddle-law}
 use Rattle.scan_laws.proofs.Parts.{entry_left}
 use Rattle.scan_laws.proofs.States.{bit-joint_first, count-more, joint, joint-first, joint-rest}
+use Rattle.cell_laws.proofs.LayerCells.{inside-state, nowhere}
+use Rattle.dotted_maps.proofs.MapProducts.{below-same}
 
 -- a sum over terms, taken out
 terms-out : (terms : List Term) (n : ℕ) (v : Term → ℕ → ℕ) (E : ℕ → ℕ)

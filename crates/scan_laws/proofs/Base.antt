@@ -25,7 +25,8 @@ use Rattle.cell_laws.proofs.NoDoubles.{flat_map-range, map-flat_map, map-map}
 use Rattle.scan_laws.specs.Scans.{circle_count_at, circles_at, first_scan}
 use Rattle.scan_laws.specs.Edges.{changes_by, keeps_by, outer_at}
 use Rattle.scan_laws.specs.Complexes.{complex_of, layers_of}
-use Rattle.scan_laws.proofs.Coefficients.{between-states, inside-state}
+use Rattle.scan_laws.proofs.Coefficients.{between-states}
+use Rattle.cell_laws.proofs.LayerCells.{inside-state}
 
 filter-all : {A : Type 0} (p : A → Bool) (xs : List A) → ((x : A) → p x ≡ true) → filter p xs ≡ xs
 filter-all p [] all = refl

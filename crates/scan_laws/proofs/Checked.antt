@@ -14,7 +14,7 @@ use Rattle.kh_types.specs.Residues.{Same}
 use Rattle.surface_laws.proofs.Components.{list_any-some}
 use Rattle.dotted_maps.specs.declared.term.Term.{Term}
 use Rattle.dotted_maps.specs.Maps.{coefficient_in}
-use Rattle.kh_types.proofs.Lists.{range-contains}
+use Rattle.kh_types.proofs.Lists.{range-contains, Contains-range}
 use Rattle.added_crossing_laws.proofs.Members.{All-contained}
 use Rattle.cell_laws.specs.Alike.{AreListed, AreMatched, HasNoDoubles}
 use Rattle.cell_laws.proofs.NoDoubles.{once-range}
@@ -22,7 +22,6 @@ use Rattle.scan_laws.specs.Scans.{HasDots, Object, Scan, dot_sets, first_object,
 use Rattle.scan_laws.specs.Adding.{IsAdding, new_coefficient, object_from, origins}
 use Rattle.scan_laws.specs.Eliminating.{IsEliminating, way_coefficient}
 use Rattle.scan_laws.specs.Steps.{AreSteps, IsLast, IsRenumbering, IsScanStep}
-use Rattle.cell_laws.proofs.CellLists.{contains-range}
 use Rattle.scan_laws.proofs.Possible.{no-head, no-tail, no_origin, origin_in, number_in, origins-matched, others, others-listed}
 use Rattle.cell_laws.proofs.Labels.{place}
 use Rattle.scan_laws.proofs.ScansOf.{once-eliminated}
@@ -63,7 +62,7 @@ are-same p code scan f g passes x y kept has_x has_y below =
     eqb-true (f x y kept % p) (g x y kept % p)
     (all-pass (at x y) (range_with_len 0 (dot_sets code scan x y))
     (all-pass (entry x) scan.numbers (all-pass (λ x. list_all (entry x) scan.numbers) scan.numbers passes x has_x) y has_y) kept
-    (contains-range (dot_sets code scan x y) kept below))
+    (Contains-range (dot_sets code scan x y) kept below))
 
 -- objects that are listed by their places
 objects-at : {A : Type 0} (d : A) (ws : List A) (xs : List ℕ) (f : A → Object) (g : ℕ → Object) → xs ≡ range_with_len 0 (length ws)
@@ -116,7 +115,7 @@ is-number : (p : ℕ) (code : Code) (scan : Scan) (tail head c : ℕ) → number
 is-number p code scan tail head c passes kept below =
     eqb-true (coefficient_in (scan.terms tail head) kept % p) ((if nat_eq 0 kept then c else 0) % p)
     (all-pass (λ kept. nat_eq (coefficient_in (scan.terms tail head) kept % p) ((if nat_eq 0 kept then c else 0) % p))
-    (range_with_len 0 (dot_sets code scan tail head)) passes kept (contains-range (dot_sets code scan tail head) kept below))
+    (range_with_len 0 (dot_sets code scan tail head)) passes kept (Contains-range (dot_sets code scan tail head) kept below))
 
 abbrev has_number : List ℕ → ℕ → Bool
 has_number numbers x = list_any (nat_eq x) numbers
@@ -181,7 +180,7 @@ renumbering-checked p code scan next once done numbers objects dots terms =
           (record {
             first_once = once;
             second_once = once-range 0 (length xs);
-            there = λ x has. contains-range (length xs) (place x xs) (found x has).within;
+            there = λ x has. Contains-range (length xs) (place x xs) (found x has).within;
             back_there = λ k has.
                 let below = range-contains (length xs) k has in (k, below, get_or_default xs k (get_or xs k 0) 0 below);
             to_back = λ k has. place-at nat_eq 0 xs k numbers-test once (range-contains (length xs) k has);

@@ -31,10 +31,11 @@ use Rattle.cell_laws.proofs.Members.{Contains-later}
 use Rattle.scan_laws.specs.Scans.{IsScanOf, Scan, circle_count_at, dot_sets, pairs_of}
 use Rattle.scan_laws.specs.Complexes.{complex_of, inner_at, layers_of}
 use Rattle.scan_laws.specs.Eliminating.{IsEliminating}
-use Rattle.scan_laws.proofs.Matrices.{matrix_by, sets_by, two-objects, below-same, matrix-below, matrix-less, matrix-sets, sum_by-below}
+use Rattle.scan_laws.proofs.Matrices.{matrix_by, sets_by, two-objects, matrix-below, matrix-less, matrix-sets, sum_by-below}
 use Rattle.scan_laws.proofs.Objects.{object-pairing, objects-glued, objects-inside}
 use Rattle.scan_laws.proofs.Points.{placed-behind}
 use Rattle.scan_laws.proofs.Renumbered.{alike-renumbered}
+use Rattle.dotted_maps.proofs.MapProducts.{below-same}
 
 pub still-there : (p : ℕ) (code : Code) (scan next : Scan) (less : IsEliminating p code scan next) (x : ℕ) → Contains next.numbers x
     → Contains scan.numbers x

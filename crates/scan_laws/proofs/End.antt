@@ -25,8 +25,8 @@ use Rattle.scan_laws.specs.Complexes.{complex_of, degree_of_labels, layers_of}
 use Rattle.scan_laws.specs.Steps.{IsLast}
 use Rattle.scan_laws.specs.Counts.{count_of_object, counted_with}
 use Rattle.cell_laws.proofs.CellLists.{cell-from}
-use Rattle.scan_laws.proofs.Coefficients.{inside-state}
 use Rattle.scan_laws.proofs.LastPoints.{circles-last, count_behind-last}
+use Rattle.cell_laws.proofs.LayerCells.{inside-state}
 
 module _ (p : ℕ) (code : Code) (is : IsTrue (accepted code)) (scan : Scan) (of : IsScanOf code scan) (last : IsLast p code scan)
     (plus minus : ℕ) (i j : ℤ) where

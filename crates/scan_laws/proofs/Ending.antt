@@ -27,7 +27,6 @@ use Rattle.scan_laws.specs.Complexes.{complex_of, layers_of}
 use Rattle.scan_laws.specs.Eliminating.{IsNumber}
 use Rattle.scan_laws.specs.Steps.{IsLast, IsScanStep, LeadsTo}
 use Rattle.cell_laws.proofs.CellLists.{cell-of}
-use Rattle.scan_laws.proofs.Coefficients.{inside-state}
 use Rattle.scan_laws.proofs.Kept.{keeps-step}
 use Rattle.scan_laws.proofs.LastPoints.{nothing-open, pairs-last}
 use Rattle.scan_laws.proofs.Matrices.{matrix-sets}
@@ -35,6 +34,7 @@ use Rattle.scan_laws.proofs.Objects.{object-pairing, objects-glued}
 use Rattle.scan_laws.proofs.Points.{placed-behind}
 use Rattle.scan_laws.proofs.Possible.{added-scan, eliminated-scan}
 use Rattle.cell_laws.proofs.SplitLabels.{length-sum}
+use Rattle.cell_laws.proofs.LayerCells.{inside-state}
 
 -- steps lead from a scan to an end
 pub record HasEnd (p : ℕ) (code : Code) (scan : Scan) : Type 0 where

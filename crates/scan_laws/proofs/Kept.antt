@@ -32,12 +32,13 @@ use Rattle.scan_laws.specs.NextGenerators.{IsAdded}
 use Rattle.scan_laws.proofs.AddedCells.{to}
 use Rattle.scan_laws.proofs.AddedEdges.{alike-adding}
 use Rattle.scan_laws.proofs.Base.{alike-first}
-use Rattle.scan_laws.proofs.Coefficients.{between-states, inside-state, nowhere}
+use Rattle.scan_laws.proofs.Coefficients.{between-states}
 use Rattle.scan_laws.proofs.Edges.{outer-below}
 use Rattle.scan_laws.proofs.Eliminating.{alike-left, left, left-complex, left-dimension}
 use Rattle.scan_laws.proofs.Matrices.{matrix_by, sets_by, two-objects, matrix-below}
 use Rattle.scan_laws.proofs.Renumbered.{alike-renumbered, renumbered}
 use Rattle.scan_laws.proofs.ScansOf.{scan-adding, scan-eliminating, scan-first, scan-renumbering}
+use Rattle.cell_laws.proofs.LayerCells.{inside-state, nowhere}
 
 -- coefficients are below p
 pub coefficients-below : (p : ℕ) (code : Code) (plus minus : ℕ) (scan : Scan) → 1 < p → (x y : Layer)

@@ -36,12 +36,6 @@ abbrev pub matrix_by : ℕ → Code → ℕ → List Term → ℕ → ℕ → �
 matrix_by p code state terms row column k a b =
     matrix_of p (points_at code k) a.pairs b.pairs (joined_outside code k state) terms row column
 
-pub below-same : (p n : ℕ) (f g : ℕ → ℕ) → ((k : ℕ) → k < n → Same p (f k) (g k)) → Same p (sum_below n f) (sum_below n g)
-below-same p zero f g same = refl
-below-same p (suc n) f g same =
-    same-add p (f 0) (g 0) (sum_below n (λ k. f (suc k))) (sum_below n (λ k. g (suc k))) (same 0 (omega arith))
-    (below-same p n (λ k. f (suc k)) (λ k. g (suc k)) (λ k below. same (suc k) (omega (arith, below))))
-
 pub sum_by-below : (f : ℕ → ℕ) (n : ℕ) → sum_by f (range_with_len 0 n) ≡ sum_below n f
 sum_by-below f zero = refl
 sum_by-below f (suc n) =

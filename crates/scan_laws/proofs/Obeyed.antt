@@ -11,7 +11,7 @@ use Rattle.square_laws.proofs.LabelNumbers.{number_from}
 use Rattle.surface_laws.specs.Points.{least_points}
 use Rattle.surface_laws.specs.Surfaces.{value}
 use Rattle.dotted_maps.specs.Terms.{entry}
-use Rattle.cut_surface_laws.specs.CutCodes.{outer_smoothings}
+use Rattle.genus_laws.specs.CutCodes.{outer_smoothings}
 use Rattle.added_crossing_laws.specs.Codes.{circles_behind, closed_at, discs_behind, pairing_behind, points_at, smoothing_at}
 use Rattle.added_crossing_laws.specs.Entries.{added_surface, closed_label, label_before, label_behind, saddle_surface}
 use Rattle.added_crossing_laws.specs.Labels.{number_of}
@@ -26,7 +26,7 @@ use Rattle.cell_laws.proofs.SplitLabels.{part}
 use Rattle.scan_laws.proofs.States.{behind-more, joint, outer-rest, outer-whole, outside-more, whole-at, whole_state}
 
 -- both forms of a number from bits
-number_of-map : (f : ℕ → ℕ) (xs : List ℕ) → number_of f xs ≡ number_from (map f xs)
+pub number_of-map : (f : ℕ → ℕ) (xs : List ℕ) → number_of f xs ≡ number_from (map f xs)
 number_of-map f [] = refl
 number_of-map f (x ∷ xs) = ap (λ n. f x + 2 * n) (number_of-map f xs)
 

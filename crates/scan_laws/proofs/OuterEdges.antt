@@ -23,11 +23,12 @@ use Rattle.scan_laws.specs.Edges.{changes_by, classes_at, keeps_by, labels_by, o
 use Rattle.scan_laws.proofs.AddedCircles.{HasNext, circle-parts, own-class}
 use Rattle.scan_laws.proofs.Changes.{changes_test, changes-counts, total}
 use Rattle.scan_laws.proofs.Edges.{edge-or_zero, fits_at, outer-one}
-use Rattle.cell_laws.proofs.Labels.{bit-small, mark, place, bits-same}
+use Rattle.cell_laws.proofs.Labels.{mark, place, bits-same}
 use Rattle.scan_laws.proofs.CirclesBehind.{left-alive, in-names, labels-count, labels-total, new-bits, new_class, old-bits, rest-arc, touched-closed, touched-left}
 use Rattle.scan_laws.proofs.Parts.{circle_with, circles_left, circles_with, closed_part, left_part}
 use Rattle.scan_laws.proofs.States.{bit-joint, count-more, joint, ones-joint}
 use Rattle.scan_laws.proofs.Untouched.{IsLater, alive-slots, slots-before, stays-alive, step-before, untouched-same}
+use Rattle.kh_types.proofs.QuantumDegrees.{bit-le}
 
 -- a test of all elements as the number of those that fail it, and as one number for tests of bits
 abbrev fails : (ℕ → Bool) → ℕ → ℕ
@@ -170,7 +171,7 @@ module _ (code : Code) (k : ℕ) (m : List (ℕ × ℕ)) (e u v : ℕ) (at : Has
       ∙ both (sum_by (fails new_keeps) left) (sum_by (fails closed_keeps) closed)
       ∙ ap₂ (λ a b. a && b)
       (sym (bits-same (λ x. mark names label (first x)) (λ x. mark names_behind other (second x)) closed
-      (λ x. bit-small label (place (first x) names)) (λ x. bit-small other (place (second x) names_behind))
+      (λ x. bit-le label (place (first x) names)) (λ x. bit-le other (place (second x) names_behind))
       ∙ all-fails closed_keeps closed))
       (sym (all-fails new_keeps left))
     where

@@ -7,12 +7,11 @@ use Rattle.std.proofs.Common.{◌≡◌, ◌≢◌, ℕ, zero, suc, inl, inr, �
 use Rattle.std.specs.Prelude.{nat_eq}
 use Rattle.std.specs.List.{AllByRecursion, Contains, filter, position_or_len, range_with_len}
 use Rattle.std.proofs.lemmas.Bool.{both_ways, cases_eq, eq-eqb, ne_eqb}
-use Rattle.std.proofs.lemmas.Bool.Decides.{nat_tests}
 use Rattle.std.proofs.lemmas.List.{get_or_default}
 use Rattle.kh_types.specs.Code.{Code}
 use Rattle.kh_types.specs.Rank.{minus_mod}
 use Rattle.kh_types.proofs.ListSums.{sum_by-map, sum_by-single}
-use Rattle.kh_types.proofs.Lists.{Contains-filter, range-contains}
+use Rattle.kh_types.proofs.Lists.{Contains-filter, range-contains, Contains-range}
 use Rattle.kh_types.proofs.Reduced.{minus_mod-added}
 use Rattle.kh_types.proofs.Residues.{same-equal}
 use Rattle.surface_laws.specs.Points.{discs}
@@ -26,9 +25,9 @@ use Rattle.cell_laws.proofs.NoDoubles.{once-first, once-range, once-filter}
 use Rattle.scan_laws.specs.Scans.{IsScanOf, Scan, dot_sets}
 use Rattle.scan_laws.specs.Adding.{IsAdding, Origin, new_coefficient, object_from, origin_of, origins}
 use Rattle.scan_laws.specs.Eliminating.{IsEliminating, IsNumber, way_coefficient}
-use Rattle.cell_laws.proofs.CellLists.{contains-range}
 use Rattle.scan_laws.proofs.Origins.{is_same, origins-once, origins-test}
 use Rattle.cell_laws.proofs.Places.{place-at, place-found}
+use Rattle.dotted_maps.proofs.MapProducts.{here-only, here-is}
 
 -- a map with given coefficients
 abbrev term_with : (ℕ → ℕ) → ℕ → Term
@@ -40,12 +39,6 @@ terms_with n f = map (term_with f) (range_with_len 0 n)
 dots-with : (n : ℕ) (f : ℕ → ℕ) (a k : ℕ) → a + k ≤ n → AllByRecursion (λ term. term.dots < n) (map (term_with f) (range_with_len a k))
 dots-with n f a zero fits = tt
 dots-with n f a (suc k) fits = (omega (arith, fits), dots-with n f (a + 1) k (omega (arith, fits)))
-
-here-only : (k x c : ℕ) → x ≢ k → cond (nat_eq x k) c 0 ≡ 0
-here-only k x c apart = grind (arith, nat_tests)
-
-here-is : (k c : ℕ) → cond (nat_eq k k) c 0 ≡ c
-here-is k c = grind (arith, nat_tests)
 
 coefficient-with : (n : ℕ) (f : ℕ → ℕ) (kept : ℕ) → kept < n → coefficient_in (terms_with n f) kept ≡ f kept
 coefficient-with n f kept below =
@@ -74,7 +67,7 @@ origins-matched code scan once =
       second_once = origins-once code scan once;
       there = λ x has. (x, below x has, get_or_default ws x (get_or ws x no_origin) no_origin (below x has));
       back_there = λ w has.
-          contains-range (length ws) (position_or_len (is_same w) ws) (place-found is_same no_origin w ws origins-test has).within;
+          Contains-range (length ws) (position_or_len (is_same w) ws) (place-found is_same no_origin w ws origins-test has).within;
       to_back = λ w has. (place-found is_same no_origin w ws origins-test has).there;
       back_to = λ x has. place-at is_same no_origin ws x origins-test (origins-once code scan once) (below x has);
     }

@@ -16,7 +16,8 @@ use Rattle.scan_laws.specs.Scans.{Object, Scan, circle_count_at, circles_at, cou
 use Rattle.scan_laws.specs.Edges.{outer_coefficient}
 use Rattle.scan_laws.specs.Complexes.{complex_of, degree_of_labels, inner_at, layers_of}
 use Rattle.cell_laws.proofs.CellLists.{cell-from}
-use Rattle.scan_laws.proofs.Coefficients.{between-states, inside-state, nowhere}
+use Rattle.scan_laws.proofs.Coefficients.{between-states}
+use Rattle.cell_laws.proofs.LayerCells.{inside-state, nowhere}
 
 -- the layers of a scan, with some of its objects and with other coefficients within a state
 abbrev layers_with : ℕ → Code → ℕ → ℕ → Scan → List ℕ → (ℕ → ℕ → ℕ → ℕ → ℕ → ℕ) → Layers

@@ -16,9 +16,10 @@ use Rattle.scan_laws.specs.Adding.{IsAdding}
 use Rattle.scan_laws.specs.Eliminating.{IsEliminating}
 use Rattle.scan_laws.specs.Steps.{IsRenumbering}
 use Rattle.scan_laws.proofs.Eliminating.{still-there}
-use Rattle.cell_laws.proofs.Labels.{bit-number, bit-small}
+use Rattle.cell_laws.proofs.Labels.{bit-number}
 use Rattle.scan_laws.proofs.Origins.{origin-from}
 use Rattle.cell_laws.proofs.SameElements.{same-sums}
+use Rattle.kh_types.proofs.QuantumDegrees.{bit-le}
 
 -- pairings depend on the states' bits at the crossings that are done
 pairing_of-same : (code : Code) (s t k : ℕ) → ((i : ℕ) → i < k → bit s i ≡ bit t i) → pairing_of code s k ≡ pairing_of code t k
@@ -42,7 +43,7 @@ bit-with k s e i e_below below =
   where
     small : (b : Bool) (j : ℕ) → cond b e (bit s j) ≤ 1
     small true j = omega (arith, e_below)
-    small false j = bit-small s j
+    small false j = bit-le s j
 
 -- the pairing with one smoothing more is one that a state makes
 made-behind : (code : Code) (k s e : ℕ) → e < 2

@@ -12,7 +12,7 @@ ghost use Rattle.kh_types.specs.Products.{sum_below};
 ghost use Rattle.surface_laws.specs.Surfaces.{IsClosed, value};
 ghost use Rattle.surface_laws.specs.Points.{inner};
 ghost use Rattle.dotted_maps.specs.Terms.{AreGlued};
-ghost use Rattle.cut_surface_laws.specs.CutCodes.{outer_smoothings};
+ghost use Rattle.genus_laws.specs.CutCodes.{outer_smoothings};
 ghost use Rattle.added_crossing_laws.specs.Codes.{smoothing_at, pairing_behind, sheet_at, outside_at, added_at, saddle_sheet, saddle_added, discs_behind, AreClosed, sum_over_dots, points_at};
 ghost use Rattle.added_crossing_laws.specs.Entries.{entry_sheet, entry_at, added_surface, saddle_surface, label_before, closed_label, label_behind, AreEntriesClosed};
 ghost use Rattle.added_crossing_laws.specs.Saddles.{edge_at, MergesOrSplitsAt, AreBits, opposite, pairing_of};

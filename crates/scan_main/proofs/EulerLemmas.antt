@@ -18,8 +18,9 @@ use Rattle.kh_types.specs.declared.limits.TheConstants.{EXPONENT}
 use Rattle.kh_types.specs.StateSum.{int_sum, signed_by, signed_by_parity}
 use Rattle.kh_types.specs.Table.{Row, from_minus}
 use Rattle.jones_sum.specs.Coefficients.{coefficients_of}
-use Rattle.jones_sum.proofs.CoefficientLemmas.{filled, get_or-map-from_minus}
+use Rattle.jones_sum.proofs.CoefficientLemmas.{filled}
 use Rattle.jones_sum.proofs.KindLemmas.{int_sum-push, unsigned_abs-add}
+use Rattle.kh_types.proofs.QuantumDegrees.{get_or-map-from_minus}
 
 -- the sign of a dimension
 

@@ -17,6 +17,7 @@ use Rattle.slide_laws.specs.Slid.{source, slid, slid_crossing}
 use Rattle.slide_laws.proofs.Corners.{source-source, source-below}
 use Rattle.slide_laws.proofs.Sides.{HasSides, slid_partner}
 use Rattle.gluing_laws.specs.Codes.{arc_of_dart}
+use Rattle.gluing_laws.proofs.DartPairs.{arc_of-dart}
 
 pub length-slid : (crossings : List (List ℕ)) (x y z : ℕ) → length (slid crossings x y z) ≡ length crossings
 length-slid crossings x y z = length-map-range_with_len (slid_crossing crossings x y z) 0 (length crossings)
@@ -34,12 +35,9 @@ arc_of_dart-slid crossings x y z place below =
     ∙ get_or-map-range_with_len (λ k. arc_of_dart crossings (source x y z (4 * crossing + k))) 0 4 slot slot 0 (omega arith) (omega arith)
     ∙ ap (λ k. arc_of_dart crossings (source x y z k)) whole
 
-pub arc_of-at : (crossings : List (List ℕ)) (place : ℕ) → arc_of crossings (dart_at place) ≡ arc_of_dart crossings place
-arc_of-at crossings place = grind (arith, nat_tests)
-
 pub arc_of-slid : (crossings : List (List ℕ)) (x y z place : ℕ) → place < 4 * length crossings
     → arc_of (slid crossings x y z) (dart_at place) ≡ arc_of crossings (dart_at (source x y z place))
-arc_of-slid crossings x y z place below = grind (arith, nat_tests, arc_of-at, arc_of_dart-slid)
+arc_of-slid crossings x y z place below = grind (arith, nat_tests, arc_of-dart, arc_of_dart-slid)
 
 -- exactly two numbers of a range pass
 

@@ -19,7 +19,7 @@ use Rattle.kh_types.proofs.AcceptedLemmas.{HasArcsTwice-accepted}
 use Rattle.kh_types.proofs.RangeImages.{all-map_range, map_range-at, map_range-agree}
 use Rattle.kh_types.proofs.Ranges.{below_four}
 use Rattle.face_walk.proofs.OpenFaces.{piece_pairs-below}
-use Rattle.face_walk.proofs.FewFaces.{face_count-accepted}
+use Rattle.face_walk.proofs.FewFaces.{sphere_faces}
 use Rattle.slide_laws.specs.Slid.{on, source, slid}
 use Rattle.slide_laws.proofs.Corners.{at_places, AreApart, AreApart-rotated, AreApart-on, on-crossing, on-on, on-zero, source-x, source-rotated, source-outside, source-source, source-below}
 use Rattle.slide_laws.proofs.Sides.{HasSides, HasSides-slid, IsPairing-slid, slid_partner}
@@ -172,4 +172,4 @@ pub planar-slid : (code : Code) (x y z : ℕ) → IsTrue (accepted code)
     → HasSides (length code.crossings) (partner_at code.crossings) x y z
     → face_count (slid code.crossings x y z) ≡ planar_face_count (slid code.crossings x y z)
 planar-slid code x y z is sides =
-    grind (arith, nat_tests, HasArcsTwice-accepted, face_count-slid, face_count-accepted, length-slid, piece_count-slid)
+    grind (arith, nat_tests, HasArcsTwice-accepted, face_count-slid, sphere_faces, length-slid, piece_count-slid)

@@ -25,8 +25,9 @@ use Rattle.kh_types.proofs.BitLemmas.{bit-cases}
 use Rattle.slide_laws.specs.Slid.{on, source, slid}
 use Rattle.slide_laws.proofs.Corners.{at_places, IsOutside, on-crossing, on-slot, on-on, on-zero, on-below, on-apart, source-x, source-rotated, source-outside, source-source, source-below}
 use Rattle.slide_laws.proofs.Sides.{HasSides, HasSides-rotated}
-use Rattle.slide_laws.proofs.SlidArcs.{length-slid, arc_of-at, HasArcsTwice-slid, partner_at-slid}
+use Rattle.slide_laws.proofs.SlidArcs.{length-slid, HasArcsTwice-slid, partner_at-slid}
 use Rattle.gluing_laws.specs.Codes.{arc_of_dart}
+use Rattle.gluing_laws.proofs.DartPairs.{arc_of-dart}
 
 -- a bit changed
 
@@ -279,7 +280,7 @@ passes-apart crossings twice board place below same =
     let coloured = IsColoured-checkerboard crossings board twice in
     let behind = on place 2 in
     let same_dart = coloured.once (dart_at behind) (dart_at place) (IsDart-at crossings behind (on-below (length crossings) place 2 below))
-    (IsDart-at crossings place below) (arc_of-at crossings behind ∙ sym same ∙ sym (arc_of-at crossings place))
+    (IsDart-at crossings place below) (arc_of-dart crossings behind ∙ sym same ∙ sym (arc_of-dart crossings place))
     (by_places board.choice place behind (on-crossing place 2) (on-slot place 2)) in
     on-apart place 2 0 (omega arith) (omega arith) (omega arith)
     (sym (dart_place-at behind) ∙ ap dart_place same_dart ∙ dart_place-at place ∙ sym (on-zero place))

@@ -16,14 +16,12 @@ use Rattle.slide_laws.specs.SlideCodes.{is_head_with, IsOnlyDart, HasHeadsAndTai
 use Rattle.slide_laws.proofs.Corners.{at_places, on-crossing, on-slot, on-on, on-zero, source-x, source-rotated, source-outside, source-source, source-below}
 use Rattle.slide_laws.proofs.Sides.{HasSides, HasSides-rotated}
 use Rattle.slide_laws.proofs.SlidArcs.{length-slid, arc_of-slid}
+use Rattle.kh_types.proofs.Tests.{twice-not}
 
 -- a kind of darts that opposite slots and partners do not have together
 pub record IsKind (n : ℕ) (partner : ℕ → ℕ) (kind : ℕ → Bool) : Type 0 where
   pub across : (place : ℕ) → kind (on place 2) ≡ not (kind place)
   pub partners : (place : ℕ) → place < 4 * n → kind (partner place) ≡ not (kind place)
-
-not-not : (b : Bool) → not (not b) ≡ b
-not-not b = grind (arith, nat_tests)
 
 -- it goes with the arcs
 kind-source_x : (n : ℕ) (partner : ℕ → ℕ) (kind : ℕ → Bool) (x y z : ℕ) → IsKind n partner kind → HasSides n partner x y z
@@ -32,10 +30,10 @@ kind-source_x n partner kind x y z is sides =
     let third = sym (ap kind (on-on x 1 2)) ∙ is.across (on x 1) in
     below_four (λ j. kind (source x y z (on x j)) ≡ kind (on x j))
     (ap kind (source-x x y z 0 (omega arith)) ∙ sym (ap kind (on-on y 1 2)) ∙ is.across (on y 1)
-    ∙ ap (λ k. not (kind k)) (sym sides.from_x) ∙ ap not (is.partners x sides.x_below) ∙ not-not (kind x) ∙ sym (ap kind (on-zero x)))
+    ∙ ap (λ k. not (kind k)) (sym sides.from_x) ∙ ap not (is.partners x sides.x_below) ∙ twice-not (kind x) ∙ sym (ap kind (on-zero x)))
     (ap kind (source-x x y z 1 (omega arith)) ∙ is.across z ∙ sym (is.partners z sides.z_below) ∙ ap kind sides.from_z)
     (ap kind (source-x x y z 2 (omega arith)) ∙ sym (ap kind sides.from_x) ∙ is.partners x sides.x_below ∙ sym (is.across x))
-    (ap kind (source-x x y z 3 (omega arith)) ∙ sym (not-not (kind z))
+    (ap kind (source-x x y z 3 (omega arith)) ∙ sym (twice-not (kind z))
     ∙ sym (third ∙ ap (λ k. not (kind k)) (sym sides.from_z) ∙ ap not (is.partners z sides.z_below)))
 
 pub kind-source : (n : ℕ) (partner : ℕ → ℕ) (kind : ℕ → Bool) (x y z : ℕ) → IsKind n partner kind → HasSides n partner x y z

@@ -7,8 +7,9 @@ use Rattle.slide_laws.specs.Slid.{on, source, slid}
 use Rattle.slide_laws.specs.SlideCodes.{FollowsRule}
 use Rattle.slide_laws.proofs.Corners.{on-on, on-zero, on-below, source-x, source-y, source-rotated}
 use Rattle.slide_laws.proofs.Sides.{HasSides, HasSides-rotated}
-use Rattle.slide_laws.proofs.SlidArcs.{arc_of_dart-slid, arc_of-at}
+use Rattle.slide_laws.proofs.SlidArcs.{arc_of_dart-slid}
 use Rattle.gluing_laws.specs.Codes.{arc_of_dart}
+use Rattle.gluing_laws.proofs.DartPairs.{arc_of-dart}
 
 pub FollowsRule-first : (crossings : List (List ℕ)) (x y z : ℕ) → HasArcsTwice crossings
     → HasSides (length crossings) (partner_at crossings) x y z → FollowsRule crossings (slid crossings x y z) x (partner_at crossings x)
@@ -17,7 +18,7 @@ FollowsRule-first crossings x y z twice sides =
     let arc = arc_of_dart crossings in
     let partner = IsOtherPlace-partner_at crossings x twice sides.x_below in
     let side : arc (on y 1) ≡ arc x =
-    ap arc (sym sides.from_x) ∙ sym (arc_of-at crossings (partner_at crossings x)) ∙ partner.same_arc ∙ arc_of-at crossings x in
+    ap arc (sym sides.from_x) ∙ sym (arc_of-dart crossings (partner_at crossings x)) ∙ partner.same_arc ∙ arc_of-dart crossings x in
     let at = λ (place : ℕ) (below : place < 4 * n). arc_of_dart-slid crossings x y z place below in
     let facts : FollowsRule crossings (slid crossings x y z) x (on y 1) = record {
       side = side;

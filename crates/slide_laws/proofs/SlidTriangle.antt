@@ -25,9 +25,10 @@ use Rattle.slide_laws.specs.Triangles.{has_heights}
 use Rattle.slide_laws.specs.Slid.{on, slid, slid_code}
 use Rattle.slide_laws.proofs.Corners.{IsOutside, on-zero, on-below, on-apart, source-x, source-outside}
 use Rattle.slide_laws.proofs.Sides.{HasSides, HasSides-rotated}
-use Rattle.slide_laws.proofs.SlidArcs.{length-slid, arc_of_dart-slid, arc_of-at, HasArcsTwice-slid}
+use Rattle.slide_laws.proofs.SlidArcs.{length-slid, arc_of_dart-slid, HasArcsTwice-slid}
 use Rattle.slide_laws.proofs.SlidRule.{slid-rotated}
 use Rattle.slide_laws.proofs.SlidFaces.{IsNoSideDart, on-no_side, outside-no_side}
+use Rattle.gluing_laws.proofs.DartPairs.{arc_of-dart}
 
 -- the arcs of the triangle's ends and sides, by their inside numbers
 abbrev pub inside_arcs : List (List ℕ) → ℕ → ℕ → ℕ → ℕ → ℕ
@@ -55,7 +56,7 @@ arc_at-there crossings place slot below = grind (arith, nat_tests)
 IsArc-there : (crossings : List (List ℕ)) (place : ℕ) → HasArcsTwice crossings → place < 4 * length crossings
     → IsArc crossings (arc_of_dart crossings place)
 IsArc-there crossings place twice below =
-    subst (λ (a : ℕ). IsArc crossings a) (arc_of-at crossings place) (twice.slots (dart_at place) (IsDart-at crossings place below))
+    subst (λ (a : ℕ). IsArc crossings a) (arc_of-dart crossings place) (twice.slots (dart_at place) (IsDart-at crossings place below))
 
 pub HoldsArcs-twice : (code : Code) → HasArcsTwice code.crossings → HoldsArcs code
 HoldsArcs-twice code twice = grind (arith, nat_tests, IsArc-there, arc_at-there)
@@ -71,7 +72,7 @@ darts_of_arc crossings place other twice below other_below same = elim (cases_eq
       (record {
         below = other_below;
         differs = differs;
-        same_arc = arc_of-at crossings other ∙ same ∙ sym (arc_of-at crossings place);
+        same_arc = arc_of-dart crossings other ∙ same ∙ sym (arc_of-dart crossings place);
       }))
 ]
 
@@ -94,7 +95,7 @@ sides-apart crossings x y z twice sides = grind (arith, nat_tests, darts_of_arc,
 -- the side to the dart before
 arc-side : (crossings : List (List ℕ)) (x y z : ℕ) → HasArcsTwice crossings
     → HasSides (length crossings) (partner_at crossings) x y z → arc_of_dart crossings (on y 1) ≡ arc_of_dart crossings x
-arc-side crossings x y z twice sides = grind (arith, nat_tests, IsOtherPlace-partner_at, arc_of-at)
+arc-side crossings x y z twice sides = grind (arith, nat_tests, IsOtherPlace-partner_at, arc_of-dart)
 
 -- the triangle is placed
 pub IsPlaced-inside : (code : Code) (x y z : ℕ) → HasArcsTwice code.crossings

@@ -1,6 +1,6 @@
 -- Codes with alike crossings are one another's under other numbers.
 use Rattle.std.proofs.lemmas.Bool.Decides.{nat_tests}
-use Rattle.std.proofs.Common.{◌≡◌, ℕ, ◌⊎◌, inl, inr, ◌+◌, ◌*◌, ◌/◌, ◌%◌, ◌<◌, ◌≤◌, ◌∙◌, [], ◌∷◌, length, refl, sym, ap, subst, arith, ◌&&◌, cond}
+use Rattle.std.proofs.Common.{◌≡◌, ℕ, ◌⊎◌, inl, inr, ◌+◌, ◌*◌, ◌<◌, ◌≤◌, ◌∙◌, length, refl, sym, ap, subst, arith, ◌&&◌, cond}
 use Rattle.std.specs.Prelude.{nat_lt}
 use Rattle.kh_types.specs.Code.{Code, IsArc, arc_count}
 use Rattle.kh_types.specs.Darts.{HasArcsTwice, arc_of, dart_at, dart_place, first_dart}
@@ -8,10 +8,10 @@ use Rattle.kh_types.proofs.DartPairs.{IsDart-at, IsDartOf-first_dart, dart_at-pl
 use Rattle.gluing_laws.specs.Alike.{AreAlike}
 use Rattle.gluing_laws.specs.Arcs.{arc_by_place}
 use Rattle.gluing_laws.specs.Codes.{IsRenumbered}
-use Rattle.slide_laws.proofs.SlidArcs.{arc_of-at}
 use Rattle.slide_laws.proofs.SlidTriangle.{arc_at-there, HoldsArcs-twice}
 use Rattle.slide_view_laws.specs.RenamedViews.{IsRenumberedOnto}
 use Rattle.slide_view_laws.specs.SlidMoves.{new_number}
+use Rattle.gluing_laws.proofs.DartPairs.{arc_of-dart}
 
 -- codes with alike crossings
 
@@ -106,9 +106,9 @@ module _ (old new : Code) (alike : AreAlike old.crossings new.crossings) (twice 
             let x = arc_by_place old.crossings place slot in
             let dart_below : 4 * place + slot < 4 * length old.crossings = omega (arith, below, slot_below) in
             let old_at : arc_of old.crossings (dart_at (4 * place + slot)) ≡ arc_by_place old.crossings place slot =
-            arc_of-at old.crossings dart ∙ sym (arc_at-there old.crossings place slot slot_below) in
+            arc_of-dart old.crossings dart ∙ sym (arc_at-there old.crossings place slot slot_below) in
             let new_at : arc_of new.crossings (dart_at (4 * place + slot)) ≡ arc_by_place new.crossings place slot =
-            arc_of-at new.crossings dart ∙ sym (arc_at-there new.crossings place slot slot_below) in
+            arc_of-dart new.crossings dart ∙ sym (arc_at-there new.crossings place slot slot_below) in
             let is : IsArc old.crossings (arc_by_place old.crossings place slot) =
             subst (λ (a : ℕ). IsArc old.crossings a) old_at (twice.slots (dart_at dart) (IsDart-at old.crossings dart dart_below)) in
             let first = first-place x is in

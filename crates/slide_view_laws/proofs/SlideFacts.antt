@@ -1,19 +1,15 @@
 -- What both codes of a slide show at the states of the triangle.
 use Rattle.std.proofs.lemmas.Bool.Decides.{nat_tests}
-use Rattle.std.proofs.Common.{◌≡◌, ◌≢◌, ℕ, ◌+◌, ◌*◌, ◌<◌, ◌≤◌, ◌∙◌, List, [], ◌∷◌, length, refl, sym, ap₂, subst, arith, true, not}
+use Rattle.std.proofs.Common.{◌≡◌, ◌≢◌, ℕ, ◌+◌, ◌*◌, ◌<◌, ◌≤◌, List, [], ◌∷◌, length, refl, sym, ap₂, subst, arith, true, not}
 use Rattle.std.specs.Prelude.{slice_index_or, nat_lt}
 use Rattle.std.specs.List.{filter, list_all, range_with_len}
 use Rattle.std.proofs.lemmas.Bool.{ltb-true}
 use Rattle.kh_types.specs.Code.{Code, arc_in}
-use Rattle.kh_types.specs.Darts.{HasArcsTwice, dart_at}
-use Rattle.kh_types.proofs.DartPairs.{IsDart-at}
+use Rattle.kh_types.specs.Darts.{HasArcsTwice}
 use Rattle.kh_types.proofs.Ranges.{below_four}
 use Rattle.kh_types.proofs.RangeCounts.{list_all-at}
-use Rattle.gluing_laws.specs.Arcs.{arc_by_place}
 use Rattle.gluing_laws.specs.Slides.{triangle_before, triangle_after, quadruple_from, ends_joined}
 use Rattle.gluing_laws.specs.SlidCodes.{Shows, IsSlid}
-use Rattle.slide_laws.proofs.SlidArcs.{arc_of-at}
-use Rattle.slide_laws.proofs.SlidTriangle.{arc_at-there}
 use Rattle.view_laws.specs.Views.{View, IsView, SeeAlike}
 use Rattle.layer_laws.specs.Slid.{kind_before, kind_after}
 use Rattle.slide_view_laws.specs.Together.{AreJoinedAlike}
@@ -23,6 +19,7 @@ use Rattle.slide_view_laws.proofs.TableFacts.{SlideTurns, SlideTurns-table, HasK
 use Rattle.slide_view_laws.proofs.SeenCircles.{HasClosing, SidesClose-code, SidesShow-code, AreSeenAlike-codes}
 use Rattle.slide_view_laws.proofs.Views.{IsStateAt-first, IsView-triangle, SeeAlike-seen}
 use Rattle.view_laws.specs.Fronts.{closed_one}
+use Rattle.kink_and_finger_laws.proofs.StandingNames.{arc_by_place-positive}
 
 -- states are below 8
 
@@ -74,13 +71,6 @@ ends-shown arcs quadruple a b c d p p_below =
 six : (P : ℕ → Type 0) → P 1 → P 2 → P 3 → P 4 → P 5 → P 6 → (i : ℕ) → 1 ≤ i → i < 7 → P i
 six P a b c d e f i from below = grind (arith, nat_tests)
 
-positive-slots : (crossings : List (List ℕ)) (place slot : ℕ) → HasArcsTwice crossings → place < length crossings → slot < 4
-    → 1 ≤ arc_by_place crossings place slot
-positive-slots crossings place slot twice below slot_below =
-    let dart = 4 * place + slot in
-    let is = twice.slots (dart_at dart) (IsDart-at crossings dart (omega (arith, below, slot_below))) in
-    subst (λ (a : ℕ). 1 ≤ a) (arc_of-at crossings dart ∙ sym (arc_at-there crossings place slot slot_below)) is.positive
-
 module _ (old new : Code) (c d e p q r : ℕ) (arcs : ℕ → ℕ) (slid : IsSlid old new c d e p q r arcs) where
   abbrev before : List (List ℕ)
   before = triangle_before p q r
@@ -113,7 +103,7 @@ module _ (old new : Code) (c d e p q r : ℕ) (arcs : ℕ → ℕ) (slid : IsSli
   pub ends-positive : HasArcsTwice old.crossings → (i : ℕ) → 1 ≤ i → i < 7 → 1 ≤ arcs i
   ends-positive twice =
       let slots = λ (place : ℕ) (below : place < length old.crossings) (slot : ℕ) (slot_below : slot < 4).
-      positive-slots old.crossings place slot twice below slot_below in
+      arc_by_place-positive old.crossings place slot twice below slot_below in
       let first = ends-shown arcs (slice_index_or old.crossings c []) 7 9 1 2 p slid.p_below slid.before.first (slots c slid.c_below) in
       let second = ends-shown arcs (slice_index_or old.crossings d []) 8 7 3 4 q slid.q_below slid.before.second (slots d slid.d_below) in
       let third = ends-shown arcs (slice_index_or old.crossings e []) 9 8 5 6 r slid.r_below slid.before.third (slots e slid.e_below) in

@@ -4,11 +4,11 @@
 -- degree: at the pivot's degree it has no entry in the pivot's row, so nothing is taken from it; in the degree after or before, a
 -- column or a row is cleared; elsewhere nothing changes. The result is a complex again.
 use Rattle.std.proofs.lemmas.Bool.Decides.{nat_tests}
-use Rattle.std.proofs.Common.{◌≡◌, ℕ, ◌∙◌, inl, List, [], ◌∷◌, ℤ, length, ap, sym, arith, Bool}
-use Rattle.std.specs.Prelude.{nat_eq, if◌then◌else◌}
+use Rattle.std.proofs.Common.{◌≡◌, ℕ, ◌∙◌, inl, List, [], ◌∷◌, ℤ, length, ap, sym, arith}
+use Rattle.std.specs.Prelude.{nat_eq}
 use Rattle.kh_types.specs.Complex.{Complex, Degree, IsComplex, IsPivot, Pivot, cancel, degree_of, entry_in, entry_of}
 use Rattle.kh_types.specs.History.{IsLegal, replay}
-use Rattle.kh_types.proofs.MatrixEntries.{entry-without_column, entry-without_row}
+use Rattle.kh_types.proofs.MatrixEntries.{entry-without_column, entry-without_row, if_zero}
 use Rattle.prime_field.specs.Residues.{IsField}
 use Rattle.sparse_block.specs.Complexes.{column_of, high_of, place_count}
 use Rattle.sparse_block.specs.Entries.{entries_of}
@@ -49,9 +49,6 @@ places-comes p before after i comes = grind (arith, nat_tests, places-replay)
 
 -- an empty column stays empty
 
-chosen-zero : (test : Bool) (x : ℕ) → x ≡ 0 → (if test then 0 else x) ≡ 0
-chosen-zero test x none = grind (arith, nat_tests)
-
 zero_column-cancel : (p : ℕ) (complex : Complex) (pivot : Pivot) (i : ℤ) (row column : ℕ) → IsField p → IsComplex p complex
     → IsPivot complex pivot → ((r : ℕ) → entry_of complex i r column ≡ 0) → entry_of (cancel p complex pivot) i row column ≡ 0
 zero_column-cancel p complex pivot i row column field is is_pivot zeros =
@@ -64,11 +61,11 @@ zero_column-cancel p complex pivot i row column field is is_pivot zeros =
       | Where.is_after here ↦
           ap (λ (degree : Degree). entry_in degree.matrix row column) (degree-after_pivot p complex pivot i here)
           ∙ entry-without_column pivot.row (degree_of complex i).matrix row column
-          ∙ chosen-zero (nat_eq column pivot.row) (entry_of complex i row column) (zeros row)
+          ∙ if_zero (nat_eq column pivot.row) (entry_of complex i row column) (zeros row)
       | Where.is_before here ↦
           ap (λ (degree : Degree). entry_in degree.matrix row column) (degree-before_pivot p complex pivot i here)
           ∙ entry-without_row pivot.column (degree_of complex i).matrix row column
-          ∙ chosen-zero (nat_eq row pivot.column) (entry_of complex i row column) (zeros row)
+          ∙ if_zero (nat_eq row pivot.column) (entry_of complex i row column) (zeros row)
       | Where.is_elsewhere not_here not_after not_before ↦
           ap (λ (degree : Degree). entry_in degree.matrix row column)
           (degree-elsewhere p complex pivot i not_here not_after not_before)

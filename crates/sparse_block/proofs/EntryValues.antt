@@ -35,7 +35,7 @@ number-none xs k none = sym (value_at-entries_of xs k) ∙ ap (λ (es : List Ent
 
 -- entries have their values at their places
 
-value_at-place : (p a b k : ℕ) (es : List Entry) (d : Entry) → Ascend p a b es → k < length es
+pub value_at-place : (p a b k : ℕ) (es : List Entry) (d : Entry) → Ascend p a b es → k < length es
     → value_at es (get_or es k d).place ≡ (get_or es k d).value
 value_at-place p a b k [] d ascend within = absurd (omega arith)
 value_at-place p a b zero (e ∷ es) d ascend within = value_at-here e es e.place refl

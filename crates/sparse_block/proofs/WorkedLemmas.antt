@@ -57,7 +57,7 @@ columns-made a b c d first second third fourth made are firsts seconds thirds fo
 -- and what `ColumnComplex::new` asks of it
 
 -- each list has fewer names than can be counted
-few-names : (names : List (List Generator)) → AllByRecursion (λ degree. length degree < 2 ^ 29) names
+pub few-names : (names : List (List Generator)) → AllByRecursion (λ degree. length degree < 2 ^ 29) names
     → All (λ degree. length degree < 2 ^ 29) names
 few-names names few = All-from_recursion (λ (degree : List Generator). length degree < 2 ^ 29) names few
 

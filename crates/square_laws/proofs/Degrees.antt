@@ -24,8 +24,9 @@ use Rattle.kh_types.proofs.ListSums.{sum_by-alike, sum_by-filter, sum_by-none}
 use Rattle.square_laws.proofs.MarkedLabels.{labels-lower}
 use Rattle.square_laws.proofs.TouchedCircles.{fits, fits-decides}
 use Rattle.square_laws.proofs.Signs.{ones-set_below}
-use Rattle.square_laws.proofs.Pairs.{IsStep, coefficient_at-edge, edge_or_zero, times-zero}
+use Rattle.square_laws.proofs.Pairs.{IsStep, coefficient_at-edge, edge_or_zero}
 use Rattle.square_laws.proofs.Products.{product_sum-zero}
+use Rattle.kh_types.proofs.Sums.{times-zero}
 
 -- the label degree falls by one, and the number of 1-smoothings rises by one
 quantum_same : (circles labels next_circles next_labels before after plus minus : ℕ)

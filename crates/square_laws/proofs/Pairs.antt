@@ -68,12 +68,6 @@ product_at p code tail head a b middle = coefficient_at p code middle head b * c
 abbrev pub pair_sum : ℕ → Code → Generator → Generator → ℕ → ℕ → ℕ
 pair_sum p code tail head a b = sum_by (product_at p code tail head a b) (generators code)
 
-pub times-zero : (x y : ℕ) → y ≡ 0 → x * y ≡ 0
-times-zero x y is = ap (λ k. x * k) is ∙ omega arith
-
-pub zero-times : (x y : ℕ) → x ≡ 0 → x * y ≡ 0
-zero-times x y is = ap (λ k. k * y) is ∙ omega arith
-
 steps_or_zero : (p : ℕ) (code : Code) (tail head middle : Generator) (a b : ℕ)
     → (IsStep tail.state middle.state a × IsStep middle.state head.state b) ⊎ (product_at p code tail head a b middle ≡ 0)
 steps_or_zero p code tail head middle a b = grind (arith, nat_tests)

@@ -3,6 +3,7 @@ use Rattle.std.proofs.Common.{◌≡◌, ◌≢◌, ℕ, inl, inr, ◌+◌, ◌-
 use Rattle.std.proofs.lemmas.Bool.{cases_eq}
 use Rattle.std.proofs.lemmas.Bool.Decides.{nat_tests}
 use Rattle.surface_laws.specs.Surfaces.{Surface, is_component, faces_on, marks_on, lowers_on, raises_on, HasGenus, HaveOneCount, genus_on, weight, factor}
+use Rattle.kh_types.proofs.Sums.{zero-times, times-zero}
 
 genus-is : (up down genus : ℕ) → up + 4 * genus ≡ down + 4 → (down + 4 - up) / 4 ≡ genus
 genus-is up down genus has = omega (arith, has)
@@ -88,12 +89,6 @@ weight-one genus marks one = grind (arith, nat_tests)
 weight-none : (genus marks : ℕ) → marks + genus ≢ 1 → weight genus marks ≡ 0
 weight-none genus marks other = grind (arith, nat_tests)
 
-zero-left : (x y : ℕ) → x ≡ 0 → x * y ≡ 0
-zero-left x y none = ap (λ z. z * y) none ∙ omega arith
-
-zero-right : (x y : ℕ) → y ≡ 0 → x * y ≡ 0
-zero-right x y none = ap (λ z. x * z) none ∙ omega arith
-
 -- two components that are cut apart: one of them has the mark of the cut
 pub weight-apart : (g h m k : ℕ)
     → weight g m * weight h (1 + k) + weight g (1 + m) * weight h k ≡ weight (g + h) (m + k)
@@ -102,18 +97,18 @@ weight-apart g h m k = elim (cases_eq (m + g) 1) [
     | inl none ↦
         let first : weight g m * weight h (1 + k) ≡ (1 + g) * 1 =
         ap₂ (λ x y. x * y) (weight-one g m one) (weight-one h (1 + k) (omega (arith, none)) ∙ omega (arith, none)) in
-        let second = zero-left (weight g (1 + m)) (weight h k) (weight-none g (1 + m) (λ is. absurd (omega (arith, is, one)))) in
+        let second = zero-times (weight g (1 + m)) (weight h k) (weight-none g (1 + m) (λ is. absurd (omega (arith, is, one)))) in
         let whole = weight-one (g + h) (m + k) (omega (arith, one, none)) in
         omega (arith, first, second, whole, none)
     | inr some ↦
-        let first = zero-right (weight g m) (weight h (1 + k)) (weight-none h (1 + k) (λ is. some (omega (arith, is)))) in
-        let second = zero-left (weight g (1 + m)) (weight h k) (weight-none g (1 + m) (λ is. absurd (omega (arith, is, one)))) in
+        let first = times-zero (weight g m) (weight h (1 + k)) (weight-none h (1 + k) (λ is. some (omega (arith, is)))) in
+        let second = zero-times (weight g (1 + m)) (weight h k) (weight-none g (1 + m) (λ is. absurd (omega (arith, is, one)))) in
         let whole = weight-none (g + h) (m + k) (λ is. some (omega (arith, is, one))) in
         omega (arith, first, second, whole)
   ]
   | inr other ↦ elim (cases_eq (m + g) 0) [
     | inl none ↦
-        let first = zero-left (weight g m) (weight h (1 + k)) (weight-none g m other) in
+        let first = zero-times (weight g m) (weight h (1 + k)) (weight-none g m other) in
         let left : weight g (1 + m) ≡ 1 = weight-one g (1 + m) (omega (arith, none)) ∙ omega (arith, none) in
         let second : weight g (1 + m) * weight h k ≡ 1 * weight h k = ap (λ z. z * weight h k) left in
         let e : g + h ≡ h = omega (arith, none) in
@@ -121,8 +116,8 @@ weight-apart g h m k = elim (cases_eq (m + g) 1) [
         let whole : weight (g + h) (m + k) ≡ weight h k = ap₂ (λ x y. weight x y) e d in
         omega (arith, first, second, whole)
     | inr some ↦
-        let first = zero-left (weight g m) (weight h (1 + k)) (weight-none g m other) in
-        let second = zero-left (weight g (1 + m)) (weight h k) (weight-none g (1 + m) (λ is. some (omega (arith, is)))) in
+        let first = zero-times (weight g m) (weight h (1 + k)) (weight-none g m other) in
+        let second = zero-times (weight g (1 + m)) (weight h k) (weight-none g (1 + m) (λ is. some (omega (arith, is)))) in
         let whole = weight-none (g + h) (m + k) (λ is. absurd (sum_above (m + g) (k + h) some other (omega (arith, is)))) in
         omega (arith, first, second, whole)
   ]

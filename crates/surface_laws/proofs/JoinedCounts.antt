@@ -42,7 +42,7 @@ component_of-tied surface a b x =
 
 -- tests of a merged number
 
-test-others : (u v z k : ℕ) → k ≢ u → k ≢ v → nat_eq (merged u v z) k ≡ nat_eq z k
+pub test-others : (u v z k : ℕ) → k ≢ u → k ≢ v → nat_eq (merged u v z) k ≡ nat_eq z k
 test-others u v z k not_u not_v = grind (arith, nat_tests)
 
 test-greater : (u v z : ℕ) → u ≢ v → nat_eq (merged u v z) (max u v) ≡ false
@@ -51,7 +51,7 @@ test-greater u v z apart = grind (arith, nat_tests)
 test-same : (u v z k : ℕ) → u ≡ v → nat_eq (merged u v z) k ≡ nat_eq z k
 test-same u v z k same = grind (arith, nat_tests)
 
-term-lesser : (u v z w : ℕ) → u ≢ v
+pub term-lesser : (u v z w : ℕ) → u ≢ v
     → cond (nat_eq (merged u v z) (min u v)) w 0 ≡ cond (nat_eq z u) w 0 + cond (nat_eq z v) w 0
 term-lesser u v z w apart = grind (arith, nat_tests)
 

@@ -32,7 +32,7 @@ sum_below-twice (suc m) f =
         (λ k. f (2 * suc k) + f (2 * suc k + 1)) (λ k. ap₂ (λ x y. f x + f y) (two k) (three k))
 
 -- the bits of a number but for the first are those of its half
-bit-next : (label k : ℕ) → bit label (k + 1) ≡ bit (label / 2) k
+pub bit-next : (label k : ℕ) → bit label (k + 1) ≡ bit (label / 2) k
 bit-next label k =
     let e : k + 1 ≡ 1 + k = omega arith in
     ap (λ j. label / 2 ^ j % 2) e ∙ ap (λ q. q % 2) (sym (shr-shr label 1 k))

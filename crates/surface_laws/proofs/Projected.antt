@@ -3,12 +3,11 @@
 -- If a map of places takes the components of one surface to those of another one to one, and each list of the one (faces, marks, joins that
 -- count) to that of the other up to order, then each component has the same counts, so the same genus and factor, and the product over
 -- components is the same.
-use Rattle.std.proofs.Common.{◌≡◌, ℕ, inl, inr, ◌<◌, ◌∙◌, List, map, refl, sym, ap, ap₂, arith, Bool, true, false, cond, ◌&&◌, eq-eqb}
+use Rattle.std.proofs.Common.{◌≡◌, ℕ, inl, inr, ◌<◌, ◌∙◌, List, map, refl, sym, ap, ap₂, Bool, true, false, cond, ◌&&◌, eq-eqb}
 use Rattle.std.specs.Prelude.{nat_eq}
 use Rattle.std.specs.List.{list_any, AllByRecursion, Contains}
 use Rattle.std.specs.List.Sorted.{IsPermutation}
 use Rattle.std.proofs.lemmas.Bool.{cases_Bool, eqb-true, and_from, and_parts, false_from_ne_true, both_ways}
-use Rattle.std.proofs.lemmas.Bool.Decides.{nat_tests}
 use Rattle.std.proofs.lemmas.List.Sorted.{sum_by-IsPermutation, IsPermutation-map}
 use Rattle.std.proofs.lemmas.Simd.{map-map}
 use Rattle.kh_types.proofs.ListSums.{sum_by-map, sum_by-alike, sum_by-on}
@@ -20,10 +19,7 @@ use Rattle.surface_laws.proofs.Components.{list_any-contained, list_any-some, co
 use Rattle.surface_laws.proofs.Factors.{AreAlike, HaveOneCount-each, AreAlike-sym, factor-alike, factor-none, genus-alike}
 use Rattle.surface_laws.proofs.JoinedCounts.{amount_at, sum_at}
 use Rattle.surface_laws.proofs.OneCut.{place_of_face, marks_of_face, one_face, itself, one_place, is_component-of, at_place}
-
--- two tests that say the same
-pub nat_eq-iff : (a b c d : ℕ) → (a ≡ b → c ≡ d) → (c ≡ d → a ≡ b) → nat_eq a b ≡ nat_eq c d
-nat_eq-iff a b c d onward back = grind (arith, nat_tests)
+use Rattle.kh_types.proofs.Tests.{nat_eq-iff}
 
 -- a face under the other name of its place
 abbrev pub face_under : (ℕ → ℕ) → ℕ × ℕ → ℕ × ℕ

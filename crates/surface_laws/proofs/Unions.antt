@@ -7,7 +7,7 @@ use Rattle.std.specs.Prelude.{nat_eq, slice_index}
 use Rattle.std.specs.List.{sum_by, list_any, fold, range_with_len, AllByRecursion, Contains}
 use Rattle.std.proofs.Math.Bool.{or-false}
 use Rattle.std.proofs.lemmas.Bool.Decides.{nat_tests}
-use Rattle.std.proofs.lemmas.List.{map-append, length-map, get_or_append_left, get_or-append-add, get_or-map}
+use Rattle.std.proofs.lemmas.List.{map-append, length-map, get_or-append-add, get_or-map}
 use Rattle.std.proofs.lemmas.List.Elements.{recursion_from_All, All-from_get_or}
 use Rattle.std.proofs.lemmas.List.Folds.{list_any-append}
 use Rattle.std.proofs.lemmas.List.FromFn.{length-range_with_len}
@@ -18,7 +18,7 @@ use Rattle.kh_types.proofs.JoinedClasses.{IsNamed-range, IsNamed-joined, IsNamed
 use Rattle.kh_types.proofs.ListSums.{sum_by-map, sum_by-zeros, sum_by-on}
 use Rattle.kh_types.proofs.MappedLists.{list_any-map}
 use Rattle.kh_types.proofs.Ranges.{range-append}
-use Rattle.kh_types.proofs.Lists.{AllByRecursion-at, AllByRecursion-weaker}
+use Rattle.kh_types.proofs.Lists.{AllByRecursion-at, AllByRecursion-weaker, slice_index-left}
 use Rattle.kh_types.proofs.ClassLemmas.{merged-low, merged-moved}
 use Rattle.surface_laws.specs.Surfaces.{Surface, component_of, is_component, factor, value, IsPlaced}
 use Rattle.surface_laws.specs.Cuts.{union}
@@ -27,6 +27,7 @@ use Rattle.surface_laws.proofs.Components.{list_any-on, component-below}
 use Rattle.surface_laws.proofs.Factors.{AreAlike, HaveOneCount-each, factor-alike}
 use Rattle.surface_laws.proofs.JoinedCounts.{amount_at, sum_at}
 use Rattle.surface_laws.proofs.OneCut.{place_of_face, marks_of_face, one_face, itself, one_place}
+use Rattle.kh_types.proofs.Tests.{nat_eq-plus}
 
 -- numbers moved up by n
 abbrev pub up : ℕ → List ℕ → List ℕ
@@ -40,9 +41,6 @@ range-up n a zero = refl
 range-up n a (suc k) =
     let e : n + a + 1 ≡ n + (a + 1) = omega arith in
     ap (λ (xs : List ℕ). (n + a) ∷ xs) (ap (λ z. range_with_len z k) e ∙ range-up n (a + 1) k)
-
-at-left : (xs ys : List ℕ) (x : ℕ) → x < length xs → slice_index (xs ++ ys) x ≡ slice_index xs x
-at-left xs ys x below = get_or_append_left xs ys 0 x below
 
 at-right : (n : ℕ) (xs ys : List ℕ) (y : ℕ) → length xs ≡ n → y < length ys → slice_index (xs ++ up n ys) (n + y) ≡ n + slice_index ys y
 at-right n xs ys y size below =
@@ -62,8 +60,8 @@ joined-left : (n : ℕ) (xs ys : List ℕ) (pair : ℕ × ℕ) → IsNamed n xs 
 joined-left n xs ys pair named first_below second_below =
     let u = slice_index xs pair.0 in
     let v = slice_index xs pair.1 in
-    ap₂ (λ x y. map (merged x y) (xs ++ up n ys)) (at-left xs (up n ys) pair.0 (omega (arith, named.size, first_below)))
-    (at-left xs (up n ys) pair.1 (omega (arith, named.size, second_below)))
+    ap₂ (λ x y. map (merged x y) (xs ++ up n ys)) (slice_index-left xs (up n ys) pair.0 (omega (arith, named.size, first_below)))
+    (slice_index-left xs (up n ys) pair.1 (omega (arith, named.size, second_below)))
     ∙ map-append (merged u v) xs (up n ys)
     ∙ ap (λ zs. map (merged u v) xs ++ zs)
     (merged-up n u v ys (omega (arith, named.least pair.0 first_below, first_below))
@@ -131,7 +129,7 @@ pub component_of-first : (first second : Surface) (x : ℕ) → IsPlaced first �
 component_of-first first second x placed other_placed below =
     let named = IsNamed-classes_of first.size first.joins placed.joins in
     ap (λ cs. slice_index cs x) (classes_of-union first.size second.size first.joins second.joins placed.joins other_placed.joins)
-    ∙ at-left (classes_of first.size first.joins) (up first.size (classes_of second.size second.joins)) x
+    ∙ slice_index-left (classes_of first.size first.joins) (up first.size (classes_of second.size second.joins)) x
     (omega (arith, named.size, below))
 
 pub component_of-second : (first second : Surface) (y : ℕ) → IsPlaced first → IsPlaced second → y < second.size
@@ -151,9 +149,6 @@ test-apart n x y below = grind (arith, nat_tests)
 
 test-apart_back : (n x y : ℕ) → x < n → nat_eq x (n + y) ≡ false
 test-apart_back n x y below = grind (arith, nat_tests)
-
-test-both : (n x y : ℕ) → nat_eq (n + x) (n + y) ≡ nat_eq x y
-test-both n x y = grind (arith, nat_tests)
 
 -- the four tests
 pub first-in_first : (first second : Surface) (p x : ℕ) → IsPlaced first → IsPlaced second → p < first.size
@@ -177,7 +172,7 @@ pub second-in_second : (first second : Surface) (q y : ℕ) → IsPlaced first �
     → nat_eq (component_of (union first second) (first.size + q)) (first.size + y) ≡ nat_eq (component_of second q) y
 second-in_second first second q y placed other_placed below =
     ap (λ c. nat_eq c (first.size + y)) (component_of-second first second q placed other_placed below)
-    ∙ test-both first.size (component_of second q) y
+    ∙ nat_eq-plus first.size (component_of second q) y
 
 -- a sum over two lists, of which one adds nothing
 sum-none : {X : Type 0} (f : X → ℕ) (xs : List X) → AllByRecursion (λ x. f x ≡ 0) xs → sum_by f xs ≡ 0

@@ -1,4 +1,4 @@
--- What the reading of a text comes to: a table, or the first line that is wrong. This project's rule.
+-- What the reading of a text comes to: a table, or the first line that is wrong.
 use Rattle.std.specs.Prelude.{◌≡◌, ◌≢◌, ℕ, ◌≤◌, ◌⊎◌, List, [], ◌++◌, length, take, drop, Result, Ok, Err}
 use Rattle.kh_types.specs.Table.{Table}
 use Rattle.table_text.specs.Lines.{first_line}

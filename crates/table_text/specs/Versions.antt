@@ -1,4 +1,4 @@
--- The versions of tables' texts. This project's rule.
+-- The versions of tables' texts.
 use Rattle.std.specs.Prelude.{ℕ, List, ◌++◌, codes}
 use Rattle.std.specs.List.{All, flat_map}
 use Rattle.kh_types.specs.declared.limits.TheConstants.{CROSSINGS, EXPONENT}

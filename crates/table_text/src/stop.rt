@@ -6,7 +6,7 @@ ghost use Rattle.table_text.specs.declared.stop.TableStop.TheVariants.{NoMemory}
 use kh_types as types;
 use std::alloc::AllocFailed;
 
-/// Why no table was read from a text. This project's rule.
+/// Why no table was read from a text.
 #[derive(Clone, Copy, Debug, PartialEq, Eq)]
 pub enum TableStop {
     /// The first wrong line of the text begins at `place`, that of a byte, counted from 0. A last

@@ -7,7 +7,7 @@ ghost use Rattle.table_text.specs.Versions.{far, wide};
 use crate::limits::{FIRST_CROSSINGS, FIRST_EXPONENT};
 use kh_types::{CROSSINGS, EXPONENT};
 
-/// A version of tables' texts. This project's rule.
+/// A version of tables' texts.
 #[derive(Clone, Copy)]
 pub enum Version {
     /// A text that begins with the line of its field.

@@ -4,8 +4,8 @@
 -- second map: each of its dot sets has one choice, itself (`choices-itself`).
 use Rattle.std.proofs.Common.{◌≡◌, ◌≢◌, ℕ, zero, suc, inl, inr, ◌+◌, ◌-◌, ◌*◌, ◌/◌, ◌%◌, ◌^◌, ◌<◌, ◌≤◌, ◌∙◌, List, [], ◌∷◌, ◌++◌, map, length, get_or, refl, sym, subst, ap, ap₂, arith, Bool, true, false, cond, ◌&&◌, eq-eqb, Some}
 use Rattle.std.specs.Prelude.{nat_eq, slice_index}
-use Rattle.std.specs.List.{count_by, enumerate_from, filter, flat_map, list_all, AllByRecursion, Contains}
-use Rattle.std.proofs.Math.Nat.{div-div-eq-div-mul, mod-mod, pow-suc, zero-div}
+use Rattle.std.specs.List.{count_by, enumerate_from, filter, flat_map, list_all, Contains}
+use Rattle.std.proofs.Math.Nat.{mod-mod, pow-suc, zero-div}
 use Rattle.std.proofs.lemmas.Bool.{cases_eq, ne_eqb}
 use Rattle.std.proofs.lemmas.Bool.Decides.{nat_tests}
 use Rattle.std.proofs.lemmas.List.{append-nil, get_or_default, get_or-map}
@@ -19,13 +19,13 @@ use Rattle.kh_types.proofs.Residues.{same-mul}
 use Rattle.kh_types.proofs.ListSums.{sum_by-alike, sum_by-zeros}
 use Rattle.kh_types.proofs.Lists.{AllByRecursion-append, AllByRecursion-first, AllByRecursion-second, count_by-map}
 use Rattle.surface_laws.specs.Points.{ArePlaced, AreAmong, IsOpenPairing, Points, discs, ends_of}
-use Rattle.surface_laws.proofs.Components.{AllByRecursion-at, AllByRecursion-weaker}
+use Rattle.surface_laws.proofs.Components.{AllByRecursion-weaker}
 use Rattle.dotted_maps.specs.declared.term.Term.{Term}
 use Rattle.dotted_maps.specs.Choices.{choices, composed_terms, factor_at, fewer, listed, load_on, undotted_at}
 use Rattle.dotted_maps.specs.Maps.{AreDotted, coefficient_in, scaled}
 use Rattle.dotted_maps.specs.Parts.{component_in, components, dotted_on, genus_in, how_many, product_over}
 use Rattle.dotted_maps.proofs.LeastPoints.{AreAmong-append, AreJoins, joins-below}
-use Rattle.dotted_maps.proofs.Identities.{sum-one}
+use Rattle.dotted_maps.proofs.Identities.{sum-one, opened-below}
 use Rattle.dotted_maps.proofs.Pairs.{pairs-counted}
 use Rattle.tangle_maps.proofs.ChoiceLemmas.{choices-none}
 use Rattle.tangle_maps.proofs.SeamLemmas.{least-named}
@@ -36,6 +36,7 @@ use Rattle.tangle_maps.specs.declared.way.Way.{Way}
 use Rattle.tangle_maps.specs.Pairings.{joins_of}
 use Rattle.tangle_maps.specs.Sums.{AreReduced, HaveDotsBelow, IsSum, number_in, dotted_term, dotted_times}
 use Rattle.tangle_maps.specs.Ways.{HasReducedMaps, IsMultiple, joins_from, joins_over, joins_to, listed_along, points_on}
+use Rattle.surface_laws.proofs.Labels.{bit-next}
 
 -- lists without doubles
 
@@ -74,17 +75,6 @@ filter-fewer p test (x ∷ xs) =
 
 -- the one choice
 
-bits-later : (d i : ℕ) → bit d (i + 1) ≡ bit (d / 2) i
-bits-later d i =
-    let e : 2 ^ (i + 1) ≡ 2 * 2 ^ i = let f : i + 1 ≡ suc i = omega arith in ap (λ j. 2 ^ j) f ∙ pow-suc 2 i ∙ turned (2 ^ i) in
-    ap (λ q. d / q % 2) e ∙ ap (λ n. n % 2) (sym (div-div-eq-div-mul d 2 (2 ^ i)))
-  where
-    turned : (x : ℕ) → x * 2 ≡ 2 * x
-    turned x = omega arith
-
-apart-test : (x y : ℕ) → x ≢ y → nat_eq x y ≡ false
-apart-test x y apart = ne_eqb x y apart
-
 all-done : (left : ℕ → ℕ) (names : List ℕ) → ((k : ℕ) → Contains names k → left k ≡ 0) → list_all (λ k. nat_eq (left k) 0) names ≡ true
 all-done left [] none = refl
 all-done left (x ∷ names) none =
@@ -122,7 +112,7 @@ choices-itself names (k ∷ ks) left d once named others mine below =
     let has : Contains names k = named k (0, omega arith, refl) in
     let alone = first-alone k ks once in
     let later = λ (i : ℕ) (within : i < length ks).
-    mine (suc i) (omega (arith, within)) ∙ ap (λ b. 1 - b) (let e : suc i ≡ i + 1 = omega arith in ap (bit d) e ∙ bits-later d i) in
+    mine (suc i) (omega (arith, within)) ∙ ap (λ b. 1 - b) (let e : suc i ≡ i + 1 = omega arith in ap (bit d) e ∙ bit-next d i) in
     let zeroth : left k ≡ 1 - bit d 0 = mine 0 (omega arith) in
     elim (cases_eq (d % 2) 0) [
       | inl even ↦
@@ -138,7 +128,7 @@ choices-itself names (k ∷ ks) left d once named others mine below =
           half in
           ap₂ (λ xs ys. map (λ s. 1 + 2 * s) xs ++ cond (nat_eq (left k) 0) [] (map (λ s. 2 * s) ys))
           (choices-none names ks left k has some (once-first k ks once)) behind
-          ∙ ap (λ b. cond b [] ((2 * (d / 2)) ∷ [])) (apart-test (left k) 0 some) ∙ ap (λ x. x ∷ []) (doubled even)
+          ∙ ap (λ b. cond b [] ((2 * (d / 2)) ∷ [])) (ne_eqb (left k) 0 some) ∙ ap (λ x. x ∷ []) (doubled even)
       | inr odd ↦
           let none : left k ≡ 0 = omega (arith, zeroth, odd) in
           let behind : choices names ks left ≡ d / 2 ∷ [] =
@@ -153,7 +143,7 @@ choices-itself names (k ∷ ks) left d once named others mine below =
     ]
   where
     at-other : (j : ℕ) → j ≢ k → fewer k left j ≡ left j
-    at-other j apart = ap (λ b. cond b (left j - 1) (left j)) (apart-test j k apart)
+    at-other j apart = ap (λ b. cond b (left j - 1) (left j)) (ne_eqb j k apart)
 
     at-same : (j : ℕ) → j ≡ k → left k ≡ 1 - bit d 0 → d % 2 ≡ 0 → fewer k left j ≡ 0
     at-same j same is even =
@@ -172,11 +162,6 @@ pub record IsDoubled (points : Points) (m o : List (ℕ × ℕ)) : Type 0 where
   pub pairing : IsOpenPairing points m
   pub first : AreAmong points.opened m
   pub third : AreAmong points.opened o
-
-opened-below : (points : Points) → ArePlaced points → AllByRecursion (λ x. x < points.size) points.opened
-opened-below points placed =
-    AllByRecursion-weaker (λ x. Contains points.alive x) (λ x. x < points.size) points.opened
-    (λ x has. AllByRecursion-at (λ y. y < points.size) points.alive x placed.alive has) placed.opened
 
 two-joins : (points : Points) (m o : List (ℕ × ℕ)) → IsDoubled points m o → AreJoins points.size points.opened (m ++ o)
 two-joins points m o is = record {

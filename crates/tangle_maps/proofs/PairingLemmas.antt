@@ -6,9 +6,9 @@ use Rattle.std.proofs.lemmas.List.Elements.{filter-append}
 use Rattle.std.proofs.lemmas.List.Sums.{fold-append}
 use Rattle.kh_types.specs.Classes.{joined}
 use Rattle.kh_types.proofs.Ranges.{filter-range_more}
-use Rattle.std.proofs.lemmas.List.FromFn.{get_or-range_with_len}
 use Rattle.tangle_maps.specs.declared.pairing.TheConstants.{POINTS}
 use Rattle.tangle_maps.specs.Pairings.{ArePartners, is_paired, paired_arcs, joins_of, leads, with_partner}
+use Rattle.kh_types.proofs.JoinedClasses.{slice_index-range}
 
 pub joins_of-append : (partners xs ys : List ℕ) → joins_of partners (xs ++ ys) ≡ joins_of partners xs ++ joins_of partners ys
 joins_of-append partners xs ys =
@@ -22,14 +22,8 @@ joins_more classes partners xs x =
     ap (λ joins. fold joined classes joins) (joins_of-append partners xs (x ∷ []))
     ∙ fold-append joined classes (joins_of partners xs) (joins_of partners (x ∷ []))
 
-at-any_range : (n x : ℕ) → x < n → slice_index (range_with_len 0 n) x ≡ x
-at-any_range n x below = get_or-range_with_len 0 n x 0 below ∙ plain x
-  where
-    plain : (x : ℕ) → 0 + x ≡ x
-    plain x = omega arith
-
 at-range : (x : ℕ) → x < POINTS → slice_index (range_with_len 0 POINTS) x ≡ x
-at-range x below = at-any_range POINTS x below
+at-range x below = slice_index-range POINTS x below
 
 pub ArePartners-none : ArePartners (range_with_len 0 POINTS)
 ArePartners-none = record {

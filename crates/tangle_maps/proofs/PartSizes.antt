@@ -16,6 +16,7 @@ use Rattle.dotted_maps.proofs.ComponentParts.{composed-parts}
 use Rattle.dotted_maps.proofs.LeastPoints.{AllByRecursion-filter, AreAmong-append, AreBelow-among, all-themselves}
 use Rattle.tangle_maps.specs.Pairings.{numbered}
 use Rattle.tangle_maps.proofs.SizeLemmas.{class-size, least_points-size}
+use Rattle.dotted_maps.proofs.Listed.{product-alike}
 
 -- counts by functions that agree on a list
 
@@ -35,10 +36,6 @@ sums-agree weigh f g c j (x ∷ xs) agree =
     sum_by-cons (λ at. cond (nat_eq (f at.1) c) (weigh at.0) 0) (j, x) (enumerate_from (j + 1) xs)
     ∙ ap₂ (λ a b. cond (nat_eq a c) (weigh j) 0 + b) agree.0 (sums-agree weigh f g c (j + 1) xs agree.1)
     ∙ sym (sum_by-cons (λ at. cond (nat_eq (g at.1) c) (weigh at.0) 0) (j, x) (enumerate_from (j + 1) xs))
-
-product-agree : (f g : ℕ → ℕ) (xs : List ℕ) → ((x : ℕ) → f x ≡ g x) → product_over f xs ≡ product_over g xs
-product-agree f g [] agree = refl
-product-agree f g (x ∷ xs) agree = ap₂ (λ a b. a * b) (agree x) (product-agree f g xs agree)
 
 -- three pairings of opened arcs, with a lesser size and a greater one
 record AreSized (n k : ℕ) (opened : List ℕ) (m c o : List (ℕ × ℕ)) : Type 0 where
@@ -119,7 +116,7 @@ composed-size n k opened m c o dots others kept within placed pairing first seco
     } in
     composed-parts (numbered k opened) m c o dots others kept wider record { ends = pairing.ends; once = pairing.once }
     first second third
-    ∙ product-agree (part_at (numbered k opened) m c o dots others kept) (part_at (numbered n opened) m c o dots others kept)
+    ∙ product-alike (part_at (numbered k opened) m c o dots others kept) (part_at (numbered n opened) m c o dots others kept)
     (components (numbered k opened) m c o) (λ x. parts-agree n k opened m c o dots others kept x is)
     ∙ ap (product_over (part_at (numbered n opened) m c o dots others kept))
     (discs-agree n k opened (m ++ (o ++ c)) within placed.alive

@@ -1,9 +1,10 @@
 -- Classes and discs do not depend on the size, as long as it is above the points.
-use Rattle.std.proofs.Common.{◌≡◌, ℕ, zero, suc, ◌+◌, ◌<◌, ◌≤◌, ◌∙◌, List, [], ◌∷◌, map, take, refl, sym, ap, ap₂, arith, Bool, cond}
+use Rattle.std.proofs.Common.{◌≡◌, ℕ, zero, suc, ◌+◌, ◌<◌, ◌≤◌, ◌∙◌, List, [], ◌∷◌, map, take, refl, sym, ap, ap₂, arith}
 use Rattle.std.specs.Prelude.{slice_index, nat_eq}
-use Rattle.std.specs.List.{fold, filter, range_with_len, AllByRecursion}
+use Rattle.std.specs.List.{fold, range_with_len, AllByRecursion}
 use Rattle.kh_types.specs.Classes.{AreBelow, classes_of, is_least, joined, merged, merged_all}
 use Rattle.surface_laws.specs.Points.{least_points}
+use Rattle.kh_types.proofs.Lists.{filter-on}
 
 map-take : (f : ℕ → ℕ) (n : ℕ) (xs : List ℕ) → take n (map f xs) ≡ map f (take n xs)
 map-take f zero [] = refl
@@ -44,11 +45,6 @@ pub class-size : (n k x : ℕ) (pairs : List (ℕ × ℕ)) → n ≤ k → AreBe
     → slice_index (classes_of k pairs) x ≡ slice_index (classes_of n pairs) x
 class-size n k x pairs within below small =
     sym (index-take n x (classes_of k pairs) small) ∙ ap (λ cs. slice_index cs x) (classes-size n k pairs within below)
-
-filter-on : (p q : ℕ → Bool) (xs : List ℕ) → AllByRecursion (λ x. p x ≡ q x) xs → filter p xs ≡ filter q xs
-filter-on p q [] alike = refl
-filter-on p q (x ∷ xs) alike =
-    ap₂ (λ (b : Bool) (ys : List ℕ). cond b (x ∷ ys) ys) alike.0 (filter-on p q xs alike.1)
 
 tests-alike : (n k : ℕ) (pairs : List (ℕ × ℕ)) (xs : List ℕ) → n ≤ k → AreBelow n pairs → AllByRecursion (λ x. x < n) xs
     → AllByRecursion (λ x. is_least (classes_of k pairs) x ≡ is_least (classes_of n pairs) x) xs

@@ -296,7 +296,7 @@ pub scaled-below : (factor limit : ℕ) (terms : List Term) → HaveDotsBelow li
 scaled-below factor limit [] all = tt
 scaled-below factor limit (x ∷ xs) all = (all.0, scaled-below factor limit xs all.1)
 
-scaled-append : (factor : ℕ) (xs ys : List Term) → scaled factor (xs ++ ys) ≡ scaled factor xs ++ scaled factor ys
+pub scaled-append : (factor : ℕ) (xs ys : List Term) → scaled factor (xs ++ ys) ≡ scaled factor xs ++ scaled factor ys
 scaled-append factor xs ys = map-append (with_multiple factor) xs ys
 
 pub multiple_added : (p factor coefficient element dots : ℕ) (old new : List Term) → element ≡ coefficient

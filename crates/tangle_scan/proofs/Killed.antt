@@ -8,11 +8,10 @@ use Rattle.std.specs.List.{Contains, filter, range_with_len}
 use Rattle.std.proofs.lemmas.Bool.{and_left, and_right, cases_eq, cases_lt, eq-eqb, false≢true, ne_eqb}
 use Rattle.std.proofs.lemmas.List.{get_or-map, get_or-set_other, get_or-set_same, get_or_past, length-map, length-set, map-set, set-get_or}
 use Rattle.std.proofs.lemmas.List.Elements.{All-cons, All-contains, All-get_or, All-map, All-nil, All-set}
-use Rattle.kh_types.proofs.Lists.{Contains-filter}
+use Rattle.kh_types.proofs.Lists.{Contains-filter, Contains-range}
 use Rattle.cell_laws.specs.Alike.{HasNoDoubles}
 use Rattle.cell_laws.proofs.Members.{Contains-first, Contains-kept, Contains-later}
 use Rattle.cell_laws.proofs.NoDoubles.{once-range, once-filter}
-use Rattle.cell_laws.proofs.CellLists.{contains-range}
 use Rattle.scan_laws.proofs.Possible.{others}
 use Rattle.tangle_scan.specs.declared.column.Entry.{Entry}
 use Rattle.tangle_scan.specs.declared.object.Object.{Object}
@@ -148,7 +147,7 @@ places-left tail head old new two =
 pub place-alive : (objects : List Object) (x : ℕ) → is_alive_at objects x ≡ true → Contains (alive_places objects) x
 place-alive objects x alive =
     Contains-filter (is_alive_at objects) (range_with_len 0 (length objects)) x alive
-    (contains-range (length objects) x (alive-within objects x alive))
+    (Contains-range (length objects) x (alive-within objects x alive))
 
 pub alive-place : (objects : List Object) (x : ℕ) → Contains (alive_places objects) x → is_alive_at objects x ≡ true
 alive-place objects x has = (Contains-kept (is_alive_at objects) (range_with_len 0 (length objects)) x has).1

@@ -13,7 +13,7 @@ use Rattle.std.proofs.lemmas.List.Elements.{Contains-append_left, Contains-appen
 use Rattle.std.proofs.lemmas.List.Sums.{sum_by-cons}
 use Rattle.kh_types.specs.Code.{Code}
 use Rattle.kh_types.specs.Residues.{Same}
-use Rattle.kh_types.proofs.Lists.{Contains-filter, Contains-flat_map, Contains-map}
+use Rattle.kh_types.proofs.Lists.{Contains-filter, Contains-flat_map, Contains-map, Contains-range}
 use Rattle.kh_types.proofs.Residues.{same-equal}
 use Rattle.dotted_maps.specs.declared.term.Term.{Term}
 use Rattle.dotted_maps.specs.Maps.{coefficient_in}
@@ -26,7 +26,6 @@ use Rattle.cell_laws.proofs.Members.{Contains-cases, Contains-first, Contains-ke
 use Rattle.tangle_maps.specs.Sums.{HaveDotsBelow}
 use Rattle.scan_laws.specs.Scans.{Scan, pairs_of}
 use Rattle.scan_laws.specs.Adding.{Origin, added_coefficient, new_coefficient, origin_of, origins_with, saddle_coefficient}
-use Rattle.cell_laws.proofs.CellLists.{contains-range}
 use Rattle.scan_laws.proofs.Origins.{IsOrigin}
 use Rattle.tangle_scan.specs.declared.adding.Adding.{Adding}
 use Rattle.tangle_scan.specs.declared.column.Entry.{Entry}
@@ -158,7 +157,7 @@ module _ (p : ℕ) (adding : Adding) where
   with-has : (to : Origin) → IsOrigin code_here scan_here to → Contains (with to.object to.smoothing) to
   with-has to is =
       let n = 2 ^ length (closed_at code_here scan_here.done to.smoothing (pairs_of scan_here to.object)) in
-      Contains-map (origin_of to.object to.smoothing) (range_with_len 0 n) to.label (contains-range n to.label is.label)
+      Contains-map (origin_of to.object to.smoothing) (range_with_len 0 n) to.label (Contains-range n to.label is.label)
 
   along-has : (to : Origin) → IsOrigin code_here scan_here to → Contains (targets_along adding to.smoothing to.object) to
   along-has to is =

@@ -2,7 +2,7 @@
 -- An object in memory is one of the scan by its pairs, degree and shift. What `split_at` says of its pairing is what the theorem calls the
 -- pairing after it and the closed circles; a closed circle changes the shift by one, and there are two at most. The objects at one place more
 -- are those so far and, if the object there is alive, its copies with either smoothing.
-use Rattle.std.proofs.Common.{◌≡◌, ℕ, zero, suc, ◌+◌, ◌*◌, ◌^◌, ◌<◌, ◌≤◌, ◌∙◌, ℤ, pos, ◌+ℤ◌, ◌≤ℤ◌, List, [], ◌∷◌, ◌++◌, get_or, length, map, refl, sym, subst, ap, ap₂, arith, true, false}
+use Rattle.std.proofs.Common.{◌≡◌, ℕ, zero, ◌+◌, ◌*◌, ◌^◌, ◌<◌, ◌≤◌, ◌∙◌, ℤ, pos, ◌+ℤ◌, ◌≤ℤ◌, List, [], ◌∷◌, ◌++◌, get_or, length, map, refl, sym, subst, ap, ap₂, arith, true, false}
 use Rattle.std.specs.Prelude.{Option, None, Some}
 use Rattle.std.specs.List.{AllZip, range_with_len}
 use Rattle.std.proofs.lemmas.Int.{ints}
@@ -10,10 +10,8 @@ use Rattle.std.proofs.lemmas.List.{get_or-map, length-append}
 use Rattle.std.proofs.lemmas.List.FromFn.{length-map-range_with_len}
 use Rattle.kh_types.specs.Bits.{ones}
 use Rattle.kh_types.specs.Code.{Code}
-use Rattle.kh_types.proofs.BitLemmas.{ones-more}
 use Rattle.kh_types.proofs.Ranges.{range_more}
 use Rattle.added_crossing_laws.specs.Codes.{closed_at, pairing_behind, points_at}
-use Rattle.added_crossing_laws.proofs.Labels.{bit-below}
 use Rattle.added_crossing_laws.specs.Pairings.{IsPairingOf}
 use Rattle.tangle_maps.specs.Pairings.{joins_of, paired_arcs}
 use Rattle.crossing_maps.specs.Sides.{IsSiteAt, IsSplit}
@@ -33,6 +31,7 @@ use Rattle.tangle_scan.specs.Additions.{AreObjectsFrom, HasSuccessors, IsLayerTo
 use Rattle.tangle_scan.specs.Held.{AreObjects, is_alive_at, object_of}
 use Rattle.tangle_scan.proofs.ZippedLists.{zip-append, zip-length, zip-made, zip-push}
 use Rattle.tangle_scan.proofs.ChildPlaces.{labels-more, origins-alive, origins-dead, succeeded}
+use Rattle.kh_types.proofs.QuantumDegrees.{ones-le}
 
 abbrev object_with : List (ℕ × ℕ) → ℕ → ℤ → scans.Object
 object_with pairs degree shift = record { pairs = pairs; degree = degree; shift = shift }
@@ -43,14 +42,6 @@ pub scan-object : (adding : Adding) (place : ℕ) (old : Object) → place < len
 scan-object adding place old within is =
     get_or-map (object_of adding.front.now.opened.items) (objects_in adding) place old first_object within
     ∙ ap (object_of adding.front.now.opened.items) is
-
-ones-few : (count number : ℕ) → ones count number ≤ count
-ones-few zero number = omega arith
-ones-few (suc count) number =
-    omega (arith, ap (λ n. ones n number) (one_more count), ones-more count number, ones-few count number, bit-below number count)
-  where
-    one_more : (n : ℕ) → suc n ≡ n + 1
-    one_more n = omega arith
 
 pub copies-more : (f : ℕ → Object) (initial objects more : List Object) (k : ℕ) (x : Object)
     → objects ≡ initial ++ map f (range_with_len 0 k) → more ≡ objects ++ x ∷ [] → x ≡ f k
@@ -173,7 +164,7 @@ module _ (adding : Adding) where
       (λ n. AreObjectsFrom adding (map (origin_of place smoothing) (range_with_len 0 (2 ^ n))) (copies old split smoothing))
       (ap (λ (xs : List ℕ). length xs) at.made.circles)
       (zip-made (IsObjectFrom adding) (origin_of place smoothing) (copy old split smoothing) (range_with_len 0 (2 ^ length split.closed.items))
-      (λ label has. copied place smoothing label old split within is small at below (ones-few (length split.closed.items) label)))
+      (λ label has. copied place smoothing label old split within is small at below (ones-le (length split.closed.items) label)))
 
   -- an object more, and its successors
   pub succeed-more : (place : ℕ) (list : List (Option Successors)) (one : Option Successors) → SucceedTo adding place list

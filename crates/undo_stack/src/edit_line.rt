@@ -14,7 +14,7 @@ use diagram_moves::Move;
 use kh_types::INPUT_BYTES;
 use std::alloc::Global;
 
-/// What a line of an edit does. This project's rule.
+/// What a line of an edit does.
 #[derive(Clone, Copy, Debug, PartialEq, Eq)]
 pub enum EditLine {
     /// `r1 add A under plus` and the like: a move is made.
@@ -39,7 +39,7 @@ impl Command for EditLine {
 
 /// Reads the text of an edit: lines of the forms `r1 add A under plus` (or `over`, or `minus`),
 /// `r1 drop C`, `r2 add A left B right` (or other sides; A passes over), `r2 drop C D`, `r3 C D E`,
-/// `undo` and `redo`, and lines without words, which do nothing. This project's rule.
+/// `undo` and `redo`, and lines without words, which do nothing.
 pub fn read_edit(alloc: Global, text: &[u8]) -> Result<Script<EditLine>, ScriptStop>
     requires { length text.now ≤ INPUT_BYTES }
     ensures reads { result ≢ Err ScriptStop.NoMemory → IsEdit text.now result }

@@ -65,7 +65,7 @@ impl Editor {
 
     /// Makes a move. The diagram before becomes the last of the past, of which the last 256 are
     /// kept, and the future is empty; on a fault nothing changes. The state sum of the diagram
-    /// stays. It takes no memory. This project's rule.
+    /// stays. It takes no memory.
     pub fn do_move(&mut self, change: Move) -> Result<(), MoveFault>
         ensures fault { result_err result ≡ result_err (moved self.old.diagram change) }
         ensures history { self.new ≡ after_change (moved self.old.diagram change) self.old }

@@ -14,7 +14,7 @@ use kh_types::{INPUT_BYTES, WORKERS};
 use std::alloc::Global;
 
 /// What a line of a schedule lets a worker do. Workers are counted from 1; a block is named by
-/// its quantum degree. This project's rule.
+/// its quantum degree.
 #[derive(Clone, Copy, Debug, PartialEq, Eq)]
 pub enum ScheduleLine {
     /// `look W J`: the worker takes a look at the block.
@@ -38,7 +38,7 @@ impl Command for ScheduleLine {
 }
 
 /// Reads the text of a schedule: lines of the forms `look W J`, `commit W` and `forget W`, and
-/// lines without words, which do nothing. This project's rule.
+/// lines without words, which do nothing.
 pub fn read_schedule(alloc: Global, text: &[u8]) -> Result<Script<ScheduleLine>, ScriptStop>
     requires { length text.now ≤ INPUT_BYTES }
     ensures reads { result ≢ Err ScriptStop.NoMemory → IsSchedule text.now result }

@@ -6,7 +6,7 @@ ghost use Rattle.undo_stack.specs.declared.stop.ScriptStop.TheVariants.{NoMemory
 use kh_types as types;
 use std::alloc::AllocFailed;
 
-/// Why no script was read from a text. Lines are counted from 1. This project's rule.
+/// Why no script was read from a text. Lines are counted from 1.
 #[derive(Clone, Copy, Debug, PartialEq, Eq)]
 pub enum ScriptStop {
     /// The text has `count` lines, and these are more than `SCRIPT_LINES`. It comes before a line

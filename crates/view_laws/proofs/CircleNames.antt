@@ -18,7 +18,8 @@ use Rattle.cell_laws.specs.Alike.{HasNoDoubles}
 use Rattle.cell_laws.proofs.Members.{Contains-kept, sum_by-members}
 use Rattle.cell_laws.proofs.NoDoubles.{once-range, once-filter}
 use Rattle.view_laws.specs.Views.{HasCircles, circle_at}
-use Rattle.cell_laws.proofs.Labels.{bit-small, mark, ones-marks}
+use Rattle.cell_laws.proofs.Labels.{mark, ones-marks}
+use Rattle.kh_types.proofs.QuantumDegrees.{bit-le}
 
 pub HasCircles-accepted : (code : Code) → IsTrue (accepted code) → HasCircles code
 HasCircles-accepted code is =
@@ -56,7 +57,7 @@ names-once code state =
 
 -- labels are bits, one for each circle
 pub label-small : (code : Code) (state n x : ℕ) → label_of code (generator_of state n) x ≤ 1
-label-small code state n x = bit-small n (position_or_len (nat_eq (circle_at code state x)) (circle_names code state))
+label-small code state n x = bit-le n (position_or_len (nat_eq (circle_at code state x)) (circle_names code state))
 
 pub label-circle : (code : Code) (state n x y : ℕ) → circle_at code state x ≡ circle_at code state y
     → label_of code (generator_of state n) x ≡ label_of code (generator_of state n) y

@@ -14,7 +14,7 @@ use Rattle.kh_types.specs.Differential.{changes_labels, is_merge, is_split, is_t
 use Rattle.kh_types.specs.Edges.{TwoBecomeOne, is_other}
 use Rattle.kh_types.specs.Generators.{generator_of}
 use Rattle.kh_types.proofs.Lists.{Contains-filter}
-use Rattle.kh_types.proofs.Tests.{agree, other-passes, other-differs}
+use Rattle.kh_types.proofs.Tests.{agree, other-passes, other-differs, unless-forth}
 use Rattle.cell_laws.proofs.Members.{Contains-first, Contains-kept, Contains-later, sum_by-members}
 use Rattle.square_laws.proofs.TouchedCircles.{fits, one_in, two_in}
 use Rattle.view_laws.specs.Partitions.{is_kept}
@@ -59,10 +59,6 @@ pub kept-back : (r s : ℕ → ℕ → Bool) (xs : List ℕ) (x : ℕ) → ((y :
 kept-back r s xs x same =
     all-from (λ z. nat_eq (one_if (r x z)) (one_if (s x z))) xs
     (λ y has. eq-eqb (one_if (r x y)) (one_if (s x y)) (ap one_if (same y has)))
-
-pub unless-forth : (k e : Bool) → (not k || e) ≡ true → k ≡ true → e ≡ true
-unless-forth true e passes is = passes
-unless-forth false e passes is = absurd (both_ways true (sym is) refl)
 
 pub unless-back : (k e : Bool) → (k ≡ true → e ≡ true) → (not k || e) ≡ true
 unless-back true e passes = passes refl

@@ -13,13 +13,13 @@ use Rattle.kh_types.specs.Code.{Code}
 use Rattle.kh_types.specs.Edges.{is_other}
 use Rattle.kh_types.specs.Generators.{generator_of}
 use Rattle.kh_types.proofs.Lists.{Contains-map}
-use Rattle.kh_types.proofs.Tests.{agree, other-differs}
+use Rattle.kh_types.proofs.Tests.{agree, other-differs, unless-forth}
 use Rattle.cell_laws.proofs.Members.{Contains-cases, Contains-first, Contains-kept, Contains-made, sum_by-members}
 use Rattle.square_laws.proofs.LabelNumbers.{number_from}
 use Rattle.square_laws.proofs.TouchedCircles.{fits}
 use Rattle.view_laws.specs.Partitions.{AgreeOn, is_kept, label_in, seen}
 use Rattle.view_laws.specs.Views.{HasCircles, IsView, View, circle_at, closed_at, together}
-use Rattle.view_laws.proofs.EdgePoints.{counts_all, fits-points, keeps_point, keeps_points, kept-back, kept-forth, same_at, unless-back, unless-forth}
+use Rattle.view_laws.proofs.EdgePoints.{counts_all, fits-points, keeps_point, keeps_points, kept-back, kept-forth, same_at, unless-back}
 use Rattle.view_laws.proofs.Seen.{label-alike, seen-alike, seen-apart, seen-from, seen-once}
 use Rattle.view_laws.proofs.Shown.{all-ones, are-points, closed-name, count-parts, key, lab, label-in, seen-part, seen_part}
 use Rattle.view_laws.proofs.SameClosed.{Changes}

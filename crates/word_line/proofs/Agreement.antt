@@ -38,7 +38,7 @@ has_push slot (first ∷ uses) given = go (bytes_eq (id_of first.0) (id_of slot)
         → (b || has slot (uses ++ given ∷ [])) ≡ ((b || has slot uses) || bytes_eq (id_of given.0) (id_of slot))
     go b rest = grind (arith, nat_tests)
 
-key_differs : (key : Key) → bytes_eq (key_name key) (codes "task") ≡ false
+pub key_differs : (key : Key) → bytes_eq (key_name key) (codes "task") ≡ false
 key_differs key = grind (arith, nat_tests)
 
 place_push : (uses : List Use) (key : Key) (value : Text) → place_of (uses ++ (Some key, value) ∷ []) ≡ place_of uses

@@ -17,6 +17,7 @@ use Rattle.word_line.specs.Pieces.{Key, Piece, apart, joined, key_name, position
 use Rattle.word_line.specs.Values.{same_key, values_in}
 use Rattle.word_line.proofs.Rules.{Slot, id_of}
 use Rattle.word_line.proofs.Rows.{Use, has, row_at, rows_at, same_id}
+use Rattle.word_line.proofs.Agreement.{key_differs}
 
 -- ---- the texts that are given for a slot
 
@@ -110,9 +111,6 @@ uses_behind words = map (λ word. (None, word)) words
 key_task : (key : Key) → bytes_eq (codes "task") (key_name key) ≡ false
 key_task key = grind (arith, nat_tests)
 
-task_key : (key : Key) → bytes_eq (key_name key) (codes "task") ≡ false
-task_key key = grind (arith, nat_tests)
-
 pub key_key : (key other : Key) → bytes_eq (key_name other) (key_name key) ≡ same_key key other
 key_key key other = grind (arith, nat_tests)
 
@@ -132,8 +130,8 @@ values_of-line key pieces behind = grind (arith, nat_tests, values_of-append, va
 tasks_of-pieces : (pieces : List Piece) → values_of None (uses_of pieces) ≡ positionals pieces
 tasks_of-pieces [] = refl
 tasks_of-pieces (positional word ∷ pieces) = ap (λ more. word ∷ more) (tasks_of-pieces pieces)
-tasks_of-pieces (apart key value ∷ pieces) = rw (task_key key) (tasks_of-pieces pieces)
-tasks_of-pieces (joined key value ∷ pieces) = rw (task_key key) (tasks_of-pieces pieces)
+tasks_of-pieces (apart key value ∷ pieces) = rw (key_differs key) (tasks_of-pieces pieces)
+tasks_of-pieces (joined key value ∷ pieces) = rw (key_differs key) (tasks_of-pieces pieces)
 
 tasks_of-behind : (words : List Text) → values_of None (uses_behind words) ≡ words
 tasks_of-behind [] = refl

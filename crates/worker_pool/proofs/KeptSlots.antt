@@ -1,8 +1,9 @@
 -- What was put into slots stands in order at the end.
-use Rattle.std.proofs.Common.{◌≡◌, ℕ, ◌+◌, ◌<◌, ◌≤◌, ◌⊎◌, ◌∙◌, List, [], ◌∷◌, ◌++◌, length, get_or, set, Option, Some, None, inl, inr, refl, sym, ap, subst, arith}
+use Rattle.std.proofs.Common.{◌≡◌, ℕ, ◌+◌, ◌<◌, ◌≤◌, ◌∙◌, List, [], ◌∷◌, ◌++◌, length, get_or, set, Option, Some, None, inl, inr, refl, sym, ap, subst, arith}
 use Rattle.std.specs.Prelude.{IfSome}
 use Rattle.std.proofs.lemmas.List.{get_or_append_left, get_or_default, get_or_past, get_or-set_other, length-append}
 use Rattle.std.proofs.Math.Seq.{get_or-append_seam}
+use Rattle.std.proofs.lemmas.Bool.{cases_lt}
 use Rattle.worker_pool.specs.declared.finished.DoneBlock.{DoneBlock}
 use Rattle.worker_pool.specs.declared.finished.Finished.{Finished}
 use Rattle.worker_pool.specs.Slots.{HaveAt, StandInOrder}
@@ -17,9 +18,6 @@ pub record StandTo {F : Type 0} (place : ℕ) (slots now : List (Option (DoneBlo
 if-some : {X : Type 0} (P Q : X → Type 0) (found : Option X) → ((x : X) → P x → Q x) → IfSome found P → IfSome found Q
 if-some P Q None implies holds = tt
 if-some P Q (Some x) implies holds = implies x holds
-
-below_or : (at size : ℕ) → (at < size) ⊎ (size ≤ at)
-below_or at size = grind arith
 
 -- no slot has been taken yet
 pub stand_none : {F : Type 0} (slots : List (Option (DoneBlock F))) (done : Finished F) → done.blocks.items ≡ [] → done.committed.items ≡ []
@@ -53,7 +51,7 @@ stand_more {F} place slots now next done after one before taken emptied blocks c
     let size = longer done.blocks.items after.blocks.items one.block blocks in
     let count = longer done.committed.items after.committed.items one.committed counts in
     record {
-      stand = λ at below. elim (below_or at place) [
+      stand = λ at below. elim (cases_lt at place) [
         | inl less ↦ if-some (HaveAt done at) (HaveAt after at) (get_or slots at None) (λ kept have. record {
           within = omega (arith, size, have.within);
           block = kept_before done.blocks.items after.blocks.items one.block kept.block at blocks have.within have.block;
@@ -85,7 +83,7 @@ stand_more {F} place slots now next done after one before taken emptied blocks c
 -- all slots
 pub stand_all : {F : Type 0} (place : ℕ) (slots now : List (Option (DoneBlock F))) (done : Finished F) → StandTo place slots now done
     → length slots ≤ place → StandInOrder slots done
-stand_all {F} place slots now done before whole at = elim (below_or at place) [
+stand_all {F} place slots now done before whole at = elim (cases_lt at place) [
   | inl less ↦ before.stand at less
   | inr from ↦ subst (λ slot. IfSome slot (HaveAt done at)) (sym (get_or_past slots at None (omega (arith, whole, from)))) tt
 ]

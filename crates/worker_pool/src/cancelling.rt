@@ -41,7 +41,7 @@ pub fn cancel_alone<F: PrimeField>(
     Ok(cancel_small_alone(alloc, &small)?)
 }
 
-/// The same, of a diagram whose cube is known to be within the limit. This project's rule.
+/// The same, of a diagram whose cube is known to be within the limit.
 #[tactic(auto, using(crate::proofs::DoneLemmas::none_stay))]
 pub fn cancel_small_alone<F: PrimeField>(
     alloc: Global,
@@ -60,7 +60,6 @@ pub fn cancel_small_alone<F: PrimeField>(
 
 /// Cancels all blocks of a diagram to zero, by so many workers that share them; that they share the
 /// work a test shows, and no clause. With one worker the caller does it, and no commit is counted.
-/// This project's rule.
 pub fn cancel_all<R: Threads + Wait + Sync, F: PrimeField + Send + Sync, G: Gate + Sync>(
     rt: &R,
     alloc: Global,
@@ -80,7 +79,7 @@ pub fn cancel_all<R: Threads + Wait + Sync, F: PrimeField + Send + Sync, G: Gate
     Ok(cancel_small(rt, alloc, &small, workers, gate)?)
 }
 
-/// The same, of a diagram whose cube is known to be within the limit. This project's rule.
+/// The same, of a diagram whose cube is known to be within the limit.
 pub fn cancel_small<R: Threads + Wait + Sync, F: PrimeField + Send + Sync, G: Gate + Sync>(
     rt: &R,
     alloc: Global,

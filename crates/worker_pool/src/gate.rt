@@ -5,14 +5,13 @@
 ///
 /// A gate that holds one worker back holds up no other but at the end, where all of them wait for
 /// it: they share the diagram's blocks, and what it has begun the others finish.
-/// This project's rule.
 pub trait Gate {
     /// Called by a worker between its patch and its commit, with its number, from 1, and the number
-    /// of its turn, from 1 in each call of `work`. This project's rule.
+    /// of its turn, from 1 in each call of `work`.
     fn before_commit(&self, worker: u32, turn: u64);
 }
 
-/// A gate that does nothing. This project's rule.
+/// A gate that does nothing.
 pub struct Free;
 
 impl Gate for Free {

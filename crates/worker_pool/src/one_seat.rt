@@ -13,7 +13,7 @@ use std::sync::Wait;
 use version_lock::Versioned;
 
 /// Cancels a block with no history by the turns of the one seat at its lock, worker 1, and tells
-/// their number: each pivot of the history is from one turn. This project's rule.
+/// their number: each pivot of the history is from one turn.
 pub fn cancel_by_one_seat<R: Wait, F: PrimeField + Send, G: Gate>(
     rt: &R,
     alloc: Global,

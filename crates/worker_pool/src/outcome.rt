@@ -9,7 +9,7 @@ use kh_types::NoMemory;
 use prime_field::PrimeField;
 use shared_block::SharedBlock;
 
-/// What the cancellation of all blocks of a diagram comes to. This project's rule.
+/// What the cancellation of all blocks of a diagram comes to.
 #[derive(Drop)]
 pub struct Cancelled<F: PrimeField> {
     /// The homology table of the diagram, which is read from the blocks.
@@ -22,7 +22,7 @@ pub struct Cancelled<F: PrimeField> {
     pub committed: Vec<u64>,
 }
 
-/// Why blocks were not cancelled. This project's rule.
+/// Why blocks were not cancelled.
 #[derive(Clone, Copy, Debug, PartialEq, Eq)]
 pub enum PoolStop {
     /// There are `generators`, which are more than `GENERATORS`.

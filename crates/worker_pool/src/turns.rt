@@ -30,7 +30,7 @@ const MOST_TURNS: u128 = 1 << 64;
 
 /// Takes turns at a block until a look finds it zero, and answers their number. A turn is a look, a
 /// patch, one call of the gate and a commit; it brings the seat at least one pivot more to know, of
-/// its own or of others. This project's rule.
+/// its own or of others.
 pub fn work<R: Wait, F: PrimeField + Send, G: Gate>(
     rt: &R,
     alloc: Global,

@@ -12,9 +12,9 @@ ghost use Rattle.orient_arcs.specs.Alike.{IsOf};
 ghost use Rattle.orient_arcs.specs.OtherNames.{IsNamedBy, KeepsComponents};
 ghost use Rattle.orient_arcs.specs.Renumbered.{AreInOrder, AreOrdered, named_components, order_of, number_in, renumber};
 
-/// Paired parts are renumbered to a directed code, in which the over strand of each crossing goes the way
-/// that the parts say; so each crossing keeps its sign, one whose over pass is a component of one
-/// arc excepted.
+/// Paired parts are renumbered to a directed code, in which the over strand of each crossing goes
+/// the way that the parts say. So each crossing keeps its sign, except one whose over pass is a
+/// component of one arc.
 pub fn renumbered_codes_are_directed()
     ensures directed { (parts : Parts) → ArePaired parts → IsDirected (renumber parts).crossings }
     ensures over { (parts : Parts) → ArePaired parts → (crossing : ℕ) → IsCrossing parts.crossings crossing
@@ -28,8 +28,8 @@ pub fn renumbered_codes_are_directed()
         → is_positive (renumber parts).crossings crossing ≡ is_positive_at parts.positive (crossing - 1) }
 {}
 
-/// Each crossing keeps its place and its slots under new numbers; no two names get one number, and
-/// the numbers are arcs.
+/// Under new numbers each crossing keeps its place and its slots; different names get different
+/// numbers, which are arcs.
 pub fn numbers_tell_names_apart()
     ensures size { (parts : Parts) → length (renumber parts).crossings ≡ length parts.crossings }
     ensures slots { (parts : Parts) (crossing slot : ℕ) → IsCrossing parts.crossings crossing → slot < 4
@@ -41,13 +41,13 @@ pub fn numbers_tell_names_apart()
         → IsArc parts.crossings (number_in (order_of (passes_through parts)) name) }
 {}
 
-/// Components follow one another in the order of their least names.
+/// In the list of names components follow one another, by their least names.
 pub fn components_stand_in_order()
     ensures { (parts : Parts) → ArePaired parts → AreOrdered parts (named_components (passes_through parts)) }
 {}
 
-/// The names have one order: those of the components in order, one after another, each as it
-/// begins; and renumbering gives each name its place in it, from 1.
+/// The names have exactly one order: component after component, each from where it begins. The
+/// number that renumbering gives to a name is its place in that order, counted from 1.
 pub fn names_have_one_order()
     ensures order { (parts : Parts) → ArePaired parts → AreInOrder parts (order_of (passes_through parts)) }
     ensures one { (parts : Parts) (order other : List ℕ) → ArePaired parts → AreInOrder parts order → AreInOrder parts other

@@ -1,5 +1,5 @@
 use Rattle.std.specs.Prelude.{◌+◌, ◌++◌}
-use Rattle.cut_surface_laws.specs.CutCodes.{outer_smoothings}
+use Rattle.genus_laws.specs.CutCodes.{outer_smoothings}
 use Rattle.added_crossing_laws.specs.Codes.{step_at, smoothing_at, pairing_behind}
 use Rattle.added_crossing_laws.proofs.KeptCircles.{sum-circles, count-circles, together-outside}
 use Rattle.added_crossing_laws.proofs.CodeSums.{IsCut-at}

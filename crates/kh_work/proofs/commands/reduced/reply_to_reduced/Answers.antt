@@ -1,17 +1,17 @@
 use Rattle.std.proofs.Common.{ap, refl, ◌∙◌}
 use Rattle.std.proofs.lemmas.Result.{IfOk-weaker}
+use Rattle.std.proofs.lemmas.Bool.{lt-ltb, le-ltb}
 use Rattle.circle_smoothing.specs.GeneratorCounts.{generator_count}
 use Rattle.circle_smoothing.specs.declared.limits.TheConstants.{GENERATORS}
 use Rattle.kh_runs.specs.Refusals.{refused_mark}
 use Rattle.kh_replies.specs.Limits.{too_many_generators}
-use Rattle.kh_work.proofs.ReplyLemmas.{less-false, less-true}
 use Rattle.kh_work.proofs.ReducedLemmas.{reduced_reply-large, reduced_reply-made, reduced_reply-unmarked}
 use Rattle.kh_work.proofs.commands.reduced.reply_to_reduced.Goals as goal
 
 pub returns-in-Ok : goal.returns-in-Ok
 returns-in-Ok c =
     reduced_reply-made c.reply_with_mark.result c.args.field c.args.mark c.args.diagram.now c.in-Ok.table c.in-Ok.ensures.table
-    (c.in-Ok.ensures.mark refl) (less-false GENERATORS (generator_count c.args.diagram.now) (c.in-Ok.ensures.size refl))
+    (c.in-Ok.ensures.mark refl) (le-ltb GENERATORS (generator_count c.args.diagram.now) (c.in-Ok.ensures.size refl))
     c.reply_with_mark.ensures
 
 pub returns-in-Err-Mark : goal.returns-in-Err-Mark
@@ -25,4 +25,4 @@ returns-in-Err-SizeLimit c =
     let stop = rw c.in-Err-SizeLimit.field-0-is at c.in-Err-SizeLimit.ensures.stop in
     IfOk-weaker c.too_many_generators.result _ _ (λ reply is. is ∙ ap too_many_generators stop.2
     ∙ reduced_reply-large c.args.field c.args.mark c.args.diagram.now stop.0
-    (less-true GENERATORS (generator_count c.args.diagram.now) stop.1)) c.too_many_generators.ensures
+    (lt-ltb GENERATORS (generator_count c.args.diagram.now) stop.1)) c.too_many_generators.ensures

@@ -1,5 +1,0 @@
-use Rattle.cut_surface_laws.proofs.CutSurfaces.{IsSurface-through}
-use Rattle.cut_surface_laws.proofs.laws.added_crossings_are_surfaces.Goals as goal
-
-pub returns : goal.returns
-returns c = IsSurface-through

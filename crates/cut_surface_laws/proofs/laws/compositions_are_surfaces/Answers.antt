@@ -1,5 +1,0 @@
-use Rattle.cut_surface_laws.proofs.LeadLemmas.{IsSurface-three}
-use Rattle.cut_surface_laws.proofs.laws.compositions_are_surfaces.Goals as goal
-
-pub returns : goal.returns
-returns c = IsSurface-three

@@ -1,5 +1,0 @@
-use Rattle.cut_surface_laws.proofs.CutSurfaces.{IsSurface-cut}
-use Rattle.cut_surface_laws.proofs.laws.cut_codes_are_surfaces.Goals as goal
-
-pub returns : goal.returns
-returns c = IsSurface-cut

@@ -1,5 +1,0 @@
-use Rattle.cut_surface_laws.proofs.ExchangeCounts.{exchange-counted}
-use Rattle.cut_surface_laws.proofs.laws.exchanges_merge_or_split.Goals as goal
-
-pub returns : goal.returns
-returns c = exchange-counted

@@ -1,5 +1,0 @@
-use Rattle.cut_surface_laws.proofs.CutSteps.{Lead-more}
-use Rattle.cut_surface_laws.proofs.laws.new_pairings_lead.Goals as goal
-
-pub returns : goal.returns
-returns c = Lead-more

@@ -1,5 +1,0 @@
-use Rattle.cut_surface_laws.proofs.OrbitGenus.{HaveWholeGenus-orbits}
-use Rattle.cut_surface_laws.proofs.laws.orbits_have_a_genus.Goals as goal
-
-pub returns : goal.returns
-returns c = HaveWholeGenus-orbits

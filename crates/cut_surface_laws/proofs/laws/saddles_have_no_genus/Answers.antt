@@ -1,5 +1,0 @@
-use Rattle.cut_surface_laws.proofs.SaddleCodes.{saddle-code}
-use Rattle.cut_surface_laws.proofs.laws.saddles_have_no_genus.Goals as goal
-
-pub returns : goal.returns
-returns c = saddle-code

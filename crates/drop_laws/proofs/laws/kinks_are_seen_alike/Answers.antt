@@ -1,6 +1,0 @@
-use Rattle.drop_laws.proofs.Kinks.{IsKinkView-dropped}
-use Rattle.drop_laws.proofs.Signs.{AreKinkSigns-dropped}
-use Rattle.drop_laws.proofs.laws.kinks_are_seen_alike.Goals as goal
-
-pub returns : goal.returns
-returns c = record { view = IsKinkView-dropped; signs = AreKinkSigns-dropped }
