@@ -6,7 +6,7 @@
 -- walk over all branches has counted holds the number of states of each kind. The same way of numbering rows and columns gives
 -- back the ones and the circles of a kind from its own number.
 use Rattle.std.proofs.lemmas.Bool.Decides.{nat_tests}
-use Rattle.std.proofs.Common.{◌≡◌, ℕ, zero, suc, ◌+◌, ◌-◌, ◌*◌, ◌/◌, ◌%◌, ◌^◌, ◌<◌, ◌≤◌, ◌∙◌, List, [], ◌∷◌, length, get_or, ap, ap₂, sym, refl, arith, Bool, true, false, cond, eq-eqb}
+use Rattle.std.proofs.Common.{◌≡◌, ℕ, zero, suc, ◌+◌, ◌-◌, ◌*◌, ◌/◌, ◌%◌, ◌^◌, ◌<◌, ◌≤◌, ◌∙◌, List, [], ◌∷◌, length, get_or, ap, ap₂, sym, refl, arith, Bool, true, false, eq-eqb}
 use Rattle.std.specs.Prelude.{nat_eq, ◌&&◌, slice_index, replicate, IsTrue}
 use Rattle.std.specs.List.{count_by, enumerate_from, flat_map, range_with_len}
 use Rattle.std.proofs.Math.Path.{fun_ext}
@@ -68,9 +68,6 @@ joins_of-state : (code : Code) (state : ℕ) → IsAccepted code → length code
     → joins_of code.crossings (range_with_len 0 MEMBERS) state ≡ arc_and_loop_count code - circle_count code state
 joins_of-state code state is few =
     omega (arith, count-among code state MEMBERS is (omega (arith, few)), circle_count-le-names code state)
-
-length-either : (b : Bool) (one other : List (ℕ × ℕ)) (n : ℕ) → length one ≡ n → length other ≡ n → length (cond b one other) ≡ n
-length-either b one other n of_one of_other = grind (arith, nat_tests)
 
 length-smoothing_of : (slots : List ℕ) (smoothing : ℕ) → length (smoothing_of smoothing slots) ≡ 2
 length-smoothing_of slots smoothing = grind (arith, nat_tests)

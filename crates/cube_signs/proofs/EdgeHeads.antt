@@ -27,7 +27,7 @@ use Rattle.circle_smoothing.specs.declared.change.Edge.{Edge}
 use Rattle.circle_smoothing.specs.declared.change.Edge.TheVariants.{Merge, Split}
 use Rattle.circle_smoothing.proofs.EdgeNumbers.{renumbers}
 use Rattle.cube_signs.specs.Heads.{labels_behind, merged_labels, minuses_gained, split_labels}
-use Rattle.square_laws.proofs.Merges.{IsMerge, IsSwitch, switch-edge}
+use Rattle.square_laws.proofs.Merges.{IsSwitch, switch-edge}
 use Rattle.kh_types.proofs.ListSums.{sum_by-some}
 use Rattle.square_laws.proofs.MarkedLabels.{labels-lower}
 use Rattle.square_laws.proofs.TouchedCircles.{fits, fits-decides}
@@ -39,11 +39,6 @@ use Rattle.cube_signs.proofs.HeadLabels.{AreNumbered, fits-merge, fits-split, gr
 abbrev IsNumbered : Code → ℕ → ℕ → Edge → Type 0
 IsNumbered code state crossing (Merge a b to) = AreNumbered code state (state_behind state crossing) crossing a b
 IsNumbered code state crossing (Split from a b) = AreNumbered code (state_behind state crossing) state crossing a b
-
--- where two circles are touched there is not one
-not-turned : (code : Code) (before after crossing a b to : ℕ) → HaveMerged code before after crossing a b to
-    → IsMerge code after before crossing → ⊥
-not-turned code before after crossing a b to does merge = grind (arith, nat_tests)
 
 numbered-switch : (merges : Bool) (code : Code) (before after crossing a b to : ℕ) → IsTrue (accepted code)
     → HaveMerged code before after crossing a b to → AreRenumbered code before after a b → IsSwitch merges code before after crossing

@@ -6,7 +6,7 @@
 -- lists ascend.
 use Rattle.std.proofs.lemmas.Bool.Decides.{nat_tests}
 use Rattle.std.proofs.Common.{◌≡◌, ◌≢◌, ℕ, zero, suc, ◌+◌, ◌*◌, ◌^◌, ◌<◌, ◌≤◌, ◌∙◌, ◌⊎◌, inl, inr, List, [], ◌∷◌, refl, sym, ap, subst, arith}
-use Rattle.std.specs.Prelude.{nat_eq, ◌&&◌, if◌then◌else◌}
+use Rattle.std.specs.Prelude.{nat_eq, if◌then◌else◌}
 use Rattle.std.specs.List.{Contains}
 use Rattle.std.specs.List.Sorted.{IsStrictlyIncreasing}
 use Rattle.std.proofs.lemmas.Bool.{cases_eq}
@@ -75,11 +75,6 @@ IsMerged-merged size a b label order within small room =
       there = raise.there ∙ ap (λ n. n + bit label b) at_a;
       small = raise.small;
     }
-
-none_or_one : (x y m : ℕ) → x ≤ 1 → y ≤ 1
-    → ((x ≡ 1) × (y ≡ 1) × ((if nat_eq x 1 && nat_eq y 1 then [] else m ∷ []) ≡ []))
-    ⊎ ((x + y ≤ 1) × ((if nat_eq x 1 && nat_eq y 1 then [] else m ∷ []) ≡ m ∷ []))
-none_or_one x y m x_small y_small = grind (arith, nat_tests)
 
 merged_list : (a b label : ℕ) → ((bit label a ≡ 1) × (bit label b ≡ 1) × (merged_labels a b label ≡ []))
     ⊎ ((bit label a + bit label b ≤ 1) × (merged_labels a b label ≡ merged a b label ∷ []))

@@ -14,7 +14,7 @@ use Rattle.kh_types.specs.Code.{Code}
 use Rattle.kh_types.specs.Circles.{circle_count}
 use Rattle.kh_types.specs.Generators.{Generator}
 use Rattle.kh_types.specs.CircleNumbers.{IsName, circle_number, number_of}
-use Rattle.circle_smoothing.specs.Edges.{AreRenumbered, HaveMerged, renumbered}
+use Rattle.circle_smoothing.specs.Edges.{AreRenumbered, renumbered}
 use Rattle.kh_types.specs.Edges.{arc_at_slot}
 use Rattle.kh_types.proofs.CircleNumbers.{IsCircle-of, number_of-below, number_of-one}
 use Rattle.square_laws.specs.Squares.{circle_at_slot}
@@ -38,10 +38,6 @@ pub record AreNumbered (code : Code) (two one crossing a b : ℕ) : Type 0 where
   pub greater : b ≡ max (number_at code two crossing 0) (number_at code two crossing 2)
   pub order : a < b
   pub moved : AreRenumbered code two one a b
-
-pub AreNumbered-edge : (code : Code) (two one crossing a b to : ℕ) → IsTrue (accepted code) → IsMerge code two one crossing
-    → HaveMerged code two one crossing a b to → AreRenumbered code two one a b → AreNumbered code two one crossing a b
-AreNumbered-edge code two one crossing a b to is merge does moved = grind (arith, nat_tests)
 
 -- the greater number is one of a circle
 pub greater-below : (code : Code) (two one crossing a b : ℕ) → AreNumbered code two one crossing a b → b ≤ circle_count code one

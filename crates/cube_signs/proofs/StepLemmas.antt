@@ -9,8 +9,8 @@ use Rattle.kh_types.specs.Bits.{bit}
 use Rattle.kh_types.specs.Code.{Code, IsCrossing, place_of}
 use Rattle.kh_types.specs.Edges.{state_behind}
 use Rattle.circle_smoothing.specs.declared.change.Edge.{Edge}
-use Rattle.cube_signs.specs.Columns.{AreSmall, IsSmall}
-use Rattle.cube_signs.specs.Steps.{steps_in, HasSteps, HaveSteps, IsStep}
+use Rattle.cube_signs.specs.Columns.{AreSmall}
+use Rattle.cube_signs.specs.Steps.{steps_in, HasSteps, HaveSteps}
 
 -- what holds of each element, and of one more
 pub each-more : {X : Type 0} (P : ℕ → X → Type 0) (xs : List X) (x d : X) (count : ℕ) → length xs ≡ count
@@ -37,9 +37,6 @@ row-steps code rows state row steps have below is is_steps =
     let at : slice_index_or (steps_in rows) state [] ≡ steps =
     get_or-map items rows state row [] within ∙ ap items (sym is) ∙ sym is_steps in
     subst (HasSteps code state (length code.crossings)) at (have.each state below)
-
-small-step : (code : Code) (state place : ℕ) (step : Option Edge) → IsStep code state place step → IsSmall step
-small-step code state place step is = grind (arith, nat_tests)
 
 pub AreSmall-steps : (code : Code) (state count : ℕ) (steps : List (Option Edge)) → HasSteps code state count steps → AreSmall steps
 AreSmall-steps code state count steps has = grind (arith, nat_tests)

@@ -3,24 +3,11 @@ use Rattle.std.proofs.Common.{◌≡◌, ℕ, zero, suc, ◌+◌, ◌<◌, ◌^�
 use Rattle.std.specs.Prelude.{slice_index_or}
 use Rattle.std.proofs.lemmas.List.Elements.{All-nil, All-cons, All-from_recursion}
 use Rattle.kh_types.specs.Generators.{Generator}
-use Rattle.kh_types.proofs.ComplexLemmas.{complex-from_test}
 use Rattle.sparse_block.specs.Entries.{Entry, AreEntries, entry_at}
 use Rattle.sparse_block.specs.Complexes.{HaveEntries, SquaresToZero}
 use Rattle.sparse_block.proofs.AscendingLemmas.{entries-from_ascend}
 use Rattle.sparse_block.proofs.WorkedLemmas.{CanBuild}
 use Rattle.cube_tests.specs.Squares.{square, square_columns, square_names}
-
-pub square_one_three : SquaresToZero 5 (square 1 3).complex
-square_one_three = (complex-from_test 5 (square 1 3).complex (omega arith) refl).product
-
-pub square_two_three : SquaresToZero 5 (square 2 3).complex
-square_two_three = (complex-from_test 5 (square 2 3).complex (omega arith) refl).product
-
-pub square_one_four : SquaresToZero 5 (square 1 4).complex
-square_one_four = (complex-from_test 5 (square 1 4).complex (omega arith) refl).product
-
-pub square_two_four : SquaresToZero 5 (square 2 4).complex
-square_two_four = (complex-from_test 5 (square 2 4).complex (omega arith) refl).product
 
 -- a column with two entries
 pair-entries : (a b v w : ℕ) → a < b → b < 3 → 0 < v → v < 5 → 0 < w → w < 5

@@ -1,5 +1,5 @@
 -- What it says that no fault comes.
-use Rattle.std.proofs.Common.{◌≡◌, ◌≢◌, ℕ, ◌≤◌, arith, Bool, not, ◌||◌}
+use Rattle.std.proofs.Common.{◌≡◌, ℕ, ◌≤◌, arith, Bool, not, ◌||◌}
 use Rattle.std.specs.Prelude.{nat_eq, nat_lt, Option, Some, None, true, false}
 use Rattle.std.specs.Option.{option_or}
 use Rattle.std.proofs.lemmas.Bool.Decides.{nat_tests}
@@ -22,9 +22,6 @@ none-within x most fault none = grind (arith, nat_tests)
 
 pub none-above : (most count : ℕ) (fault : MoveFault) → refused_where (nat_lt most count) fault ≡ None → count ≤ most
 none-above most count fault none = grind (arith, nat_tests)
-
-pub none-apart : (x y : ℕ) (fault : MoveFault) → refused_where (nat_eq x y) fault ≡ None → x ≢ y
-none-apart x y fault none = grind (arith, nat_tests)
 
 pub none-same : (x y : ℕ) (fault : MoveFault) → refused_where (not (nat_eq x y)) fault ≡ None → x ≡ y
 none-same x y fault none = grind (arith, nat_tests)

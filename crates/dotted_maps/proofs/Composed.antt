@@ -232,13 +232,6 @@ laid-discs points m n o w dots others before after all =
 
 -- both overlays have the same points, joins, faces and strips
 
-overlay-ties : (first second : Surface) (circles : List ℕ) → AreLaid first second circles
-    → (joins others : List (ℕ × ℕ)) → first.joins ≡ joins → second.joins ≡ others
-    → AllByRecursion (Ties (overlaid first second)) (joins ++ others)
-overlay-ties first second circles laid joins others same same_others =
-    rw (sym same, sym same_others)
-    (own-ties (overlaid first second) (IsPlaced-overlaid first second laid.along.size laid.placed laid.other))
-
 leads-both : (points : Points) (m n o w : List (ℕ × ℕ)) (dots others before after : ℕ) → AreComposed points m n o w
     → LeadsBack (λ x. x) (λ x. x)
     (overlaid (second_part points n o w others after) (first_part points m n w dots before))

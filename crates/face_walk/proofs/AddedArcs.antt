@@ -3,7 +3,7 @@
 -- it, and where they are of two, it makes one face of these. Pieces are classes of crossings, tied by arcs, and the arc ties
 -- those of its two ends. So an arc between two pieces makes one piece and one face of two, as a face lies in one piece; and an
 -- arc inside a piece leaves the pieces, and joins two faces or splits one.
-use Rattle.std.proofs.Common.{◌≡◌, ◌≢◌, ℕ, inl, inr, ◌⊎◌, ◌+◌, ◌*◌, ◌/◌, ◌<◌, ◌∙◌, [], ◌∷◌, ◌++◌, sym, ap, map, arith, true, not, ◌&&◌, eq-eqb}
+use Rattle.std.proofs.Common.{◌≡◌, ◌≢◌, ℕ, inl, inr, ◌+◌, ◌*◌, ◌/◌, ◌<◌, ◌∙◌, [], ◌∷◌, ◌++◌, sym, ap, map, arith, true, not, ◌&&◌, eq-eqb}
 use Rattle.std.specs.Prelude.{slice_index, nat_eq}
 use Rattle.std.specs.List.{range_with_len}
 use Rattle.std.proofs.lemmas.Bool.{cases_eq}
@@ -34,10 +34,6 @@ arc-other partner dart other x not_dart not_other = grind (arith, nat_tests)
 pub HasArcMore-with_arc : (m : ℕ) (partner : ℕ → ℕ) (dart other : ℕ) → dart < m → other < m → dart ≢ other
     → partner dart ≡ dart → partner other ≡ other → HasArcMore m partner (with_arc partner dart other) dart other
 HasArcMore-with_arc m partner dart other dart_below other_below apart dart_open other_open = grind (arith, nat_tests)
-
--- a dart is one end of the new arc, or the other, or none
-pub ends_or_not : (dart other x : ℕ) → (x ≡ dart) ⊎ ((x ≡ other) ⊎ ((x ≢ dart) × (x ≢ other)))
-ends_or_not dart other x = grind arith
 
 -- the darts are still partners in pairs
 pub IsPairing-more : (m : ℕ) (before after : ℕ → ℕ) (dart other : ℕ) → IsPairing m before → HasArcMore m before after dart other

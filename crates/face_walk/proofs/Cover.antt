@@ -50,29 +50,17 @@ slot-lift x s below = omega arith
 crossing-lift : (x s : ℕ) → s < 2 → lift x s / 4 ≡ 2 * (x / 4) + s
 crossing-lift x s below = omega arith
 
-lift-base : (y : ℕ) → lift (base y) (sheet y) ≡ y
-lift-base y = omega arith
-
 two-below : (k : ℕ) → k % 2 < 2
 two-below k = omega arith
 
 base-cover : (p : ℕ → ℕ) (y : ℕ) → base (cover p y) ≡ p (base y)
 base-cover p y = base-lift (p (base y)) ((sheet y + y % 4 + p (base y) % 4 + 1) % 2) (two-below (sheet y + y % 4 + p (base y) % 4 + 1))
 
-sheet-cover : (p : ℕ → ℕ) (y : ℕ) → sheet (cover p y) ≡ (sheet y + y % 4 + p (base y) % 4 + 1) % 2
-sheet-cover p y = sheet-lift (p (base y)) ((sheet y + y % 4 + p (base y) % 4 + 1) % 2) (two-below (sheet y + y % 4 + p (base y) % 4 + 1))
-
-slot-cover : (p : ℕ → ℕ) (y : ℕ) → cover p y % 4 ≡ p (base y) % 4
-slot-cover p y = slot-lift (p (base y)) ((sheet y + y % 4 + p (base y) % 4 + 1) % 2) (two-below (sheet y + y % 4 + p (base y) % 4 + 1))
-
 lift-below : (n x s : ℕ) → x < 4 * n → s < 2 → lift x s < 4 * (2 * n)
 lift-below n x s below s_below = omega (arith, below, s_below)
 
 base-below : (n y : ℕ) → y < 4 * (2 * n) → base y < 4 * n
 base-below n y below = omega (arith, below)
-
-back_sheet : (s t u v : ℕ) → s < 2 → (v ≡ (s + t + u + 1) % 2) → (v + u + t + 1) % 2 ≡ s
-back_sheet s t u v below is = omega (arith, below, is)
 
 pub IsPairing-cover : (n : ℕ) (p : ℕ → ℕ) → IsPairing (4 * n) p → IsPairing (4 * (2 * n)) (cover p)
 IsPairing-cover n p pairing = grind (arith, nat_tests)
@@ -81,14 +69,8 @@ IsPairing-cover n p pairing = grind (arith, nat_tests)
 base-turned : (z : ℕ) → base (turned z) ≡ turned (base z)
 base-turned z = omega arith
 
-tone-turned : (z : ℕ) → tone (turned z) ≡ (tone z + 1) % 2
-tone-turned z = omega arith
-
 base-face_step : (p : ℕ → ℕ) (y : ℕ) → base (face_step (cover p) y) ≡ face_step p (base y)
 base-face_step p y = base-turned (cover p y) ∙ ap turned (base-cover p y)
-
-tone_kept : (s t u v w : ℕ) → v ≡ (s + t + u + 1) % 2 → w ≡ u → ((v + w) % 2 + 1) % 2 ≡ (s + t) % 2
-tone_kept s t u v w is same = omega (arith, is, same)
 
 tone-face_step : (p : ℕ → ℕ) (y : ℕ) → tone (face_step (cover p) y) ≡ tone y
 tone-face_step p y = omega arith

@@ -21,14 +21,8 @@ turned_back place = 4 * (place / 4) + (place % 4 + 1) % 4
 abbrev pub face_back : (ℕ → ℕ) → ℕ → ℕ
 face_back partner place = partner (turned_back place)
 
-turned_back-turned : (place : ℕ) → turned_back (turned place) ≡ place
-turned_back-turned place = omega arith
-
 pub turned-turned_back : (place : ℕ) → turned (turned_back place) ≡ place
 turned-turned_back place = omega arith
-
-turned_back-below : (n place : ℕ) → place < 4 * n → turned_back place < 4 * n
-turned_back-below n place below = omega (arith, below)
 
 pub turned-below : (n place : ℕ) → place < 4 * n → turned place < 4 * n
 turned-below n place below = omega (arith, below)

@@ -30,9 +30,6 @@ IsNoNearer-then n first second third one two = omega (arith, one, two)
 abbrev grown : (ℕ → ℕ) → (ℕ → ℕ) → ℕ → ℕ → ℕ
 grown part whole k x = cond (nat_lt x k || nat_lt (whole x) k) (whole x) (part x)
 
-taken_or_left : (x w k : ℕ) → ((x < k) ⊎ (w < k)) ⊎ ((k ≤ x) × (k ≤ w))
-taken_or_left x w k = grind arith
-
 grown-taken : (part whole : ℕ → ℕ) (k x : ℕ) → (x < k) ⊎ (whole x < k) → grown part whole k x ≡ whole x
 grown-taken part whole k x taken = grind (arith, nat_tests)
 

@@ -20,7 +20,6 @@ use Rattle.kh_types.specs.Classes.{class_count, AreBelow}
 use Rattle.kh_types.specs.Circles.{smoothing_of, smoothings_of, circles_of, circle_count}
 use Rattle.gluing_laws.specs.Arcs.{arc_by_place}
 use Rattle.kh_types.proofs.JoinedClasses.{IsNamed-classes_of}
-use Rattle.kh_types.proofs.EdgeBits.{bit-set_other}
 use Rattle.kh_types.proofs.ClassLemmas.{AreBelow-append}
 use Rattle.gluing_laws.specs.Glue.{renamed}
 use Rattle.gluing_laws.specs.Codes.{arc_of_dart, name_count}
@@ -93,16 +92,4 @@ class_count-circles code state below = grind (arith, nat_tests, IsNamed-classes_
 pub bit-above : (n state : ℕ) → state < 2 ^ n → bit state n ≡ 0
 bit-above n state below = ap (λ q. q % 2) (div-eq_of_lt below)
 
-pub dart_smoothings-same_from : (first second at count : ℕ) → ((k : ℕ) → at ≤ k → k < at + count → bit first k ≡ bit second k)
-    → flat_map (λ place. smoothing_of (bit first place) (darts_of place)) (range_with_len at count)
-    ≡ flat_map (λ place. smoothing_of (bit second place) (darts_of place)) (range_with_len at count)
-dart_smoothings-same_from first second at zero same = refl
-dart_smoothings-same_from first second at (suc count) same =
-    grind (arith, nat_tests, darts_of, dart_smoothings-same_from first second (at + 1) count (λ k from below. same k (omega arith) (omega arith)))
-
 -- one crossing more, at the end of the list
-
-enumerate_from-append : (at : ℕ) (xs ys : List (List ℕ))
-    → enumerate_from at (xs ++ ys) ≡ enumerate_from at xs ++ enumerate_from (at + length xs) ys
-enumerate_from-append at [] ys = let e : at ≡ at + 0 = omega arith in ap (λ k. enumerate_from k ys) e
-enumerate_from-append at (x ∷ xs) ys = grind (arith, nat_tests, enumerate_from-append (at + 1) xs ys)

@@ -5,7 +5,7 @@
 -- triangle (SlideTerms). Before and after the slide these tables have one sum for each way of joining (SlideTable), so the state sums are
 -- the same.
 use Rattle.std.proofs.lemmas.Bool.Decides.{nat_tests}
-use Rattle.std.proofs.Common.{◌≡◌, ◌≢◌, ℕ, ◌+◌, ◌-◌, ◌^◌, ◌<◌, ◌∙◌, List, [], ◌∷◌, ℤ, pos, ◌+ℤ◌, ◌-ℤ◌, sym, refl, length, map, get_or, ap, ap₂, arith, true}
+use Rattle.std.proofs.Common.{◌≡◌, ◌≢◌, ℕ, ◌+◌, ◌-◌, ◌^◌, ◌<◌, ◌∙◌, List, [], ◌∷◌, ℤ, pos, ◌+ℤ◌, sym, refl, length, map, get_or, ap, ap₂, arith, true}
 use Rattle.std.specs.Prelude.{slice_index_or}
 use Rattle.std.specs.List.{range_with_len}
 use Rattle.std.proofs.lemmas.Int.{ints}
@@ -14,10 +14,10 @@ use Rattle.kh_types.specs.Code.{Code, arc_in}
 use Rattle.kh_types.specs.Classes.{class_count}
 use Rattle.kh_types.specs.Circles.{circle_count}
 use Rattle.kh_types.specs.Generators.{one_count}
-use Rattle.kh_types.specs.StateSum.{int_sum, signed_by_parity, circle_coefficient, term_with, sum_with}
+use Rattle.kh_types.specs.StateSum.{int_sum, term_with, sum_with}
 use Rattle.kh_types.specs.StateSum as kh
 use Rattle.kh_types.proofs.EdgeBits.{bit-set_there, bit-set_other}
-use Rattle.gluing_laws.proofs.Terms.{term_at, signed_by_count}
+use Rattle.gluing_laws.proofs.Terms.{term_at}
 use Rattle.gluing_laws.specs.Codes.{name_count}
 use Rattle.gluing_laws.specs.Slides.{triangle_before, triangle_after, ends_joined, closed_inside, IsNoSide}
 use Rattle.gluing_laws.proofs.OuterPairs.{rest_circles}
@@ -114,10 +114,6 @@ eight-inside t u n c d e base c_below d_below e_below c_d c_e d_e at_c at_d at_e
     (ap₂ (λ x y. x +ℤ y) (told (base + 2 ^ e) 4 (omega arith) s4) (told (base + 2 ^ e + 2 ^ c) 5 (omega arith) s5))
     (ap₂ (λ x y. x +ℤ y) (told (base + 2 ^ e + 2 ^ d) 6 (omega arith) s6) (told (base + 2 ^ e + 2 ^ d + 2 ^ c) 7 (omega arith) s7)))
     ∙ eight-listed (u 0) (u 1) (u 2) (u 3) (u 4) (u 5) (u 6) (u 7)
-
--- a term with the sign by a sum, not by a difference
-pub signed_by-difference : (r minus x : ℕ) → kh.signed_by (pos r -ℤ pos minus) x ≡ signed_by_count (r + minus) x
-signed_by-difference r minus x = grind (arith, nat_tests)
 
 pub term_with-is : (plus minus : ℕ) (code : Code) (exponent : ℤ) (state : ℕ)
     → term_with plus minus code exponent state ≡ term_at plus minus exponent (one_count code state) (circle_count code state)

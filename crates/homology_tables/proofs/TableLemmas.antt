@@ -19,7 +19,7 @@ use Rattle.prime_field.specs.Residues.{IsSmallPrime}
 use Rattle.kh_types.specs.declared.limits.TheConstants.{CROSSINGS, EXPONENT}
 use Rattle.kh_types.specs.Code.{Code}
 use Rattle.kh_types.specs.Generators.{generators, has_degrees}
-use Rattle.kh_types.specs.Table.{Row, Table, IsWithin, from_minus, dimension, is_shown, rows_within, table}
+use Rattle.kh_types.specs.Table.{Row, Table, IsWithin, from_minus, dimension, is_shown, table}
 use Rattle.kh_types.proofs.QuantumDegrees.{IsWithin-place, place-IsWithin, get_or-map-from_minus}
 use Rattle.kh_types.proofs.RowSums.{row_by, rows_by}
 use Rattle.circle_smoothing.specs.declared.limits.TheConstants.{GENERATORS}
@@ -220,9 +220,6 @@ IsTable-dims p n dims few small prime =
       rows = IsRow-from EXPONENT n dims 0 (2 * EXPONENT + 1) refl (omega arith) few small;
       ascending = (ascending-from EXPONENT n dims 0 (2 * EXPONENT + 1)).0;
     }
-
-pub AllPairs-rows_within : (most p : ℕ) (code : Code) → AllPairs IsBefore (rows_within most p code)
-AllPairs-rows_within most p code = (ascending-from most (length code.crossings) (dimension p code) 0 (2 * most + 1)).0
 
 pub IsTable-table : (p : ℕ) (code : Code) → length code.crossings ≤ CROSSINGS → generator_count code ≤ GENERATORS
     → IsSmallPrime p → IsTable (table p code)

@@ -78,16 +78,6 @@ circle_coefficient-even (suc k) (suc chosen) exponent is =
       circle_coefficient-even k (suc chosen) (exponent +ℤ pos 1) (omega (arith, ints, is)),
     )
 
--- a coefficient is at most the number of all choices
-pub circle_coefficient-le : (k : ℕ) (exponent : ℤ) → circle_coefficient k exponent ≤ 2 ^ k
-circle_coefficient-le zero exponent = elim (int_eq exponent (pos 0)) as (λ b. cond b 1 0 ≤ 2 ^ 0) [ true ↦ omega arith | false ↦ omega arith ]
-circle_coefficient-le (suc k) exponent =
-    omega (
-      arith,
-      circle_coefficient-le k (exponent -ℤ pos 1),
-      circle_coefficient-le k (exponent +ℤ pos 1),
-    )
-
 -- the law, of exponents 2c - k
 pub circle_coefficient-ways : (k chosen : ℕ) → circle_coefficient k (pos (2 * chosen) -ℤ pos k) ≡ binomial k chosen
 circle_coefficient-ways k chosen =

@@ -1,5 +1,5 @@
 -- The state sum has no coefficients outside of the exponents.
-use Rattle.std.proofs.Common.{◌≡◌, ℕ, ◌+◌, ◌-◌, ◌*◌, ◌≤◌, ◌∙◌, List, [], ◌∷◌, map, length, ap, refl, arith, ℤ, pos, neg_ℤ, ◌+ℤ◌, ◌-ℤ◌, Bool, true, false, cond}
+use Rattle.std.proofs.Common.{◌≡◌, ℕ, ◌+◌, ◌-◌, ◌*◌, ◌≤◌, ◌∙◌, List, [], ◌∷◌, map, length, ap, refl, arith, ℤ, pos, ◌+ℤ◌, ◌-ℤ◌}
 use Rattle.std.proofs.lemmas.Int.{ints}
 use Rattle.kh_types.specs.declared.limits.TheConstants.{CROSSINGS, EXPONENT}
 use Rattle.kh_types.specs.Code.{Code}
@@ -18,10 +18,6 @@ int_sum-none : (f : ℕ → ℤ) (xs : List ℕ) → ((x : ℕ) → f x ≡ pos 
 int_sum-none f [] none = refl
 int_sum-none f (x ∷ xs) none =
     ap (λ (z : ℤ). z +ℤ int_sum (map f xs)) (none x) ∙ ap (λ (z : ℤ). pos 0 +ℤ z) (int_sum-none f xs none)
-
-signed_none : (even : Bool) → cond even (pos 0) (neg_ℤ (pos 0)) ≡ pos 0
-signed_none true = refl
-signed_none false = refl
 
 -- a term has exponents in size at most the number of circles and two for each crossing
 term_of-outside : (n r plus minus circles most : ℕ) (exponent : ℤ) → r ≤ n → plus ≤ n → minus ≡ n - plus

@@ -1,8 +1,8 @@
 -- Words write numbers exactly where these are read from them; and numbers of few digits are small.
 use Rattle.std.proofs.lemmas.Bool.Decides.{nat_tests}
-use Rattle.std.proofs.Common.{◌≡◌, ℕ, ◌<◌, ◌≤◌, ◌^◌, ◌&&◌, Bool, true, false, List, [], ◌∷◌, ◌++◌, length, drop, Option, Some, refl, sym, arith, nat_le, nat_lt, ℤ, pos, negsuc, suc}
+use Rattle.std.proofs.Common.{◌≡◌, ℕ, ◌<◌, ◌≤◌, ◌^◌, ◌&&◌, true, false, List, length, Option, Some, refl, sym, arith, nat_le, nat_lt, ℤ, pos, negsuc, suc}
 use Rattle.std.proofs.Math.Nat.{pow-le-pow_right}
-use Rattle.std.proofs.lemmas.Bool.{and_parts, leb-true, ne_eqb}
+use Rattle.std.proofs.lemmas.Bool.{and_parts, leb-true}
 use Rattle.std.proofs.lemmas.Str.Parse.{IsDigitsTest, digits_value_short, numerals_by_value}
 use Rattle.std.proofs.Common.{rules}
 use Rattle.std.proofs.lemmas.Fmt.{decimal_is_IsNumeral, decimal_nonempty, length-decimal-le}
@@ -13,8 +13,7 @@ use Rattle.std.specs.List.{list_all}
 use Rattle.std.specs.Option.{option_map}
 use Rattle.std.specs.Str.Parse.{digits_value}
 use Rattle.kh_lex.specs.declared.limits.TheConstants.{NUMBER_DIGITS}
-use Rattle.kh_lex.specs.Cuts.{sign, signed}
-use Rattle.kh_lex.specs.Lexer.{has_minus, sign_length}
+use Rattle.kh_lex.specs.Cuts.{sign}
 use Rattle.kh_lex.specs.Numerals.{WritesNumber, WritesSigned, is_numeral, numeral_of, signed_numeral_of}
 
 -- digits are told by a test
@@ -55,23 +54,10 @@ WritesNumber-numeral_of limit word number same = grind (arith, nat_tests)
 pub numeral_of-WritesNumber : (limit : ℕ) (word : List ℕ) (number : ℕ) → WritesNumber limit word number → numeral_of limit word ≡ Some number
 numeral_of-WritesNumber limit word number written = grind (arith, nat_tests)
 
--- a word is its sign and what is behind it
-word-parts : (word : List ℕ) → word ≡ sign (has_minus word) ++ drop (sign_length word) word
-word-parts word = grind (arith, nat_tests)
-
--- a digit is no minus sign
-has_minus-digits : (digits : List ℕ) → list_all is_ascii_digit digits ≡ true → has_minus digits ≡ false
-has_minus-digits [] all = refl
-has_minus-digits (digit ∷ digits) all = grind (arith, nat_tests, and_parts, ne_eqb, leb-true)
-
 -- a word writes a number with a sign exactly where it is read from it
 pub WritesSigned-signed_numeral_of : (limit : ℕ) (word : List ℕ) (number : ℤ) → signed_numeral_of limit word ≡ Some number
     → WritesSigned limit word number
 WritesSigned-signed_numeral_of limit word number same = grind (arith, nat_tests)
-
-signed_numeral_of-sign : (limit : ℕ) (minus : Bool) (digits : List ℕ) (size : ℕ) → WritesNumber limit digits size
-    → signed_numeral_of limit (sign minus ++ digits) ≡ Some (signed minus size)
-signed_numeral_of-sign limit minus digits size written = grind (arith, nat_tests)
 
 pub signed_numeral_of-WritesSigned : (limit : ℕ) (word : List ℕ) (number : ℤ) → WritesSigned limit word number
     → signed_numeral_of limit word ≡ Some number

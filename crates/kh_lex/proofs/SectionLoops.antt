@@ -1,8 +1,6 @@
 -- What the loops keep, from one section of a text to the next.
 use Rattle.std.proofs.lemmas.Bool.Decides.{nat_tests}
 use Rattle.std.proofs.Common.{◌≡◌, ℕ, ◌+◌, ◌<◌, ◌≤◌, List, [], ◌∷◌, ◌++◌, length, drop, filter, sym, ◌∙◌, ap, arith, append_assoc}
-use Rattle.std.proofs.Math.ListN.{drop_of_length-le}
-use Rattle.std.proofs.lemmas.List.{append-nil}
 use Rattle.std.proofs.lemmas.List.Elements.{filter-append}
 use Rattle.kh_lex.specs.Lines.{is_line_feed, lines_of}
 use Rattle.kh_lex.specs.LineWords.{has_bytes, is_gap, words_of}
@@ -18,10 +16,6 @@ pub record IsCounted (text : List ℕ) (place count : ℕ) : Type 0 where
 pub IsCounted-line : (text line : List ℕ) (place count : ℕ) → place < length text → line ≡ first_section is_line_feed (drop place text)
     → IsCounted text place count → IsCounted text (place + (length line + 1)) (count + 1)
 IsCounted-line text line place count left is_line so_far = grind (arith, nat_tests, sections_of-at)
-
--- nothing is left
-pub lines_of-end : (text : List ℕ) (place count : ℕ) → length text ≤ place → IsCounted text place count → count ≡ length (lines_of text)
-lines_of-end text place count end so_far = omega (arith, so_far.whole, ap (λ rest. length (lines_of rest)) (drop_of_length-le text end))
 
 -- the words so far, and those from a place on, are all the words of a line
 pub record IsParted (line : List ℕ) (place : ℕ) (words : List (List ℕ)) : Type 0 where
@@ -39,8 +33,3 @@ IsParted-piece line piece place words left is_piece so_far =
           ∙ filter-append has_bytes (piece ∷ []) (sections_of is_gap (drop (place + (length piece + 1)) line))))
           ∙ so_far.whole;
     }
-
--- nothing is left
-pub words_of-end : (line : List ℕ) (place : ℕ) (words : List (List ℕ)) → length line ≤ place → IsParted line place words
-    → words ≡ words_of line
-words_of-end line place words end so_far = grind (arith, nat_tests, append-nil, drop_of_length-le)

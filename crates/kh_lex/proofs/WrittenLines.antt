@@ -1,14 +1,14 @@
 -- A text that is written as a line, with a line feed behind it, means the same symbols.
 use Rattle.std.proofs.lemmas.Bool.Decides.{nat_tests}
 use Rattle.std.proofs.Common.{arith}
-use Rattle.std.proofs.Common.{◌≡◌, ◌∙◌, ℕ, ℤ, Bool, true, false, List, [], ◌∷◌, ◌++◌, refl, ap, append_assoc, codes}
+use Rattle.std.proofs.Common.{◌≡◌, ◌∙◌, ℕ, ℤ, true, List, [], ◌∷◌, ◌++◌, refl, ap, append_assoc, codes}
 use Rattle.std.specs.List.{list_all}
 use Rattle.std.proofs.lemmas.Bool.{and_parts}
 use Rattle.std.proofs.lemmas.List.{append-nil}
 use Rattle.kh_lex.specs.Symbols.{Means}
 use Rattle.kh_lex.specs.declared.symbol.Symbol.{Symbol}
 use Rattle.kh_lex.specs.declared.token.Kind.{Kind}
-use Rattle.kh_lex.specs.Cuts.{IsLongestRun, IsToken, SkipsBlanks, begins_with, is_blank}
+use Rattle.kh_lex.specs.Cuts.{IsToken, SkipsBlanks, is_blank}
 use Rattle.kh_lex.specs.Lines.{with_feed}
 use Rattle.kh_lex.proofs.Cuttings.{skip-cons}
 use Rattle.kh_lex.proofs.WrittenTexts.{IsWritten, Means-written, Writes}
@@ -23,13 +23,6 @@ skip-feed (byte ∷ blanks) all =
 -- and so is a text that is blank
 blank-feed : (text : List ℕ) → SkipsBlanks text [] → SkipsBlanks (with_feed text) []
 blank-feed text skip = grind (arith, nat_tests, append-nil, skip-feed)
-
--- a run stays the longest before a line feed, which is not of its sort
-longest-feed : (is : ℕ → Bool) (rest : List ℕ) → is 10 ≡ false → begins_with is rest ≡ false → begins_with is (with_feed rest) ≡ false
-longest-feed is rest other longest = grind (arith, nat_tests)
-
-run-feed : (is : ℕ → Bool) (bytes rest : List ℕ) → is 10 ≡ false → IsLongestRun is bytes rest → IsLongestRun is bytes (with_feed rest)
-run-feed is bytes rest other run = record { some = run.some; all = run.all; longest = longest-feed is rest other run.longest }
 
 -- a token stays one
 token-feed : (kind : Kind) (value : ℤ) (bytes rest : List ℕ) → IsToken kind value bytes rest → IsToken kind value bytes (with_feed rest)

@@ -1,11 +1,11 @@
 -- A checkerboard choice gives each arc one dart of either colour.
 use Rattle.std.proofs.lemmas.Bool.Decides.{nat_tests}
-use Rattle.std.proofs.Common.{◌≡◌, ◌≢◌, ℕ, ◌⊎◌, inl, inr, ◌+◌, ◌-◌, ◌*◌, ◌%◌, ◌<◌, ◌∙◌, List, [], length, refl, ap, arith, IsTrue, true}
+use Rattle.std.proofs.Common.{◌≡◌, ◌≢◌, ℕ, ◌⊎◌, inl, inr, ◌+◌, ◌-◌, ◌*◌, ◌%◌, ◌<◌, ◌∙◌, List, [], length, refl, arith, IsTrue, true}
 use Rattle.std.specs.Prelude.{slice_index_or}
 use Rattle.kh_types.specs.declared.dart.Dart.{Dart}
 use Rattle.kh_types.specs.Code.{Code, IsArc, arc_in, place_of}
 use Rattle.kh_types.specs.Bits.{bit}
-use Rattle.kh_types.specs.Darts.{arc_of, first_dart, partner, IsDart, HasArcsTwice}
+use Rattle.kh_types.specs.Darts.{arc_of, first_dart, partner, HasArcsTwice}
 use Rattle.kh_types.specs.Checkerboard.{solves_at, IsCheckerboard}
 use Rattle.kh_types.specs.Colours.{colour, IsColoured}
 use Rattle.kh_types.specs.Acceptance.{accepted}
@@ -73,16 +73,3 @@ colour_at choice place slot = (bit choice place + slot) % 2
 -- the dart there
 abbrev pub dart_of : ℕ → ℕ → Dart
 dart_of place slot = record { crossing = place + 1; slot = slot }
-
-place_back : (place : ℕ) → place + 1 - 1 ≡ place
-place_back place = omega arith
-
-pub arc_of-dart_of : (crossings : List (List ℕ)) (place slot : ℕ) → arc_of crossings (dart_of place slot) ≡ arc_at crossings place slot
-arc_of-dart_of crossings place slot = ap (λ p. arc_at crossings p slot) (place_back place)
-
-pub colour-dart_of : (choice place slot : ℕ) → colour choice (dart_of place slot) ≡ colour_at choice place slot
-colour-dart_of choice place slot = ap (λ p. colour_at choice p slot) (place_back place)
-
-pub IsDart-dart_of : (crossings : List (List ℕ)) (place slot : ℕ) → place < length crossings → slot < 4
-    → IsDart crossings (dart_of place slot)
-IsDart-dart_of crossings place slot below slot_below = omega arith

@@ -88,10 +88,6 @@ one_of a b c d x = nat_eq a x || (nat_eq b x || (nat_eq c x || (nat_eq d x || fa
 hit : (a b c d k g x : ℕ) → ((a ≡ k) × (c ≡ g)) ⊎ ((a ≡ g) × (c ≡ k)) → (x ≡ k) ⊎ (x ≡ g) → one_of a b c d x ≡ true
 hit a b c d k g x two is = grind (arith, nat_tests)
 
-missed : (a b c d k g x : ℕ) → (a ≡ k) ⊎ (a ≡ g) → (b ≡ k) ⊎ (b ≡ g) → (c ≡ k) ⊎ (c ≡ g) → (d ≡ k) ⊎ (d ≡ g)
-    → x ≢ k → x ≢ g → one_of a b c d x ≡ false
-missed a b c d k g x a_is b_is c_is d_is not_k not_g = grind (arith, nat_tests)
-
 -- the arcs at a crossing are on the circles k and g
 record AreOn (code : Code) (state crossing k g : ℕ) : Type 0 where
   two : ((circle_at code state crossing 0 ≡ k) × (circle_at code state crossing 2 ≡ g))

@@ -2,13 +2,9 @@
 use Rattle.std.proofs.Common.{◌≡◌, ℕ, List, IfOk, refl, sym, subst, ◌∙◌, Result, Ok, Err}
 use Rattle.kh_types.specs.Code.{Code}
 use Rattle.kh_runs.specs.Replies.{Reply}
-use Rattle.kh_runs.specs.Statuses.{IsReplyStatus}
-use Rattle.kh_runs.proofs.StatusLemmas.{status-of}
 use Rattle.kh_inputs.specs.Inputs.{IsDiagramRead}
 use Rattle.kh_inputs.proofs.DiagramReadings.{IsDiagramRead-one, IsDiagramRead-some}
-use Rattle.kh_inputs.proofs.ReplyStatuses.{refusal-status}
 use Rattle.kh_replies.specs.Union.{union_reply}
-use Rattle.kh_replies.proofs.UnionReplies.{union-status}
 use Rattle.kh_work.specs.Union.{IsPairReply, IsUnionReply, second_refused}
 
 IsPairReply-some : (first : Code) (outcome : Result Code Reply) → (reply : Reply) × IsPairReply first outcome reply
@@ -31,14 +27,6 @@ IsUnionReply-one first text a b is_a is_b =
     IsPairReply-one first is_b.outcome a b (subst (λ outcome. IsPairReply first outcome a) same is_a.answered) is_b.answered
 
 -- its status is one of a reply
-
-pair-status : (first : Code) (text : List ℕ) (outcome : Result Code Reply) (reply : Reply) → IsDiagramRead text outcome
-    → IsPairReply first outcome reply → IsReplyStatus reply.status
-pair-status first text (Ok second) reply read is = status-of reply _ is (union-status first second)
-pair-status first text (Err refusal) reply read is = status-of reply _ is (refusal-status text refusal read)
-
-pub IsUnionReply-status : (first : Code) (text : List ℕ) (reply : Reply) → IsUnionReply first text reply → IsReplyStatus reply.status
-IsUnionReply-status first text reply is = pair-status first text is.outcome reply is.read is.answered
 
 -- a second code that is read is answered with the first, and a refusal of it is told behind a line
 pub IsUnionReply-read : {E : Type 0} (result : Result Reply E) (first : Code) (text : List ℕ) (second : Code) → IsDiagramRead text (Ok second)

@@ -1,5 +1,5 @@
 -- What is written of the answers to questions, one after the other.
-use Rattle.std.proofs.Common.{◌≡◌, inl, inr, ℕ, ◌+◌, ◌<◌, min, Bool, true, false, ◌&&◌, List, [], ◌∷◌, ◌++◌, length, take, drop, map, get_or, refl, sym, ap, subst, ◌∙◌, arith, append-nil, Option, Some, None, Result, Ok, Err}
+use Rattle.std.proofs.Common.{◌≡◌, ℕ, ◌+◌, ◌<◌, min, Bool, ◌&&◌, List, [], ◌∷◌, ◌++◌, length, take, drop, map, get_or, sym, ap, subst, ◌∙◌, arith, Option, Result, Ok, Err}
 use Rattle.std.proofs.Math.Seq.{take-append-add}
 use Rattle.std.proofs.lemmas.Bool.{and_parts}
 use Rattle.std.proofs.lemmas.List.{map-append, map_more, take-append-drop, take-append-le, take_min}
@@ -7,15 +7,10 @@ use Rattle.std.specs.Io.KnownBytes.{Appends}
 use Rattle.kh_io.proofs.KnownBytes.{Appends-trans}
 use Rattle.kh_runs.specs.Replies.{Reply}
 use Rattle.line_answers.specs.Answered.{AreAllAnswered, AreAnswered, ArePartlyAnswered, IsPartWritten}
-use Rattle.line_answers.specs.Frames.{IsAnswerOrNone, IsAnswerTo, frame_of, no_memory}
+use Rattle.line_answers.specs.Frames.{IsAnswerOrNone, IsAnswerTo, frame_of}
 use Rattle.line_answers.specs.Questions.{NumberedLine, Question, question}
 use Rattle.line_answers.specs.declared.frame.FrameStop.{FrameStop}
 use Rattle.line_answers.proofs.FrameLists.{AreFrames-append, AreFrames-one, AreFrames-some}
-
--- a sink that is not written to gains nothing
-pub Appends-none : (written : Option (List ℕ)) → Appends written written []
-Appends-none None = tt
-Appends-none (Some bytes) = sym (append-nil bytes)
 
 -- all that is there of a list is taken by its length, or by less
 pub take-within : {X : Type 0} (n : ℕ) (xs more : List X) → take n xs ≡ take (min n (length xs)) (xs ++ more)
@@ -50,10 +45,6 @@ AreAnswered-behind Answers first second a b c whole (Err stop) one part = record
   );
 }
 
--- no question is answered by nothing
-pub AreAllAnswered-none : (Answers : ℕ → List ℕ → Reply → Type 0) (a : Option (List ℕ)) → AreAllAnswered Answers [] a a true
-AreAllAnswered-none Answers a = record { text = []; frames = refl; written = Appends-none a; answers = λ _. refl }
-
 -- questions are answered in part, and so are more of them
 pub AreAnswered-before : (Answers : ℕ → List ℕ → Reply → Type 0) (first second : List Question) (a b : Option (List ℕ)) (stop : FrameStop)
     → ArePartlyAnswered Answers first a b stop → ArePartlyAnswered Answers (first ++ second) a b stop
@@ -70,26 +61,6 @@ AreAnswered-before Answers first second a b stop part =
         rw (← take-within count.0 first second, ← same) count.1,
       );
     }
-
--- a question is answered
-pub AreAnswered-one : (Answers : ℕ → List ℕ → Reply → Type 0) (asked : Question) (reply : Reply) (a b : Option (List ℕ))
-    → IsAnswerTo Answers asked reply → Appends a b (frame_of asked reply) → AreAnswered Answers (asked ∷ []) a b (Ok true)
-AreAnswered-one Answers asked reply a b answer written = record {
-  text = frame_of asked reply;
-  frames = AreFrames-one (IsAnswerOrNone Answers) asked reply (inl answer);
-  written = written;
-  answers = λ _. AreFrames-one (IsAnswerTo Answers) asked reply answer;
-}
-
--- there was no memory for the reply
-pub AreAnswered-none : (Answers : ℕ → List ℕ → Reply → Type 0) (asked : Question) (reply : Reply) (a b : Option (List ℕ))
-    → reply ≡ no_memory → Appends a b (frame_of asked reply) → AreAnswered Answers (asked ∷ []) a b (Ok false)
-AreAnswered-none Answers asked reply a b none written = record {
-  text = frame_of asked reply;
-  frames = AreFrames-one (IsAnswerOrNone Answers) asked reply (inr none);
-  written = written;
-  answers = λ is. cc;
-}
 
 -- the frame is written in part
 pub AreAnswered-part : (Answers : ℕ → List ℕ → Reply → Type 0) (asked : Question) (reply : Reply) (a b : Option (List ℕ)) (stop : FrameStop)

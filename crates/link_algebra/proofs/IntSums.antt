@@ -1,6 +1,6 @@
 -- Sums and products of integers.
 use Rattle.std.proofs.lemmas.Bool.Decides.{nat_tests}
-use Rattle.std.proofs.Common.{List, [], ap, ap₂, arith, map, neg_ℤ, negsuc, pos, refl, suc, sym, zero, ℕ, ℤ, ◌*ℤ◌, ◌*◌, ◌++◌, ◌+ℤ◌, ◌+◌, ◌-◌, ◌<◌, ◌∙◌, ◌∷◌, ◌≡◌, ◌≢◌, ◌≤◌}
+use Rattle.std.proofs.Common.{List, [], ap, ap₂, arith, map, negsuc, pos, refl, suc, sym, zero, ℕ, ℤ, ◌*ℤ◌, ◌*◌, ◌++◌, ◌+ℤ◌, ◌+◌, ◌-◌, ◌<◌, ◌∙◌, ◌∷◌, ◌≡◌, ◌≢◌, ◌≤◌}
 use Rattle.std.proofs.Math.IntN.{*ℤ-zero, *ℤ_comm, pred_ℤ-*ℤ, suc_ℤ-*ℤ, zero-*ℤ}
 use Rattle.std.proofs.lemmas.Int.{ints}
 use Rattle.std.specs.List.{range_with_len}
@@ -17,12 +17,6 @@ spread (negsuc (suc n)) x y =
 
 pub spread_right : (x y c : ℤ) → (x +ℤ y) *ℤ c ≡ x *ℤ c +ℤ y *ℤ c
 spread_right x y c = *ℤ_comm (x +ℤ y) c ∙ spread c x y ∙ ap₂ (λ a b. a +ℤ b) (*ℤ_comm c x) (*ℤ_comm c y)
-
-pub neg-times : (x y : ℤ) → neg_ℤ x *ℤ y ≡ neg_ℤ (x *ℤ y)
-neg-times x y = grind (arith, nat_tests)
-
-pub times-neg : (x y : ℤ) → x *ℤ neg_ℤ y ≡ neg_ℤ (x *ℤ y)
-times-neg x y = *ℤ_comm x (neg_ℤ y) ∙ neg-times y x ∙ ap neg_ℤ (*ℤ_comm y x)
 
 -- sums of functions over a list
 

@@ -45,17 +45,8 @@ onto by place = spun (by (place / 4 + 1)) place
 spun-crossing : (b place : ℕ) → spun b place / 4 ≡ place / 4
 spun-crossing b place = omega arith
 
-spun-slot : (b place : ℕ) → spun b place % 4 ≡ (place % 4 + b) % 4
-spun-slot b place = omega arith
-
 spun-below : (n b place : ℕ) → place < 4 * n → spun b place < 4 * n
 spun-below n b place below = omega (arith, below)
-
-spun-round : (b c place : ℕ) → (b + c) % 4 ≡ 0 → spun c (spun b place) ≡ place
-spun-round b c place round = omega (arith, round, spun-crossing b place, spun-slot b place)
-
-spun-turned : (b place : ℕ) → turned (spun b place) ≡ spun b (turned place)
-spun-turned b place = omega arith
 
 onto-turned : (by : ℕ → ℕ) (place : ℕ) → turned (onto by place) ≡ onto by (turned place)
 onto-turned by place = grind (arith, nat_tests)

@@ -32,7 +32,7 @@ use Rattle.link_algebra.proofs.MirrorParts.{IsTurnOf-mirror, IsTurnOf-reversal, 
 use Rattle.link_algebra.proofs.MovedLabels.{count-moved}
 use Rattle.link_algebra.proofs.OppositeSums.{sum-flipped, term-opposite}
 use Rattle.link_algebra.proofs.RotatedCodes.{IsRotated-back, opposite}
-use Rattle.link_algebra.proofs.Renamings.{IsRenaming, IsRotated, IsTurned}
+use Rattle.link_algebra.proofs.Renamings.{IsRotated, IsTurned}
 use Rattle.link_algebra.proofs.TurnedCircles.{Corresponds-turned}
 use Rattle.link_algebra.proofs.TurnedParts.{IsRotated-turn, accepted-turn, name, number, sign-turn}
 
@@ -74,11 +74,6 @@ turned-from by f back old new rotated ways signs = record {
   turned = λ crossing is. (by crossing, ways crossing, λ slot below. rotated.arcs crossing slot is below);
   signs = signs;
 }
-
--- two turns, one after the other
-IsRenaming-through : (most : ℕ) (f back g home : ℕ → ℕ) → IsRenaming most f back → IsRenaming most g home
-    → IsRenaming most (λ x. g (f x)) (λ x. back (home x))
-IsRenaming-through most f back g home first second = grind (arith, nat_tests)
 
 pub IsRotated-through : (by f back other g home : ℕ → ℕ) (old middle new : Code) → IsRotated by f back old middle
     → IsRotated other g home middle new

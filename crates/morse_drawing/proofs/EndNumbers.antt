@@ -85,9 +85,6 @@ map-insert {X} {Y} f xs k x = grind (arith, nat_tests, map-append f (take k xs) 
 same-label : (limit : ℕ) (a b : End) → IsEnd limit a → IsEnd limit b → nat_eq (label limit a) (label limit b) ≡ is_same_end a b
 same-label limit a b one two = grind (arith, nat_tests)
 
-label-cond : (limit : ℕ) (b : Bool) (x y : End) → cond b (label limit x) (label limit y) ≡ label limit (cond b x y)
-label-cond limit b x y = grind (arith, nat_tests)
-
 label-renamed : (limit : ℕ) (old new end : End) → IsEnd limit old → IsEnd limit end
     → relabelled (label limit old) (label limit new) (label limit end) ≡ label limit (renamed old new end)
 label-renamed limit old new end one two = grind (arith, nat_tests)

@@ -47,9 +47,6 @@ first_slice_fault-none limit r number xs ys before after = grind (arith, nat_tes
 where-none : (b : Bool) (fault : SliceFault) → b ≡ false → fault_where b fault ≡ None
 where-none b fault fails = ap (λ t. fault_where t fault) fails
 
-two-none : (a b : Bool) (one two : SliceFault) → a ≡ false → b ≡ false → option_or (fault_where a one) (fault_where b two) ≡ None
-two-none a b one two first second = grind (arith, nat_tests)
-
 pub cap-right : (limit number at : ℕ) (r : Sketch) → 1 ≤ at → at ≤ length r.row + 1 → length r.row ≤ 62
     → slice_fault limit r number (Cap at) ≡ None
 cap-right limit number at r from within few = grind (arith, nat_tests)

@@ -4,7 +4,6 @@
 -- goes on along that from the left one. Rule 2: a bare crossing is joined at one of its darts to a dart of the row, and its other
 -- three darts take that dart's place, since the face steps go round the crossing from dart to dart. Rule 1: the four darts of a
 -- bare crossing are a row, as each leads to the next one round it.
-use Rattle.std.proofs.lemmas.Bool.Decides.{nat_tests}
 use Rattle.std.proofs.Common.{◌≡◌, ◌≢◌, ℕ, ◌*◌, ◌/◌, ◌<◌, ◌∙◌, List, [], ◌∷◌, ◌++◌, refl, sym, ap, subst, arith}
 use Rattle.std.specs.List.{AllByRecursion}
 use Rattle.std.proofs.lemmas.List.{append_assoc, append-nil}
@@ -172,6 +171,3 @@ IsDartRow-crossed n before after dart other front back more bare row =
     }) (IsDartRow-turned n before front (dart ∷ back) row)))
 
 -- rule 1: the four darts of a bare crossing
-
-pub IsDartRow-bare : (n : ℕ) (partner : ℕ → ℕ) (dart : ℕ) → IsBare n partner [] dart → IsDartRow n partner (dart ∷ other_three dart)
-IsDartRow-bare n partner dart bare = grind (arith, nat_tests)

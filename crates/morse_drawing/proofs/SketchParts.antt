@@ -6,12 +6,11 @@
 -- afterwards; segments that are of the class of one met by a new dart; colours of new segments that leave the old ones as they
 -- were; and the cases of the next segments.
 use Rattle.std.proofs.Common.{◌≡◌, ◌≢◌, ℕ, ◌+◌, ◌-◌, ◌*◌, ◌/◌, ◌%◌, ◌<◌, ◌≤◌, ◌∙◌, List, [], ◌∷◌, ◌++◌, length, get_or, map, take, drop, refl, sym, ap, ap₂, arith, true, cond, min}
-use Rattle.std.specs.Prelude.{◌⊎◌, nat_eq, nat_lt}
+use Rattle.std.specs.Prelude.{nat_eq, nat_lt}
 use Rattle.std.proofs.Math.Seq.{drop-append_seam, get_or-append_seam, take-append_seam}
 use Rattle.std.proofs.lemmas.Bool.Decides.{nat_tests}
 use Rattle.std.proofs.lemmas.List.{append_assoc, length-append}
 use Rattle.kh_types.specs.Classes.{AreBelow, Respects}
-use Rattle.face_walk.specs.AddedArcs.{with_arc}
 use Rattle.morse_drawing.specs.Sketches.{IsReached, Sketch, dart_after, is_met, segment_met, sketched, with_cross, with_cup}
 use Rattle.morse_drawing.specs.DartRows.{turned_back}
 use Rattle.morse_drawing.specs.declared.slice.Slice.TheVariants.{Cap, Cup, Cross}
@@ -149,18 +148,6 @@ turn_two o = turned_back (turned_back o)
 
 abbrev pub turn_three : ℕ → ℕ
 turn_three o = turned_back (turned_back (turned_back o))
-
-pub d-zero : (o : ℕ) → dart_after (o / 4 + 1) (o % 4) 0 ≡ o
-d-zero o = omega arith
-
-pub d-one : (o : ℕ) → dart_after (o / 4 + 1) (o % 4) 1 ≡ turn_one o
-d-one o = omega arith
-
-pub d-two : (o : ℕ) → dart_after (o / 4 + 1) (o % 4) 2 ≡ turn_two o
-d-two o = omega arith
-
-pub d-three : (o : ℕ) → dart_after (o / 4 + 1) (o % 4) 3 ≡ turn_three o
-d-three o = omega arith
 
 pub crossing-one : (o : ℕ) → turn_one o / 4 ≡ o / 4
 crossing-one o = omega arith

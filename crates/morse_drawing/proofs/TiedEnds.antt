@@ -22,11 +22,6 @@ data EndLabel (limit : ℕ) (met : ℕ → Bool) (label : ℕ → ℕ) (row othe
       → EndLabel limit met label row others u
   of_two : 4 * limit ≤ u → u < 4 * limit + 64 → times u row ≡ 2 → EndLabel limit met label row others u
 
-label-of : (limit : ℕ) (name : ℕ → ℕ) (next : ℕ) (joins met : List (ℕ × ℕ)) (segments others : List ℕ) (loops p : ℕ)
-    → Ends limit name next joins met segments others loops → p < next → 1 ≤ times (name p) (map name segments)
-    → EndLabel limit (is_met met) (λ z. name (segment_met met z)) (map name segments) others (name p)
-label-of limit name next joins met segments others loops p is below stands = grind (arith, nat_tests)
-
 -- what the two labels are, and how often they stand in the rest
 pub record TwoEnds (limit : ℕ) (name : ℕ → ℕ) (next : ℕ) (joins met : List (ℕ × ℕ)) (a b : ℕ) (rest others : List ℕ) (loops : ℕ) : Type 0 where
   is : Ends limit name next joins met (a ∷ b ∷ rest) others loops

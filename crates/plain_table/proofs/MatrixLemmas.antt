@@ -1,5 +1,5 @@
 -- The steps of the loops over the rows and the columns of a matrix.
-use Rattle.std.proofs.Common.{◌≡◌, ℕ, ◌+◌, ◌<◌, ◌≤◌, ◌∙◌, List, [], ◌∷◌, ◌++◌, length, map, take, drop, get_or, set, replicate, ap, sym, refl, arith}
+use Rattle.std.proofs.Common.{◌≡◌, ℕ, ◌+◌, ◌<◌, ◌≤◌, ◌∙◌, List, [], ◌∷◌, ◌++◌, length, map, take, drop, get_or, set, replicate, ap, sym, arith}
 use Rattle.std.specs.Prelude.{slice_index_or}
 use Rattle.std.proofs.lemmas.List.{append_assoc, append-nil, get_or-set_same, set-set, set-get_or, set_at, take_more, take_all, drop_more, drop_all, map_push, length-map, length-take-le, length-replicate}
 use Rattle.kh_types.specs.Code.{Code}
@@ -12,9 +12,6 @@ use Rattle.plain_table.specs.Matrices.{row_for, rows_for, matrix_for, with_row}
 -- the images of the first elements of a list, and the rest of another list behind them
 abbrev pub filled : {X Y : Type 0} → (X → Y) → List X → ℕ → List Y → List Y
 filled f xs n ys = map f (take n xs) ++ drop n ys
-
-filled-none : {X Y : Type 0} (f : X → Y) (xs : List X) (ys : List Y) → filled f xs 0 ys ≡ ys
-filled-none f xs ys = refl
 
 filled-more : {X Y : Type 0} (f : X → Y) (xs : List X) (n : ℕ) (ys : List Y) (x : X) → n < length xs → length ys ≡ length xs
     → set (filled f xs n ys) n (f (get_or xs n x)) ≡ filled f xs (n + 1) ys

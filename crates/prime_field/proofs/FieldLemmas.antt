@@ -2,14 +2,7 @@
 use Rattle.std.proofs.Common.{◌≡◌, ◌≢◌, ℕ, ◌<◌, ◌-◌, ◌%◌, ◌^◌, ◌∙◌, ap, sym, arith}
 use Rattle.std.proofs.Math.Nat.{mod-eq_of_lt}
 use Rattle.std.proofs.lemmas.Nat.{mod_below}
-use Rattle.prime_field.specs.Residues.{sum_mod, negative_mod, product_mod, inverse_mod, IsField}
-
--- minus y and plus y change nothing
-pub sum_mod-difference : (p x y : ℕ) → IsField p → x < p → sum_mod p (sum_mod p x (negative_mod p y)) y ≡ x
-sum_mod-difference p x y field below =
-    field.sums_associate x (negative_mod p y) y
-    ∙ ap (sum_mod p x) (field.sums_commute (negative_mod p y) y ∙ field.negatives_cancel y)
-    ∙ field.zero_adds_nothing x below
+use Rattle.prime_field.specs.Residues.{product_mod, inverse_mod, IsField}
 
 -- the inverse of y is the only one
 inverse_mod-only : (p y inverse : ℕ) → IsField p → y < p → y ≢ 0 → inverse < p → product_mod p y inverse ≡ 1

@@ -34,9 +34,6 @@ on-steps_from from place same = omega (arith, same)
 pub steps_from-below : (from place : ℕ) → steps_from from place < 4
 steps_from-below from place = omega arith
 
-pub steps_from-on : (from steps : ℕ) → steps < 4 → steps_from from (on from steps) ≡ steps
-steps_from-on from steps below = omega (arith, below)
-
 pub on-below : (n place steps : ℕ) → place < 4 * n → on place steps < 4 * n
 on-below n place steps below = omega (arith, below)
 
@@ -55,10 +52,6 @@ AreApart-rotated x y z apart = omega arith
 
 pub AreApart-on : (x y z a b c : ℕ) → AreApart x y z → AreApart (on x a) (on y b) (on z c)
 AreApart-on x y z a b c apart = omega arith
-
--- darts at two crossings differ
-pub crossings-apart : (x y a b : ℕ) → x / 4 ≢ y / 4 → on x a ≢ on y b
-crossings-apart x y a b apart same = apart (sym (on-crossing x a) ∙ ap (λ k. k / 4) same ∙ on-crossing y b)
 
 -- cases
 
@@ -142,9 +135,6 @@ source-source x y z apart =
     (λ j below. ap (λ f. f (f (on y j))) once ∙ source-source_x y z x turned_apart j below)
     (λ j below. ap (λ f. f (f (on z j))) twice ∙ source-source_x z x y (AreApart-rotated y z x turned_apart) j below)
     (λ place outside. ap (source x y z) (source-outside x y z place outside) ∙ source-outside x y z place outside)
-
-source-below_x : (n x y z : ℕ) → y < 4 * n → z < 4 * n → (j : ℕ) → j < 4 → source x y z (on x j) < 4 * n
-source-below_x n x y z y_below z_below j below = grind (arith, nat_tests)
 
 pub source-below : (n x y z : ℕ) → AreApart x y z → x < 4 * n → y < 4 * n → z < 4 * n → (place : ℕ) → place < 4 * n
     → source x y z place < 4 * n

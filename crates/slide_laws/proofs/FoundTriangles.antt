@@ -3,11 +3,11 @@
 -- The test of a slot holds exactly where there is a triangle. What a search finds passes, is in the range and is the first, so the least
 -- slot is taken; and no slide can be made exactly where each triangle's slots have one parity.
 use Rattle.std.proofs.lemmas.Bool.Decides.{nat_tests}
-use Rattle.std.proofs.Common.{◌≡◌, ◌≢◌, ◌↔◌, ℕ, inl, inr, ◌+◌, ◌-◌, ◌<◌, ◌≤◌, ◌∙◌, List, sym, ap, arith, zero, suc, Bool, true, false, not, ◌&&◌, cond}
-use Rattle.std.specs.Prelude.{nat_eq, Some, None}
+use Rattle.std.proofs.Common.{◌≡◌, ◌↔◌, ℕ, inl, inr, ◌+◌, ◌-◌, ◌<◌, ◌≤◌, ◌∙◌, List, sym, ap, arith, zero, suc, Bool, true, false, ◌&&◌, cond}
+use Rattle.std.specs.Prelude.{Some, None}
 use Rattle.std.specs.List.{find, range_with_len}
-use Rattle.std.proofs.lemmas.Bool.{and_parts, cases_Bool, cases_eq, ne_eqb}
-use Rattle.kh_types.specs.Code.{IsCrossing, place_of}
+use Rattle.std.proofs.lemmas.Bool.{and_parts, cases_Bool, cases_eq}
+use Rattle.kh_types.specs.Code.{IsCrossing}
 use Rattle.kh_types.proofs.Lists.{find-none}
 use Rattle.kh_types.proofs.Ranges.{list_any-found, list_any-below}
 use Rattle.kh_types.proofs.AcceptedLemmas.{second_fails}
@@ -47,9 +47,6 @@ IsFirst-found p a (suc n) found is = elim (cases_Bool (p a)) [
       }
 ]
 
-crossings-differ : (c d : ℕ) → c ≢ d → 1 ≤ c → 1 ≤ d → c - 1 ≢ d - 1
-crossings-differ c d apart c_positive d_positive same = apart (omega (arith, c_positive, d_positive, same))
-
 pub IsTriangle-is : (crossings : List (List ℕ)) (c d e slot : ℕ) → IsCrossing crossings c → IsCrossing crossings d → IsCrossing crossings e
     → slot < 4 → is_triangle crossings c d e slot ≡ true
     → IsTriangle crossings (dart_at_slot c slot) (step crossings (dart_at_slot c slot))
@@ -80,9 +77,6 @@ has_heights-slot crossings c d e slot found =
 pub IsTriangleAt-is : (crossings : List (List ℕ)) (c d e slot : ℕ) → IsCrossing crossings c → IsCrossing crossings d
     → IsCrossing crossings e → slot < 4 → is_triangle crossings c d e slot ≡ true → IsTriangleAt crossings c d e slot
 IsTriangleAt-is crossings c d e slot is_c is_d is_e below holds = grind (arith, nat_tests)
-
-numbers-differ : (c d : ℕ) → place_of c ≢ place_of d → not (nat_eq c d) ≡ true
-numbers-differ c d apart = ap not (ne_eqb c d (λ same. apart (ap place_of same)))
 
 pub is_triangle-at : (crossings : List (List ℕ)) (c d e slot : ℕ) → slot < 4 → IsTriangleAt crossings c d e slot
     → is_triangle crossings c d e slot ≡ true

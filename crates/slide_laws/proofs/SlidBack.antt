@@ -96,10 +96,6 @@ open_faces-same n partner x y z pairing sides =
 
 -- pieces
 
-crossing_x : (value : ℕ → ℕ) (x y z : ℕ) → value (x / 4) ≡ value (y / 4) → value (x / 4) ≡ value (z / 4) → (j : ℕ) → j < 4
-    → value (source x y z (on x j) / 4) ≡ value (on x j / 4)
-crossing_x value x y z same_y same_z j has7 = grind (arith, nat_tests)
-
 crossing-source : (value : ℕ → ℕ) (x y z : ℕ) → AreApart x y z → value (x / 4) ≡ value (y / 4) → value (y / 4) ≡ value (z / 4)
     → (place : ℕ) → value (source x y z place / 4) ≡ value (place / 4)
 crossing-source value x y z apart x_y y_z place = grind (arith, nat_tests)

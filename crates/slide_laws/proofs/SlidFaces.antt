@@ -204,9 +204,6 @@ IsOnFaces-open_faces n partner pairing place below =
     (classes-together (4 * n) (map (face_pair partner) (range_with_len 0 (4 * n))) (face_pairs-below n partner pairing))
     (omega arith) (omega (arith, below))
 
-face_of-below_x : (n x y z : ℕ) → x < 4 * n → y < 4 * n → z < 4 * n → (j : ℕ) → j < 4 → face_of x y z (on x j) < 4 * n
-face_of-below_x n x y z x_below y_below z_below j below = grind (arith, nat_tests)
-
 face_of-below : (n x y z : ℕ) → AreApart x y z → x < 4 * n → y < 4 * n → z < 4 * n → (place : ℕ) → place < 4 * n
     → face_of x y z place < 4 * n
 face_of-below n x y z apart x_below y_below z_below place has9 = grind (arith, nat_tests)

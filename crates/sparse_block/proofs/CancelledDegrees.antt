@@ -9,11 +9,6 @@ use Rattle.std.proofs.lemmas.Int.{ints}
 use Rattle.kh_types.specs.Complex.{Complex, Degree, Pivot, empty_degree, degree_from, degree_of, without_place, without_row, without_column, cancelled_matrix, cancelled_degree, cancel}
 use Rattle.kh_types.proofs.Integers.{int_eq-other, int_eq-same}
 
--- a degree without places stays without them
-chosen-empty : (first second third : Bool) (a b c d : Degree) → a ≡ empty_degree → b ≡ empty_degree → c ≡ empty_degree
-    → d ≡ empty_degree → (if first then a else if second then b else if third then c else d) ≡ empty_degree
-chosen-empty first second third a b c d in_a in_b in_c in_d = grind (arith, nat_tests)
-
 cancelled_degree-empty : (p : ℕ) (pivot : Pivot) (i : ℤ) → cancelled_degree p pivot i empty_degree ≡ empty_degree
 cancelled_degree-empty p pivot i = grind (arith, nat_tests)
 
@@ -69,9 +64,6 @@ degree-before_pivot p complex pivot i here =
 pub degree-elsewhere : (p : ℕ) (complex : Complex) (pivot : Pivot) (i : ℤ) → i ≢ pivot.degree → i ≢ pivot.degree +ℤ pos 1
     → i +ℤ pos 1 ≢ pivot.degree → degree_of (cancel p complex pivot) i ≡ degree_of complex i
 degree-elsewhere p complex pivot i not_pivot not_after not_before = grind (arith, nat_tests, degree_of-cancel, cond-false, int_eq-other)
-
-cases_int : (i j : ℤ) → (i ≡ j) ⊎ (i ≢ j)
-cases_int i j = grind (arith, nat_tests)
 
 -- where a degree is, seen from the pivot's
 pub data Where (i pivot : ℤ) : Type 0 where

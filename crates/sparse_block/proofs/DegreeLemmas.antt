@@ -1,6 +1,6 @@
 -- The degrees of a complex whose matrices the entries of columns denote, by their distance from the least one.
 use Rattle.std.proofs.lemmas.Bool.Decides.{nat_tests}
-use Rattle.std.proofs.Common.{◌≡◌, ℕ, ◌<◌, ◌≤◌, ◌∙◌, List, [], ℤ, pos, ◌+ℤ◌, ◌-ℤ◌, ◌<ℤ◌, length, map, get_or, ap, sym, arith, Bool}
+use Rattle.std.proofs.Common.{◌≡◌, ℕ, ◌<◌, ◌≤◌, ◌∙◌, List, [], ℤ, pos, ◌+ℤ◌, ◌-ℤ◌, length, map, get_or, ap, sym, arith, Bool}
 use Rattle.std.specs.Prelude.{slice_index_or}
 use Rattle.std.proofs.Math.ListN as plain
 use Rattle.std.proofs.lemmas.Bool.Decides.{leb_tells}
@@ -33,10 +33,6 @@ pub degree_of-at : (low i : ℤ) (alive : List (List Bool)) (columns : List (Lis
 degree_of-at low i alive columns k is_distance =
     let distance : i -ℤ low ≡ pos k = omega (arith, ints) in
     ap (degree_from (complex_from low alive columns)) distance ∙ degree_number-from low alive columns k
-
-pub degree_of-below : (low i : ℤ) (alive : List (List Bool)) (columns : List (List (List Entry))) → i <ℤ low
-    → degree_of (complex_from low alive columns) i ≡ empty_degree
-degree_of-below low i alive columns below = grind (arith, nat_tests)
 
 -- lists of the same lengths
 pub length-at : {X Y : Type 0} (xs : List (List X)) (ys : List (List Y)) (k : ℕ) → map length xs ≡ map length ys

@@ -72,11 +72,6 @@ pub distance-from : (low i : ℤ) (k : ℕ) → FitsSigned w16 low → FitsSigne
     → to_z w16 (of_z w16 i) ≡ to_z w16 (of_z w16 low) +ℤ pos k → i ≡ low +ℤ pos k
 distance-from low i k low_fits i_fits is_distance = omega (arith, ints)
 
--- a degree from the least one on, as signed numbers
-pub distance-may : (low i : ℤ) → FitsSigned w16 low → FitsSigned w16 i → low ≤ℤ i
-    → to_z w16 (of_z w16 low) ≤ℤ to_z w16 (of_z w16 i)
-distance-may low i low_fits i_fits from = omega (arith, ints)
-
 -- what contracts see of a complex in memory
 abbrev pub IsSeen : ℤ → List (List Generator) → List (List Bool) → List (List (List Entry)) → NamedComplex → Type 0
 IsSeen low names alive columns named =

@@ -4,7 +4,7 @@
 -- goes on by one and an entry at it is read. So the value in front is that of the whole list at the bound, and in between all
 -- values are 0. While one of the lists has an entry left, a step leaves fewer entries in both together, also by the indices of
 -- both lists: so the loops end.
-use Rattle.std.proofs.Common.{◌≡◌, ℕ, ◌+◌, ◌<◌, ◌≤◌, ◌∙◌, ◌⊎◌, List, ◌∷◌, length, drop, min, refl, ap, sym, subst, arith, ◌-◌}
+use Rattle.std.proofs.Common.{◌≡◌, ℕ, ◌+◌, ◌<◌, ◌≤◌, ◌∙◌, ◌⊎◌, List, length, drop, refl, ap, sym, subst, arith, ◌-◌}
 use Rattle.std.proofs.lemmas.Bool.Decides.{eqb_tells, nat_tests}
 use Rattle.std.proofs.lemmas.List.{length-drop}
 use Rattle.sparse_block.specs.Entries.{Entry, AreEntries, value_at}
@@ -13,24 +13,6 @@ use Rattle.sparse_block.proofs.EntryLemmas.{value_at-here, value_at-later, value
 use Rattle.sparse_block.specs.LinePairs.{first_place_of, rest_after, value_first}
 
 -- the first place of both
-
-pub min-left : (m n : ℕ) → min m n ≤ m
-min-left m n = grind (arith, nat_tests)
-
-pub min-right : (m n : ℕ) → min m n ≤ n
-min-right m n = grind (arith, nat_tests)
-
-min-above : (a m n : ℕ) → a ≤ m → a ≤ n → a ≤ min m n
-min-above a m n left right = grind (arith, nat_tests)
-
-pub min-either : (m n : ℕ) → (m ≡ min m n) ⊎ (n ≡ min m n)
-min-either m n = grind (arith, nat_tests)
-
-ascend-first_left : (p a b : ℕ) (xs ys : List Entry) → Ascend p a b xs → Ascend p (first_place_of xs ys) b xs
-ascend-first_left p a b xs ys ascend = grind (arith, nat_tests)
-
-ascend-first_right : (p a b : ℕ) (xs ys : List Entry) → Ascend p a b ys → Ascend p (first_place_of xs ys) b ys
-ascend-first_right p a b xs ys ascend = grind (arith, nat_tests)
 
 -- there is an entry left
 abbrev pub HasMore : List Entry → List Entry → Type 0
@@ -43,19 +25,6 @@ bound-first p q a b c xs ys more left right = grind (arith, nat_tests)
 
 value_first-value : (p a b : ℕ) (xs : List Entry) → Ascend p a b xs → value_first xs a ≡ value_at xs a
 value_first-value p a b xs ascend = grind (arith, nat_tests, eqb_tells, value_at-here, value_at-later, value_at-before)
-
-ascend-rest_after : (p a b : ℕ) (xs : List Entry) → Ascend p a b xs → Ascend p (a + 1) b (rest_after xs a)
-ascend-rest_after p a b xs ascend = grind (arith, nat_tests)
-
-value_at-rest_after : (a k : ℕ) (xs : List Entry) → a < k → value_at (rest_after xs a) k ≡ value_at xs k
-value_at-rest_after a k xs later = grind (arith, nat_tests)
-
-length-rest_after : (place : ℕ) (xs : List Entry) → length (rest_after xs place) ≤ length xs
-length-rest_after place xs = grind (arith, nat_tests)
-
-shorter-rest_after : (place : ℕ) (x : Entry) (xs : List Entry) → x.place ≡ place
-    → length (rest_after (x ∷ xs) place) < length (x ∷ xs)
-shorter-rest_after place x xs same = grind (arith, nat_tests)
 
 pub shorter-rests : (xs ys : List Entry) → HasMore xs ys
     → length (rest_after xs (first_place_of xs ys)) + length (rest_after ys (first_place_of xs ys)) < length xs + length ys

@@ -5,7 +5,7 @@
 -- others stay. Then what `drop_pair` asks of a pivot: to be alone in its column, as in the first complex, or in its row, as in
 -- the one with a middle. All of it is found by computing with the numbers given.
 use Rattle.std.proofs.lemmas.Bool.Decides.{nat_tests}
-use Rattle.std.proofs.Common.{◌≡◌, ◌≢◌, ℕ, ◌<◌, ◌^◌, ◌⊎◌, List, [], ◌∷◌, ℤ, pos, ◌+ℤ◌, neg_ℤ, refl, sym, subst₂, length, map, arith}
+use Rattle.std.proofs.Common.{◌≡◌, ℕ, ◌<◌, ◌^◌, ◌⊎◌, List, [], ◌∷◌, ℤ, pos, ◌+ℤ◌, neg_ℤ, refl, sym, subst₂, length, map, arith}
 use Rattle.std.specs.Prelude.{All}
 use Rattle.std.specs.List.{AllByRecursion}
 use Rattle.std.specs.Global.{Vec}
@@ -14,28 +14,17 @@ use Rattle.smallvec.specs.SmallVec.{SmallVec}
 use Rattle.kh_types.specs.Complex.{IsComplex, IsPivot, Pivot, cancel, pivot_at}
 use Rattle.kh_types.specs.Generators.{Generator, generator_of}
 use Rattle.kh_types.proofs.ComplexLemmas.{complex-from_test}
-use Rattle.sparse_block.specs.Changes.{Exchange, AreChanged, placed}
-use Rattle.sparse_block.specs.Entries.{Entry, AreEntries, entry_at, entries_of}
+use Rattle.sparse_block.specs.Changes.{Exchange, AreChanged}
+use Rattle.sparse_block.specs.Entries.{Entry, entries_of}
 use Rattle.sparse_block.specs.Complexes.{HaveEntries, NamedComplex, SquaresToZero, column_of, place_count, row_of, sparse_complex}
 use Rattle.sparse_block.specs.Inside.{lists_in, lines_in, entries_in}
 use Rattle.sparse_block.specs.Worked.{worked_names, worked_columns, worked_complex, worked_change, middle_names, middle_columns, middle_complex, middle_change}
-use Rattle.sparse_block.proofs.AscendingLemmas.{entries-from_ascend}
 
 pub worked-three : IsComplex 3 (worked_complex 2 1 1).complex
 worked-three = complex-from_test 3 (worked_complex 2 1 1).complex (omega arith) refl
 
 pub worked-five : IsComplex 5 (worked_complex 2 3 1).complex
 worked-five = complex-from_test 5 (worked_complex 2 3 1).complex (omega arith) refl
-
--- an entry of the second matrix
-one-entry : (p x : ℕ) → 0 < x → x < p → AreEntries p 1 (entry_at (0, x) ∷ [])
-one-entry p x positive below = entries-from_ascend p 0 1 (entry_at (0, x) ∷ []) (omega arith, omega arith, positive, below, tt)
-
-left-entries : (p : ℕ) → 2 < p → AreEntries p 3 (entry_at (0, 1) ∷ entry_at (1, 1) ∷ [])
-left-entries p above = grind (arith, nat_tests)
-
-right-entries : (p : ℕ) → 2 < p → AreEntries p 3 (entry_at (1, 1) ∷ entry_at (2, 2) ∷ [])
-right-entries p above = grind (arith, nat_tests)
 
 pub worked-entries : (p x y z : ℕ) → 2 < p → 0 < x → x < p → 0 < y → y < p → 0 < z → z < p
     → HaveEntries p worked_names (worked_columns x y z)
@@ -88,23 +77,11 @@ point_names = (generator_of 0 0 ∷ []) ∷ []
 abbrev pub point_columns : List (List (List Entry))
 point_columns = ([] ∷ []) ∷ []
 
-point-entries : (p : ℕ) → HaveEntries p point_names point_columns
-point-entries p = grind (arith, nat_tests)
-
-point-complex : IsComplex 3 (sparse_complex (pos 7) point_names point_columns).complex
-point-complex = complex-from_test 3 (sparse_complex (pos 7) point_names point_columns).complex (omega arith) refl
-
 pub point-build : (names : List (List Generator)) (columns : List (List (List Entry))) → names ≡ point_names
     → columns ≡ point_columns → CanBuild 3 (pos 7) names columns
 point-build names columns are_names are_columns = grind (arith, nat_tests)
 
 -- the complex with a middle
-
-middle-five : IsComplex 5 middle_complex.complex
-middle-five = complex-from_test 5 middle_complex.complex (omega arith) refl
-
-middle-entries : HaveEntries 5 middle_names middle_columns
-middle-entries = grind (arith, nat_tests)
 
 pub middle-build : (names : List (List Generator)) (columns : List (List (List Entry))) → names ≡ middle_names
     → columns ≡ middle_columns → CanBuild 5 (neg_ℤ (pos 1)) names columns
@@ -117,51 +94,6 @@ pub record CanExchange (p : ℕ) (named : NamedComplex) (change : Exchange) : Ty
       (column_of (cancel p named.complex change.pivot) change.pivot.degree) change.columns
   pub rows : AreChanged (place_count named.complex (change.pivot.degree +ℤ pos 1)) (row_of named.complex change.pivot.degree)
       (row_of (cancel p named.complex change.pivot) change.pivot.degree) change.rows
-
--- the first of two lines are named, and all others stay
-two-changed : (size first second : ℕ) (before after : ℕ → List ℕ) (a b : List Entry) → first < size → second < size
-    → a ≡ entries_of (after first) → b ≡ entries_of (after second)
-    → ((place : ℕ) → place ≢ first → place ≢ second → before place ≡ after place)
-    → AreChanged size before after (placed first a ∷ placed second b ∷ [])
-two-changed size first second before after a b first_within second_within is_a is_b others = grind (arith, nat_tests)
-
-worked-columns_stay : (place : ℕ) → place ≢ 1 → place ≢ 4
-    → column_of (worked_complex 2 3 1).complex (neg_ℤ (pos 1)) place
-    ≡ column_of (cancel 5 (worked_complex 2 3 1).complex worked_change.pivot) (neg_ℤ (pos 1)) place
-worked-columns_stay place first second = grind (arith, nat_tests)
-
-worked-rows_stay : (place : ℕ) → place ≢ 1 → place ≢ 2
-    → row_of (worked_complex 2 3 1).complex (neg_ℤ (pos 1)) place
-    ≡ row_of (cancel 5 (worked_complex 2 3 1).complex worked_change.pivot) (neg_ℤ (pos 1)) place
-worked-rows_stay place first second = grind (arith, nat_tests)
-
-middle-columns_stay : (place : ℕ) → place ≢ 0 → place ≢ 1
-    → column_of middle_complex.complex (pos 0) place
-    ≡ column_of (cancel 5 middle_complex.complex middle_change.pivot) (pos 0) place
-middle-columns_stay place first second = grind (arith, nat_tests)
-
-middle-rows_stay : (place : ℕ) → place ≢ 0 → place ≢ 1
-    → row_of middle_complex.complex (pos 0) place
-    ≡ row_of (cancel 5 middle_complex.complex middle_change.pivot) (pos 0) place
-middle-rows_stay place first second = grind (arith, nat_tests)
-
-worked-exchange : CanExchange 5 (worked_complex 2 3 1) worked_change
-worked-exchange =
-    let before = (worked_complex 2 3 1).complex in
-    let after = cancel 5 before worked_change.pivot in
-    record {
-      pivot = λ none. omega (arith, none);
-      columns =
-          two-changed 6 1 4 (column_of before (neg_ℤ (pos 1))) (column_of after (neg_ℤ (pos 1))) [] [] (omega arith) (omega arith)
-          refl refl worked-columns_stay;
-      rows =
-          two-changed 3 1 2 (row_of before (neg_ℤ (pos 1))) (row_of after (neg_ℤ (pos 1)))
-          (entry_at (0, 1) ∷ entry_at (2, 1) ∷ entry_at (3, 1) ∷ entry_at (5, 1) ∷ []) [] (omega arith) (omega arith) refl refl
-          worked-rows_stay;
-    }
-
-middle-exchange : CanExchange 5 middle_complex middle_change
-middle-exchange = grind (arith, nat_tests)
 
 pub worked-can_exchange : (named : NamedComplex) (change : Exchange) → named ≡ worked_complex 2 3 1 → change ≡ worked_change
     → CanExchange 5 named change

@@ -3,7 +3,7 @@
 -- The coefficient of the definition compares labels by lists of circles that the crossing touches, before and after. On a merge two circles
 -- are touched before and one after (EdgeNames), so that the lists have two and one entries, and the tables of labels decide; on a split the
 -- other way round. All circles that are not touched keep name and label.
-use Rattle.std.proofs.Common.{◌≡◌, ◌≢◌, ℕ, ◌+◌, ◌<◌, ◌≤◌, ◌∙◌, ◌⊎◌, inl, inr, List, [], ◌∷◌, map, sym, ap, ap₂, subst, arith, Bool, true, false, ◌&&◌, ◌||◌, IsTrue}
+use Rattle.std.proofs.Common.{◌≡◌, ◌≢◌, ℕ, ◌+◌, ◌≤◌, ◌∙◌, ◌⊎◌, inl, inr, List, [], ◌∷◌, map, sym, ap, ap₂, subst, arith, Bool, true, false, ◌&&◌, ◌||◌, IsTrue}
 use Rattle.std.specs.Prelude.{nat_eq, min, max}
 use Rattle.std.specs.Bool.{Decides}
 use Rattle.std.specs.List.{Contains}
@@ -29,11 +29,6 @@ use Rattle.square_laws.proofs.SquareKinds.{IsOn, circle-on}
 use Rattle.square_laws.proofs.Marks.{IsOff, on_or_off}
 use Rattle.square_laws.proofs.LabelNumbers.{IsName-name_at, circle-name_at, name_at}
 use Rattle.square_laws.proofs.EdgeMarks.{IsChange, label_at, label_of-circle, label_of-le}
-
--- the circle of an arc at a slot is touched
-is_touched-slot : (code : Code) (state crossing slot circle : ℕ) → slot < 4 → circle_at_slot code state crossing slot ≡ circle
-    → is_touched code state crossing circle ≡ true
-is_touched-slot code state crossing slot circle below is = grind (arith, nat_tests)
 
 -- where a circle is touched it is among those that are
 Contains-touched : (code : Code) (state crossing circle : ℕ) → IsCircle code state circle → is_touched code state crossing circle ≡ true

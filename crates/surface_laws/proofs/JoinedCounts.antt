@@ -55,9 +55,6 @@ pub term-lesser : (u v z w : ℕ) → u ≢ v
     → cond (nat_eq (merged u v z) (min u v)) w 0 ≡ cond (nat_eq z u) w 0 + cond (nat_eq z v) w 0
 term-lesser u v z w apart = grind (arith, nat_tests)
 
-pub merged-second : (u v : ℕ) → merged u v v ≡ min u v
-merged-second u v = grind (arith, nat_tests)
-
 -- the sum of some amounts over what lies on a component
 abbrev pub amount_at : {X : Type 0} → Surface → ℕ → (X → ℕ) → (X → ℕ) → X → ℕ
 amount_at surface component place amount x = cond (nat_eq (component_of surface (place x)) component) (amount x) 0

@@ -224,9 +224,6 @@ trimmed p column at d within once none =
       column = λ n is. column-remove p n column at within is;
     }
 
-pub trimmed-none : (p : ℕ) (column : List Entry) → IsTrimmed p column column
-trimmed-none p column = record { terms = λ z. refl; heads = λ z has. has; column = λ n is. is }
-
 -- one more entry
 
 pub push-here : (column : List Entry) (e : Entry) → (HasHead column e.head → ⊥) → terms_to (column ++ e ∷ []) e.head ≡ e.terms.items

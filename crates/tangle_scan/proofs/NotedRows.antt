@@ -92,16 +92,6 @@ changed-if Next MayBe p y old new holds is =
       column = is.column;
     }
 
-pub changed-not : (Next : List Term → List Term → Type 0) (MayBe : Type 0) (p y : ℕ) (column : List Entry) → (MayBe → ⊥)
-    → IsChanged (λ first second. MayBe → Next first second) MayBe p y column column
-changed-not Next MayBe p y column never =
-    record {
-      here = λ holds. absurd (never holds);
-      others = λ z other. refl;
-      heads = λ z has. inl has;
-      column = λ n below is. is;
-    }
-
 -- whether the object at a place is there, as it is read
 pub alive-read : (objects : List Object) (x : ℕ) (object : Object) → x < length objects → object ≡ get_or objects x object
     → is_alive_at objects x ≡ object.is_alive

@@ -1,7 +1,7 @@
 -- Eliminations one after another: steps that lead on, and objects that get fewer.
 use Rattle.std.proofs.Common.{◌≡◌, ℕ, ◌<◌, ◌∙◌, List, [], ◌∷◌, ◌++◌, length, refl, sym, subst, ap, arith, Result, Ok, Err}
 use Rattle.std.specs.Prelude.{All, IfOk}
-use Rattle.std.specs.List.{Contains, sum_by}
+use Rattle.std.specs.List.{sum_by}
 use Rattle.std.specs.Global.{Vec}
 use Rattle.std.proofs.lemmas.List.Elements.{All-weaker}
 use Rattle.std.proofs.lemmas.List.Sums.{sum_by-cons}
@@ -14,7 +14,7 @@ use Rattle.tangle_scan.specs.declared.complex.TangleComplex.{TangleComplex}
 use Rattle.tangle_scan.specs.declared.front.Front.{Front}
 use Rattle.tangle_scan.specs.declared.rows.Rowed.{Rowed}
 use Rattle.tangle_scan.specs.Held.{IsColumn, IsComplexAt, alive_places, scan_at}
-use Rattle.tangle_scan.specs.Eliminations.{AllHaveDots, HasHead, HasOneEach, IsIndexed, IsRowed, IsRowedFrom, column_in, named_in}
+use Rattle.tangle_scan.specs.Eliminations.{HasOneEach, IsIndexed, IsRowed, IsRowedFrom}
 
 steps-both : (p : ℕ) (code : Code) (scan : Scan) (first second : List Scan) → AreSteps p code scan first
     → AreSteps p code (last_of scan first) second → AreSteps p code scan (first ++ second)
@@ -94,24 +94,6 @@ heads-read p front complex seen is read =
     (All-weaker (λ (c : Vec Entry). IsColumn p (length complex.objects.items) c.items)
     (λ (c : Vec Entry). All (λ (e : Entry). e.head < length complex.objects.items) c.items) (λ c column. column.heads)
     complex.columns.items is.columns))
-
--- a complex with rows that were made
-pub rowed-start : (p : ℕ) (front : Front) (rowed : Rowed) (seen : List (Vec Entry)) → IsComplexAt p front rowed.complex
-    → AllHaveDots front.diagram (scan_at front rowed.complex) → seen ≡ rowed.complex.columns.items
-    → length rowed.rows.items ≡ length seen
-    → ((x : ℕ) → x < length seen → (y : ℕ) → HasHead (column_in seen x) y → Contains (named_in rowed.rows.items y) x)
-    → IsRowed p front rowed
-rowed-start p front rowed seen is dots read size noted =
-    record {
-      complex = is;
-      dots = dots;
-      rows = record {
-        size = size ∙ ap length read ∙ is.size;
-        noted = λ x below y alive has.
-            noted x (omega (arith, below, ap length read, is.size)) y
-            (subst (λ (columns : List (Vec Entry)). HasHead (column_in columns x) y) (sym read) has);
-      };
-    }
 
 -- what an elimination gives, unless memory runs out
 pub from-eliminated : {E : Type 0} (p : ℕ) (front : Front) (rowed : Rowed) (result : Result Rowed E)

@@ -1,18 +1,18 @@
 -- One object more in tallies, and what the objects of a scan count by theirs.
-use Rattle.std.proofs.Common.{◌≡◌, ℕ, ◌+◌, ◌*◌, ◌<◌, ◌≤◌, ◌∙◌, List, [], ◌∷◌, ◌++◌, ℤ, pos, length, get_or, take, refl, sym, ap, ap₂, arith, Bool, true, false, cond}
+use Rattle.std.proofs.Common.{◌≡◌, ℕ, ◌+◌, ◌*◌, ◌<◌, ◌≤◌, ◌∙◌, List, [], ◌∷◌, ◌++◌, ℤ, pos, length, get_or, refl, sym, ap, ap₂, arith, Bool, true, false, cond}
 use Rattle.std.specs.Prelude.{slice_set}
 use Rattle.std.specs.List.{range_with_len, sum_by}
 use Rattle.std.proofs.lemmas.Bool.{and_parts, eqb-true}
 use Rattle.std.proofs.lemmas.Bool.Decides.{Decides-int_eq}
 use Rattle.std.proofs.lemmas.List.{get_or-map}
-use Rattle.std.proofs.lemmas.List.Sums.{get_or-le-sum_by, sum_by-cons, sum_by-set, sum_by_more, sum_by_push}
+use Rattle.std.proofs.lemmas.List.Sums.{sum_by-cons, sum_by-set, sum_by_push}
 use Rattle.kh_types.proofs.ListSums.{sum_by-filter, sum_by-places, sum_by-range_alike}
 use Rattle.scan_laws.specs.Scans.{first_object}
 use Rattle.scan_laws.specs.Scans as scans
 use Rattle.tangle_scan.specs.declared.object.Object.{Object}
 use Rattle.tangle_scan.specs.declared.tally.Tally.{Tally}
 use Rattle.tangle_scan.specs.Held.{alive_places, is_alive_at, object_at, object_of}
-use Rattle.tangle_scan.specs.Tallies.{AreTallies, IsTallied, IsTalliedWith, count_at, is_tally_of, object_value, once, raised, tallied, tally_of, tally_value}
+use Rattle.tangle_scan.specs.Tallies.{AreTallies, IsTallied, count_at, is_tally_of, object_value, once, raised, tallied, tally_of, tally_value}
 
 -- a tally with another degree and shift than any that is counted
 abbrev pub no_tally : Tally
@@ -52,18 +52,6 @@ few-objects (object ∷ objects) =
 
 pub tallied-few : (objects : List Object) (tallies : List Tally) → AreTallies objects tallies → tallied once tallies ≤ length objects
 tallied-few objects tallies are = omega (arith, are once, few-objects objects)
-
-pub count-few : (tallies : List Tally) (place : ℕ) → place < length tallies
-    → (get_or tallies place no_tally).count ≤ tallied once tallies
-count-few tallies place below = omega (arith, get_or-le-sum_by (tally_value once) tallies place no_tally below)
-
--- one object more
-pub tallies-more : (objects : List Object) (k : ℕ) (object : Object) (old new : List Tally) → k < length objects
-    → get_or objects k object ≡ object → AreTallies (take k objects) old → IsTalliedWith object old new
-    → AreTallies (take (k + 1) objects) new
-tallies-more objects k object old new below is are more value =
-    more value ∙ ap₂ (λ (a b : ℕ). a + b) (are value) (ap (object_value value) (sym is))
-    ∙ sym (sum_by_more (object_value value) objects k object below)
 
 -- what the objects that are there count
 module _ (loops plus minus : ℕ) (opened : List ℕ) (i j : ℤ) where

@@ -1,5 +1,5 @@
 -- Lines that are done, and those behind them.
-use Rattle.std.proofs.Common.{◌≡◌, ℕ, suc, ◌+◌, ◌<◌, List, [], ◌∷◌, ◌++◌, length, take, drop, Some, None, Result, Ok, Err, refl, sym, ◌∙◌, ap, ap₂, arith, get_or, drop-cons, take_all}
+use Rattle.std.proofs.Common.{◌≡◌, ℕ, suc, ◌+◌, ◌<◌, List, [], ◌∷◌, ◌++◌, length, take, drop, Some, None, Result, Ok, Err, sym, ◌∙◌, ap, ap₂, arith, get_or, drop-cons, take_all}
 use Rattle.std.proofs.lemmas.List.{take_more, take-append-drop}
 use Rattle.undo_stack.specs.declared.edit_line.EditLine.{EditLine}
 use Rattle.undo_stack.specs.declared.edit_run.EditFault.{EditFault}
@@ -27,10 +27,6 @@ edited_from-append count (line ∷ first) more history now done is =
 -- the lines before a place are done, and have led from one history to another
 pub record AreDone (lines : List EditLine) (place : ℕ) (first now : History) : Type 0 where
   pub outcome : edited (take place lines) first ≡ edit_outcome now place None
-
--- before the first line
-pub AreDone-begin : (lines : List EditLine) (first : History) → AreDone lines 0 first first
-AreDone-begin lines first = record { outcome = refl }
 
 -- one more line
 pub AreDone-line : (lines : List EditLine) (place : ℕ) (first now next : History) (line : EditLine)

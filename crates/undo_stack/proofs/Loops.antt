@@ -1,7 +1,5 @@
 -- What the loops keep, from one piece of a text to the next.
 use Rattle.std.proofs.Common.{◌≡◌, ℕ, ◌+◌, ◌<◌, ◌≤◌, List, [], ◌++◌, length, drop, Option, Result, Ok, Err, refl, sym, ◌∙◌, ap, arith, append_assoc}
-use Rattle.std.proofs.Math.ListN.{drop_of_length-le}
-use Rattle.std.proofs.lemmas.List.{append-nil}
 use Rattle.undo_stack.specs.declared.stop.ScriptStop.{ScriptStop}
 use Rattle.kh_lex.specs.Lines.{is_line_feed, lines_of}
 use Rattle.kh_lex.specs.LineWords.{words_of}
@@ -23,10 +21,6 @@ pub record IsRead {T : Type 0} (meaning : List (List ℕ) → Option T) (text : 
     (commands : List (ℕ × T)) : Type 0 where
   pub whole : led_by commands (commands_from meaning number (lines_of (drop place text))) ≡ commands_from meaning 1 (lines_of text)
   pub few : number ≤ place + 1
-
--- before the first line
-pub IsRead-begin : {T : Type 0} (meaning : List (List ℕ) → Option T) (text : List ℕ) → IsRead meaning text 0 1 []
-IsRead-begin meaning text = record { whole = led_by-none (commands_from meaning 1 (lines_of text)); few = omega arith }
 
 -- what the lines from a place on give
 commands_from-at : {T : Type 0} (meaning : List (List ℕ) → Option T) (text line : List ℕ) (place number : ℕ)
@@ -60,10 +54,3 @@ pub commands_from-wrong : {T : Type 0} (meaning : List (List ℕ) → Option T) 
     → IsRead meaning text place number commands → commands_from meaning 1 (lines_of text) ≡ Err stop
 commands_from-wrong meaning text line place number commands stop left is_line is_command so_far =
     sym so_far.whole ∙ ap (led_by commands) (commands_from-at meaning text line place number (Err stop) left is_line is_command)
-
--- nothing is left
-pub commands_from-end : {T : Type 0} (meaning : List (List ℕ) → Option T) (text : List ℕ) (place number : ℕ) (commands : List (ℕ × T))
-    → length text ≤ place → IsRead meaning text place number commands → commands_from meaning 1 (lines_of text) ≡ Ok commands
-commands_from-end meaning text place number commands end so_far = sym so_far.whole
-    ∙ ap (λ rest. led_by commands (commands_from meaning number (lines_of rest))) (drop_of_length-le text end)
-    ∙ ap Ok (append-nil commands)

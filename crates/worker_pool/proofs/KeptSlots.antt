@@ -19,17 +19,6 @@ if-some : {X : Type 0} (P Q : X → Type 0) (found : Option X) → ((x : X) → 
 if-some P Q None implies holds = tt
 if-some P Q (Some x) implies holds = implies x holds
 
--- no slot has been taken yet
-pub stand_none : {F : Type 0} (slots : List (Option (DoneBlock F))) (done : Finished F) → done.blocks.items ≡ [] → done.committed.items ≡ []
-    → StandTo 0 slots slots done
-stand_none slots done blocks counts =
-    record {
-      stand = λ at below. absurd (omega (arith, below));
-      rest = λ at from. refl;
-      blocks = ap length blocks;
-      counts = ap length counts;
-    }
-
 -- an item of a list, where one more stands behind it
 kept_before : {X : Type 0} (xs all : List X) (x d : X) (k : ℕ) → all ≡ xs ++ x ∷ [] → k < length xs → get_or xs k d ≡ d → get_or all k d ≡ d
 kept_before {X} xs all x d k is below same = ap (λ (ys : List X). get_or ys k d) is ∙ get_or_append_left xs (x ∷ []) d k below ∙ same
@@ -93,8 +82,3 @@ pub taken_is_kept : {X : Type 0} (slots : List (Option X)) (place : ℕ) (x : X)
     → IfSome (get_or slots place None) (λ kept. x ≡ kept)
 taken_is_kept {X} slots place x below is =
     subst (λ slot. IfSome slot (λ (kept : X). x ≡ kept)) (is ∙ get_or_default slots place (Some x) None below) refl
-
--- and nothing where there was nothing
-pub nothing_is_kept : {X : Type 0} (slots : List (Option X)) (place : ℕ) (P : X → Type 0) → None ≡ get_or slots place None
-    → IfSome (get_or slots place None) P
-nothing_is_kept slots place P is = subst (λ slot. IfSome slot P) is tt
