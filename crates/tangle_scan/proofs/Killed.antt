@@ -14,8 +14,8 @@ use Rattle.cell_laws.proofs.Members.{Contains-first, Contains-kept, Contains-lat
 use Rattle.cell_laws.proofs.NoDoubles.{once-range, once-filter}
 use Rattle.cell_laws.proofs.CellLists.{contains-range}
 use Rattle.scan_laws.proofs.Possible.{others}
-use Rattle.tangle_scan.specs.declared.column.Entry.{Entry}
-use Rattle.tangle_scan.specs.declared.object.Object.{Object}
+use Rattle.tangle_scan.specs.declared.complex.Entry.{Entry}
+use Rattle.tangle_scan.specs.declared.complex.Object.{Object}
 use Rattle.tangle_scan.specs.Held.{alive_places, is_alive_at}
 use Rattle.tangle_scan.specs.Eliminations.{HasHead, IsKilled, killed}
 
