@@ -20,9 +20,9 @@ use Rattle.scan_laws.specs.Adding.{IsAdding, Origin, object_from}
 use Rattle.scan_laws.proofs.Origins.{IsOrigin, origin-from, origins-once}
 use Rattle.scan_laws.proofs.Possible.{no_origin, number_in, origin_in, origins-matched}
 use Rattle.tangle_scan.specs.declared.adding.Adding.{Adding}
-use Rattle.tangle_scan.specs.declared.column.Entry.{Entry}
+use Rattle.tangle_scan.specs.declared.complex.Entry.{Entry}
 use Rattle.tangle_scan.specs.declared.complex.TangleComplex.{TangleComplex}
-use Rattle.tangle_scan.specs.declared.object.Object.{Object}
+use Rattle.tangle_scan.specs.declared.complex.Object.{Object}
 use Rattle.tangle_scan.specs.Additions.{AreColumnsFrom, AreObjectsFrom, IsColumnFrom, IsObjectFrom, IsReady, StandsAt, all_origins, code_in, done_in, objects_in, scan_in, sets_from, targets_of}
 use Rattle.tangle_scan.specs.Held.{IsColumn, IsComplexAt, IsComplexBehind, RaisesDegree, alive_places, column_at, degree_at, is_alive_at, object_at, object_of, scan_behind, terms_between}
 use Rattle.tangle_scan.proofs.ZippedLists.{zip-all, zip-at, zip-equal, zip-length, zip-map}

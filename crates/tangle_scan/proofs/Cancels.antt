@@ -1,6 +1,6 @@
 -- One way that is taken off a column in memory: at an entry that is there, or as a new one.
-use Rattle.std.proofs.Common.{◌≡◌, ℕ, zero, suc, ◌<◌, ◌∙◌, List, [], ◌∷◌, get_or, set, length, sym, subst, subst₂, ap, arith, true, None, Some, Option}
-use Rattle.std.specs.Prelude.{All, IfSome}
+use Rattle.std.proofs.Common.{◌≡◌, ℕ, zero, suc, ◌<◌, ◌∙◌, List, [], ◌∷◌, get_or, set, length, sym, subst, subst₂, ap, arith, Bool, true, false, None, Some, Option, Result, Ok, Err}
+use Rattle.std.specs.Prelude.{All, IfOk, IfSome, OnOk}
 use Rattle.std.proofs.lemmas.List.{get_or-map}
 use Rattle.std.proofs.lemmas.List.Elements.{All-head, All-tail}
 use Rattle.dotted_maps.specs.declared.term.Term.{Term}
@@ -9,10 +9,12 @@ use Rattle.tangle_maps.specs.declared.way.Way.{Way}
 use Rattle.tangle_maps.specs.Pairings.{joins_of, opened_points, paired_arcs}
 use Rattle.tangle_maps.specs.Sums.{AreReduced, number_in}
 use Rattle.tangle_maps.specs.Ways.{IsCancelledAlong, IsMultiple, IsWay, joins_over, joins_to, points_on}
-use Rattle.tangle_scan.specs.declared.clearing.Turn.{Turn}
-use Rattle.tangle_scan.specs.declared.column.Entry.{Entry}
-use Rattle.tangle_scan.specs.declared.object.Object.{Object}
+use Rattle.tangle_scan.specs.declared.clearing.turns.Start.{Start}
+use Rattle.tangle_scan.specs.declared.clearing.turns.Turn.{Turn}
+use Rattle.tangle_scan.specs.declared.complex.Entry.{Entry}
+use Rattle.tangle_scan.specs.declared.complex.Object.{Object}
 use Rattle.tangle_scan.specs.Held.{is_alive_at, partners_at, terms_to}
+use Rattle.tangle_scan.specs.Clearings.{HasTakenWay}
 use Rattle.tangle_scan.specs.Eliminations.{HasHead, HasHeadsOf, HasOneEach, IsChanged, IsDottedTo, IsLess, IsLessOver, IsMultipleAt, IsThrough, IsTrimmed, IsTurn, head_at}
 use Rattle.tangle_scan.proofs.Columns.{column-set, heads-kept_set, once-heads, heads-set, terms-at, terms-none}
 use Rattle.tangle_scan.proofs.Ways.{changed-as, changed-trimmed, less-along}
@@ -143,3 +145,10 @@ less-changed p c turn x y z first second way old new same there through is =
     subst (λ (v : ℕ). IsChanged (IsLess p turn x z first second) (Unit {0}) p v old new) there
     (changed-as (IsCancelledAlong p c way) (IsLess p turn x z first second) p y old new
     (less-through p c turn x z first second way (terms_to old y) (terms_to new y) same through) is)
+
+-- and what is told of new heads
+pub taken-way : {E : Type 0} (p : ℕ) (turn : Turn) (start : Start) (entry : Entry) (old new : List Entry) (result : Result Bool E)
+    → OnOk result (IsChanged (IsLess p turn start.place entry.head start.first.now entry.terms.items) (Unit {0}) p entry.head old new)
+    → IfOk result (λ is_new. is_new ≡ false → HasHeadsOf old new) → IfOk result (HasTakenWay p turn start entry old new)
+taken-way p turn start entry old new (Ok is_new) changed same = record { changed = changed; same_heads = same }
+taken-way p turn start entry old new (Err e) changed same = tt

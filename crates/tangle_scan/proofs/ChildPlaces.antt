@@ -15,7 +15,7 @@ use Rattle.scan_laws.specs.Adding.{Origin, origin_of, origins_of, origins_with}
 use Rattle.crossing_maps.specs.declared.splitting.Split.{Split}
 use Rattle.tangle_scan.specs.declared.adding.Adding.{Adding}
 use Rattle.tangle_scan.specs.declared.adding.children.Child.{Child}
-use Rattle.tangle_scan.specs.declared.adding.successors.Successors.{Successors}
+use Rattle.tangle_scan.specs.declared.adding.Successors.{Successors}
 use Rattle.tangle_scan.specs.Additions.{HasSuccessors, IsSplitAt, MaySucceed, StandsAt, SucceedTo, all_origins, code_in, done_in, objects_in, origin_in, origins_to, scan_in}
 use Rattle.tangle_scan.specs.Held.{is_alive_at}
 use Rattle.tangle_scan.proofs.ZippedLists.{zip-at}

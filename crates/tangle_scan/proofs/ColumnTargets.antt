@@ -15,8 +15,8 @@ use Rattle.scan_laws.specs.Scans.{Scan, first_object, pairs_of}
 use Rattle.scan_laws.specs.Adding.{Origin, origin_of, origins_with}
 use Rattle.scan_laws.proofs.Origins.{is_same, origins-test}
 use Rattle.tangle_scan.specs.declared.adding.Adding.{Adding}
-use Rattle.tangle_scan.specs.declared.column.Entry.{Entry}
-use Rattle.tangle_scan.specs.declared.object.Object.{Object}
+use Rattle.tangle_scan.specs.declared.complex.Entry.{Entry}
+use Rattle.tangle_scan.specs.declared.complex.Object.{Object}
 use Rattle.tangle_scan.specs.Additions.{IsColumnFrom, IsEntryTo, all_origins, code_in, has_terms, head_of, objects_in, saddle_targets, scan_in, targets_along, targets_of}
 use Rattle.tangle_scan.specs.Held.{IsColumn, RaisesDegree, column_at, degree_at, has_head, is_alive_at, object_of}
 use Rattle.tangle_scan.proofs.ZippedLists.{count-filter, counts-once, once-count, zip-count}

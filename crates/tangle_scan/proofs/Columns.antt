@@ -17,7 +17,7 @@ use Rattle.kh_types.proofs.Lists.{count_by-map}
 use Rattle.cell_laws.proofs.Members.{Contains-cases, Contains-first, Contains-later}
 use Rattle.dotted_maps.specs.declared.term.Term.{Term}
 use Rattle.tangle_maps.specs.Sums.{AreReduced}
-use Rattle.tangle_scan.specs.declared.column.Entry.{Entry}
+use Rattle.tangle_scan.specs.declared.complex.Entry.{Entry}
 use Rattle.tangle_scan.specs.Held.{IsColumn, has_head, terms_to}
 use Rattle.tangle_scan.specs.Eliminations.{HasHead, HasHeadsOf, HasOneEach, IsChanged, IsTrimmed, head_at}
 

@@ -7,7 +7,7 @@ use Rattle.kh_types.specs.Table as tables
 use Rattle.kh_types.specs.Table.{Row}
 use Rattle.scan_laws.specs.Counts.{counted, counted_table}
 use Rattle.tangle_scan.specs.declared.complex.TangleComplex.{TangleComplex}
-use Rattle.tangle_scan.specs.declared.counted.Counted.{Counted}
+use Rattle.tangle_scan.specs.declared.finished.counting.Counted.{Counted}
 use Rattle.tangle_scan.specs.CountedRows.{IsCountedFor, all_rows_by, dims_of}
 use Rattle.tangle_scan.specs.Held.{scan_behind}
 use Rattle.tangle_scan.specs.Tallies.{count_at, tallied}

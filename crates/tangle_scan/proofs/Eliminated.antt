@@ -25,14 +25,14 @@ use Rattle.scan_laws.proofs.Possible.{no-head, no-tail, others, others-listed}
 use Rattle.tangle_maps.specs.Pairings.{joins_of, opened_points, paired_arcs}
 use Rattle.tangle_maps.specs.Sums.{AreReduced, number_in}
 use Rattle.tangle_maps.proofs.LawLemmas.{number-told}
-use Rattle.tangle_scan.specs.declared.clearing.Turn.{Turn}
-use Rattle.tangle_scan.specs.declared.column.Entry.{Entry}
+use Rattle.tangle_scan.specs.declared.clearing.turns.Turn.{Turn}
+use Rattle.tangle_scan.specs.declared.complex.Entry.{Entry}
 use Rattle.tangle_scan.specs.declared.complex.TangleComplex.{TangleComplex}
-use Rattle.tangle_scan.specs.declared.eliminating.Taken.{Taken}
-use Rattle.tangle_scan.specs.declared.front.Front.{Front}
-use Rattle.tangle_scan.specs.declared.object.Object.{Object}
-use Rattle.tangle_scan.specs.declared.pivots.Pivot.{Pivot}
-use Rattle.tangle_scan.specs.declared.rows.Rowed.{Rowed}
+use Rattle.tangle_scan.specs.declared.clearing.turns.Taken.{Taken}
+use Rattle.tangle_scan.specs.declared.complex.Front.{Front}
+use Rattle.tangle_scan.specs.declared.complex.Object.{Object}
+use Rattle.tangle_scan.specs.declared.clearing.pivots.Pivot.{Pivot}
+use Rattle.tangle_scan.specs.declared.clearing.rows.Rowed.{Rowed}
 use Rattle.tangle_scan.specs.Held.{AreObjects, IsColumn, IsComplexAt, IsFront, IsOpenAt, IsPivot, alive_places, column_at, degree_at, is_alive_at, object_at, object_of, partners_at, scan_at, terms_between, terms_to}
 use Rattle.tangle_scan.specs.Eliminations.{AreCleared, AreColumns, HasHead, HasRows, IsCleared, IsDottedTo, IsKilled, IsLess, IsNoted, IsRowed, IsTakenOut, IsTurn, IsTurnOf, column_in, head_at, killed}
 use Rattle.tangle_scan.proofs.Columns.{terms-at, terms-first, terms-later, terms-some}

@@ -20,9 +20,9 @@ use Rattle.scan_laws.specs.Steps.{IsReached, IsScanStep}
 use Rattle.scan_laws.proofs.Whole.{reached-first, reached-step}
 use Rattle.tangle_maps.specs.Pairings.{paired_arcs}
 use Rattle.tangle_maps.specs.Sums.{AreReduced, number_in}
-use Rattle.tangle_scan.specs.declared.column.Entry.{Entry}
+use Rattle.tangle_scan.specs.declared.complex.Entry.{Entry}
 use Rattle.tangle_scan.specs.declared.complex.TangleComplex.{TangleComplex}
-use Rattle.tangle_scan.specs.declared.object.Object.{Object}
+use Rattle.tangle_scan.specs.declared.complex.Object.{Object}
 use Rattle.tangle_scan.specs.Held.{HasNoPivot, IsColumn, IsComplexBehind, IsOpenAt, alive_places, column_at, degree_at, object_at, scan_behind, terms_between, terms_to}
 use Rattle.tangle_scan.specs.Scanned.{IsFirstComplex}
 

@@ -15,7 +15,7 @@ use Rattle.kh_types.specs.declared.limits.TheConstants.{EXPONENT}
 use Rattle.kh_types.proofs.Integers.{int_eq-same}
 use Rattle.kh_types.proofs.QuantumDegrees.{map-from_minus_agree, place-IsWithin}
 use Rattle.union_laws.specs.UnitedRows.{row_product}
-use Rattle.tangle_scan.specs.declared.grid.Grid.{Grid}
+use Rattle.tangle_scan.specs.declared.scanning.products.Grid.{Grid}
 use Rattle.tangle_scan.specs.CountedRows.{all_rows_by, row_by, rows_by}
 use Rattle.tangle_scan.specs.Grids.{AreRaised, HasRoom, dims_in, is_in, number_at, place_in}
 

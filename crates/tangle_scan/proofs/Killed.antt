@@ -13,8 +13,8 @@ use Rattle.cell_laws.specs.Alike.{HasNoDoubles}
 use Rattle.cell_laws.proofs.Members.{Contains-first, Contains-kept, Contains-later}
 use Rattle.cell_laws.proofs.NoDoubles.{once-range, once-filter}
 use Rattle.scan_laws.proofs.Possible.{others}
-use Rattle.tangle_scan.specs.declared.column.Entry.{Entry}
-use Rattle.tangle_scan.specs.declared.object.Object.{Object}
+use Rattle.tangle_scan.specs.declared.complex.Entry.{Entry}
+use Rattle.tangle_scan.specs.declared.complex.Object.{Object}
 use Rattle.tangle_scan.specs.Held.{alive_places, is_alive_at}
 use Rattle.tangle_scan.specs.Eliminations.{HasHead, IsKilled, killed}
 

@@ -27,8 +27,8 @@ use Rattle.scan_laws.proofs.Whole.{reached-stands}
 use Rattle.tangle_maps.specs.declared.pairing.TheConstants.{POINTS}
 use Rattle.tangle_maps.specs.Pairings.{is_paired, paired_arcs}
 use Rattle.tangle_maps.specs.Sums.{AreReduced, has_dots, number_in}
-use Rattle.tangle_scan.specs.declared.column.Entry.{Entry}
-use Rattle.tangle_scan.specs.declared.object.Object.{Object}
+use Rattle.tangle_scan.specs.declared.complex.Entry.{Entry}
+use Rattle.tangle_scan.specs.declared.complex.Object.{Object}
 use Rattle.tangle_scan.specs.Held.{HasNoPivot, IsColumn, column_at, has_head, is_alive_at, partners_at, terms_between, terms_to}
 use Rattle.tangle_scan.specs.Scanned.{IsScanned, Scanned, scan_of}
 

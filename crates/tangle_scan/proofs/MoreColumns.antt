@@ -10,7 +10,7 @@ use Rattle.crossing_maps.specs.declared.splitting.Split.{Split}
 use Rattle.scan_laws.specs.Adding.{Origin, origin_of, origins_with}
 use Rattle.tangle_scan.specs.declared.adding.Adding.{Adding}
 use Rattle.tangle_scan.specs.declared.adding.children.Child.{Child}
-use Rattle.tangle_scan.specs.declared.column.Entry.{Entry}
+use Rattle.tangle_scan.specs.declared.complex.Entry.{Entry}
 use Rattle.tangle_scan.specs.Additions.{AreColumnsFrom, IsColumnFrom, IsSplitAt, code_in, objects_in, origin_in, origins_to, scan_in}
 use Rattle.tangle_scan.specs.Held.{IsColumn, IsComplexAt, column_at, is_alive_at, terms_to}
 use Rattle.tangle_scan.proofs.ZippedLists.{zip-push}

@@ -28,7 +28,7 @@ use Rattle.scan_laws.specs.Scans.{Scan, pairs_of}
 use Rattle.scan_laws.specs.Adding.{Origin, added_coefficient, new_coefficient, origin_of, origins_with, saddle_coefficient}
 use Rattle.scan_laws.proofs.Origins.{IsOrigin}
 use Rattle.tangle_scan.specs.declared.adding.Adding.{Adding}
-use Rattle.tangle_scan.specs.declared.column.Entry.{Entry}
+use Rattle.tangle_scan.specs.declared.complex.Entry.{Entry}
 use Rattle.tangle_scan.specs.Additions.{HasEntriesTo, IsColumnFrom, IsEntryTo, StandsAt, all_origins, code_in, has_terms, head_of, objects_in, saddle_targets, scan_in, sets_from, targets_along, targets_of}
 use Rattle.tangle_scan.specs.Held.{column_at, has_head, is_alive_at, terms_to}
 use Rattle.tangle_scan.proofs.ZippedLists.{counted-by, zip-back, zip-there}

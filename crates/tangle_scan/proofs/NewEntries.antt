@@ -20,7 +20,7 @@ use Rattle.scan_laws.specs.Scans.{pairs_of}
 use Rattle.scan_laws.specs.Adding.{Origin, added_coefficient, new_coefficient, origin_of, origins_with, saddle_coefficient, sign_at}
 use Rattle.tangle_scan.specs.declared.adding.Adding.{Adding}
 use Rattle.tangle_scan.specs.declared.adding.children.Child.{Child}
-use Rattle.tangle_scan.specs.declared.column.Entry.{Entry}
+use Rattle.tangle_scan.specs.declared.complex.Entry.{Entry}
 use Rattle.tangle_scan.specs.Additions.{HasEntriesTo, IsEntryTo, IsSplitAt, StandsAt, code_in, done_in, has_terms, head_of, objects_in, origin_in, saddle_targets, scan_in, sets_from, targets_along}
 use Rattle.tangle_scan.specs.Held.{is_alive_at, terms_between}
 use Rattle.tangle_scan.proofs.ZippedLists.{zip-push}

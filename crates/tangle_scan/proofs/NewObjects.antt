@@ -24,9 +24,9 @@ use Rattle.scan_laws.specs.Scans.{first_object, pairs_of}
 use Rattle.scan_laws.specs.Complexes.{degree_of_labels}
 use Rattle.scan_laws.specs.Adding.{origin_of, origins_with}
 use Rattle.tangle_scan.specs.declared.adding.Adding.{Adding}
-use Rattle.tangle_scan.specs.declared.adding.successors.Layer.{Layer}
-use Rattle.tangle_scan.specs.declared.adding.successors.Successors.{Successors}
-use Rattle.tangle_scan.specs.declared.object.Object.{Object}
+use Rattle.tangle_scan.specs.declared.adding.Layer.{Layer}
+use Rattle.tangle_scan.specs.declared.adding.Successors.{Successors}
+use Rattle.tangle_scan.specs.declared.complex.Object.{Object}
 use Rattle.tangle_scan.specs.Additions.{AreObjectsFrom, HasSuccessors, IsLayerTo, IsObjectFrom, IsReady, IsSplitAt, MaySucceed, SucceedTo, code_in, copies, copy, done_in, objects_in, origins_to, scan_in}
 use Rattle.tangle_scan.specs.Held.{AreObjects, is_alive_at, object_of}
 use Rattle.tangle_scan.proofs.ZippedLists.{zip-append, zip-length, zip-made, zip-push}

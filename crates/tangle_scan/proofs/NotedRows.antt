@@ -6,8 +6,8 @@ use Rattle.std.proofs.lemmas.Bool.{cases_Bool, cases_eq}
 use Rattle.std.proofs.lemmas.List.{get_or-map, get_or-set_other, get_or-set_same, length-map, length-set, map-append, map-set, take_more}
 use Rattle.std.proofs.lemmas.List.Elements.{Contains-append_left, Contains-push, Contains-push_cases}
 use Rattle.dotted_maps.specs.declared.term.Term.{Term}
-use Rattle.tangle_scan.specs.declared.column.Entry.{Entry}
-use Rattle.tangle_scan.specs.declared.object.Object.{Object}
+use Rattle.tangle_scan.specs.declared.complex.Entry.{Entry}
+use Rattle.tangle_scan.specs.declared.complex.Object.{Object}
 use Rattle.tangle_scan.specs.Held.{is_alive_at}
 use Rattle.tangle_scan.specs.Eliminations.{AreMore, HasHead, HasHeadsOf, IsChanged, IsNoted, named_in}
 

@@ -23,7 +23,7 @@ use Rattle.tangle_maps.specs.Pairings.{ArePartners, joins_of, numbered, opened_p
 use Rattle.tangle_maps.proofs.PairedLemmas.{paired, paired-among}
 use Rattle.tangle_maps.proofs.PartSizes.{composed-size}
 use Rattle.tangle_maps.proofs.SizeLemmas.{least_points-size}
-use Rattle.tangle_scan.specs.declared.object.Object.{Object}
+use Rattle.tangle_scan.specs.declared.complex.Object.{Object}
 use Rattle.tangle_scan.specs.Held.{IsOpenAt, partners_at}
 use Rattle.tangle_scan.specs.Eliminations.{IsLessOver}
 

@@ -9,11 +9,12 @@ use Rattle.kh_types.specs.Code.{Code}
 use Rattle.scan_laws.specs.Scans.{Scan}
 use Rattle.scan_laws.specs.Eliminating.{IsEliminating}
 use Rattle.scan_laws.specs.Steps.{AreSteps, LeadsTo, eliminated, last_of}
-use Rattle.tangle_scan.specs.declared.column.Entry.{Entry}
+use Rattle.tangle_scan.specs.declared.complex.Entry.{Entry}
 use Rattle.tangle_scan.specs.declared.complex.TangleComplex.{TangleComplex}
-use Rattle.tangle_scan.specs.declared.front.Front.{Front}
-use Rattle.tangle_scan.specs.declared.rows.Rowed.{Rowed}
+use Rattle.tangle_scan.specs.declared.complex.Front.{Front}
+use Rattle.tangle_scan.specs.declared.clearing.rows.Rowed.{Rowed}
 use Rattle.tangle_scan.specs.Held.{IsColumn, IsComplexAt, alive_places, scan_at}
+use Rattle.tangle_scan.specs.Clearings.{IsEliminated}
 use Rattle.tangle_scan.specs.Eliminations.{HasOneEach, IsIndexed, IsRowed, IsRowedFrom}
 
 steps-both : (p : ℕ) (code : Code) (scan : Scan) (first second : List Scan) → AreSteps p code scan first
@@ -38,11 +39,12 @@ leads-both p code scan middle next first second =
 pub from-none : (p : ℕ) (front : Front) (rowed : Rowed) → IsRowed p front rowed → IsRowedFrom p front rowed.complex rowed
 from-none p front rowed is = record { is = is; leads = record { later = []; steps = tt; last = refl } }
 
-pub from-step : (p : ℕ) (front : Front) (rowed next : Rowed) → IsRowed p front next
-    → IsEliminating p front.diagram (scan_at front rowed.complex) (scan_at front next.complex)
-    → IsRowedFrom p front rowed.complex next
-from-step p front rowed next is step =
-    record { is = is; leads = record { later = scan_at front next.complex ∷ []; steps = (eliminated step, tt); last = refl } }
+pub from-step : (p : ℕ) (front : Front) (rowed next : Rowed) → IsEliminated p front rowed next → IsRowedFrom p front rowed.complex next
+from-step p front rowed next is =
+    record {
+      is = is.rowed_is;
+      leads = record { later = scan_at front next.complex ∷ []; steps = (eliminated is.step, tt); last = refl };
+    }
 
 pub from-both : (p : ℕ) (front : Front) (start : TangleComplex) (rowed next : Rowed) → IsRowedFrom p front start rowed
     → IsRowedFrom p front rowed.complex next → IsRowedFrom p front start next
@@ -97,7 +99,6 @@ heads-read p front complex seen is read =
 
 -- what an elimination gives, unless memory runs out
 pub from-eliminated : {E : Type 0} (p : ℕ) (front : Front) (rowed : Rowed) (result : Result Rowed E)
-    → IfOk result (λ next. IsEliminating p front.diagram (scan_at front rowed.complex) (scan_at front next.complex))
-    → IfOk result (IsRowed p front) → IfOk result (IsRowedFrom p front rowed.complex)
-from-eliminated p front rowed (Ok next) step is = from-step p front rowed next is step
-from-eliminated p front rowed (Err e) step is = tt
+    → IfOk result (IsEliminated p front rowed) → IfOk result (IsRowedFrom p front rowed.complex)
+from-eliminated p front rowed (Ok next) is = from-step p front rowed next is
+from-eliminated p front rowed (Err e) is = tt

@@ -7,10 +7,10 @@ use Rattle.std.proofs.lemmas.List.{get_or_append_left, get_or-map, length-append
 use Rattle.std.proofs.lemmas.List.Elements.{All-head, All-more, All-tail}
 use Rattle.std.proofs.lemmas.List.Quantifiers.{Any-push}
 use Rattle.tangle_maps.specs.Sums.{number_in}
-use Rattle.tangle_scan.specs.declared.column.Entry.{Entry}
+use Rattle.tangle_scan.specs.declared.complex.Entry.{Entry}
 use Rattle.tangle_scan.specs.declared.complex.TangleComplex.{TangleComplex}
-use Rattle.tangle_scan.specs.declared.object.Object.{Object}
-use Rattle.tangle_scan.specs.declared.pivots.Candidate.{Candidate}
+use Rattle.tangle_scan.specs.declared.complex.Object.{Object}
+use Rattle.tangle_scan.specs.declared.clearing.pivots.Candidate.{Candidate}
 use Rattle.tangle_scan.specs.Held.{IsPivot, column_at, is_alive_at, terms_to}
 use Rattle.tangle_scan.specs.Eliminations.{HasOneEach, IsCandidate, column_in, head_at}
 use Rattle.tangle_scan.proofs.Columns.{terms-at, terms-first, terms-later}

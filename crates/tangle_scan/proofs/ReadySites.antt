@@ -10,7 +10,7 @@ use Rattle.crossing_maps.specs.Partners.{HasArcsBelow}
 use Rattle.crossing_maps.specs.Sites.{IsPlace}
 use Rattle.crossing_maps.proofs.PlaceLaws.{near-arcs, opened-arcs, slots-below}
 use Rattle.tangle_scan.specs.declared.adding.Adding.{Adding}
-use Rattle.tangle_scan.specs.declared.front.Front.{Front}
+use Rattle.tangle_scan.specs.declared.complex.Front.{Front}
 use Rattle.tangle_scan.specs.Additions.{IsNextFront, IsReady, code_in, done_in}
 use Rattle.tangle_scan.specs.Held.{IsComplexAt, IsFront}
 

@@ -6,7 +6,7 @@ use Rattle.scan_laws.specs.Scans.{Scan}
 use Rattle.scan_laws.specs.Steps.{AreSteps, IsReached, IsScanStep, LeadsTo, last_of}
 use Rattle.scan_laws.proofs.Whole.{reached-step}
 use Rattle.tangle_scan.specs.declared.complex.TangleComplex.{TangleComplex}
-use Rattle.tangle_scan.specs.declared.front.Front.{Front}
+use Rattle.tangle_scan.specs.declared.complex.Front.{Front}
 use Rattle.tangle_scan.specs.Held.{IsComplexAt, IsFront, scan_at}
 use Rattle.tangle_scan.specs.Scanned.{IsScanned, Scanned, scan_of, scanned}
 

@@ -9,8 +9,8 @@ use Rattle.std.proofs.lemmas.List.Sums.{sum_by-cons, sum_by-set, sum_by_push}
 use Rattle.kh_types.proofs.ListSums.{sum_by-filter, sum_by-places, sum_by-range_alike}
 use Rattle.scan_laws.specs.Scans.{first_object}
 use Rattle.scan_laws.specs.Scans as scans
-use Rattle.tangle_scan.specs.declared.object.Object.{Object}
-use Rattle.tangle_scan.specs.declared.tally.Tally.{Tally}
+use Rattle.tangle_scan.specs.declared.complex.Object.{Object}
+use Rattle.tangle_scan.specs.declared.finished.counting.Tally.{Tally}
 use Rattle.tangle_scan.specs.Held.{alive_places, is_alive_at, object_at, object_of}
 use Rattle.tangle_scan.specs.Tallies.{AreTallies, IsTallied, count_at, is_tally_of, object_value, once, raised, tallied, tally_of, tally_value}
 

@@ -6,9 +6,9 @@ use Rattle.std.specs.Global.{Vec}
 use Rattle.std.proofs.lemmas.Bool.{cases_eq}
 use Rattle.std.proofs.lemmas.List.{get_or-map, get_or-set_other, get_or-set_same, length-map, length-set, map-set, take_more}
 use Rattle.std.proofs.lemmas.List.Elements.{Contains-push_cases}
-use Rattle.tangle_scan.specs.declared.clearing.Turn.{Turn}
-use Rattle.tangle_scan.specs.declared.column.Entry.{Entry}
-use Rattle.tangle_scan.specs.declared.object.Object.{Object}
+use Rattle.tangle_scan.specs.declared.clearing.turns.Turn.{Turn}
+use Rattle.tangle_scan.specs.declared.complex.Entry.{Entry}
+use Rattle.tangle_scan.specs.declared.complex.Object.{Object}
 use Rattle.tangle_scan.specs.Held.{IsColumn}
 use Rattle.tangle_scan.specs.Eliminations.{AreCleared, AreColumns, AreMore, HasHead, IsCleared, IsClearStep, IsClearedOr, IsNoted, column_in}
 use Rattle.tangle_scan.proofs.NotedRows.{noted-kept}

@@ -17,8 +17,8 @@ use Rattle.dotted_maps.specs.Maps.{coefficient_in, composed_in}
 use Rattle.tangle_maps.specs.declared.way.Way.{Way}
 use Rattle.tangle_maps.specs.Pairings.{joins_of, opened_points}
 use Rattle.tangle_maps.specs.Ways.{IsCancelledAlong}
-use Rattle.tangle_scan.specs.declared.clearing.Turn.{Turn}
-use Rattle.tangle_scan.specs.declared.column.Entry.{Entry}
+use Rattle.tangle_scan.specs.declared.clearing.turns.Turn.{Turn}
+use Rattle.tangle_scan.specs.declared.complex.Entry.{Entry}
 use Rattle.tangle_maps.specs.Sums.{AreReduced}
 use Rattle.tangle_scan.specs.Held.{IsColumn, has_head, is_alive_at, partners_at, terms_to}
 use Rattle.tangle_scan.specs.Eliminations.{AreTaken, HasHead, HasOneEach, IsChanged, IsCleared, IsDottedTo, IsLess, IsLessIf, IsLessOver, IsNext, IsTrimmed, IsTurn, head_at}

@@ -23,11 +23,11 @@ use Rattle.tangle_scan.specs.declared.adding.Adding.{Adding}
 use Rattle.tangle_scan.specs.declared.adding.children.Child.{Child}
 use Rattle.tangle_scan.specs.declared.adding.children.Links.{Links}
 use Rattle.tangle_scan.specs.declared.adding.children.Parent.{Parent}
-use Rattle.tangle_scan.specs.declared.adding.successors.Layer.{Layer}
-use Rattle.tangle_scan.specs.declared.adding.successors.Successors.{Successors}
-use Rattle.tangle_scan.specs.declared.column.Entry.{Entry}
-use Rattle.tangle_scan.specs.declared.front.Front.{Front}
-use Rattle.tangle_scan.specs.declared.object.Object.{Object}
+use Rattle.tangle_scan.specs.declared.adding.Layer.{Layer}
+use Rattle.tangle_scan.specs.declared.adding.Successors.{Successors}
+use Rattle.tangle_scan.specs.declared.complex.Entry.{Entry}
+use Rattle.tangle_scan.specs.declared.complex.Front.{Front}
+use Rattle.tangle_scan.specs.declared.complex.Object.{Object}
 use Rattle.tangle_scan.specs.Held.{AreObjects, IsComplexAt, IsFront, column_at, is_alive_at, object_of, scan_at}
 
 -- a front is another after one crossing more

@@ -6,8 +6,8 @@ use Rattle.kh_types.specs.Directions.{minus_count, plus_count}
 use Rattle.kh_types.specs.Table.{Row, from_minus, is_shown}
 use Rattle.kh_types.specs.declared.limits.TheConstants.{EXPONENT}
 use Rattle.tangle_scan.specs.Tallies.{AreTallies, count_at, tallied}
-use Rattle.tangle_scan.specs.declared.counted.Counted.{Counted}
-use Rattle.tangle_scan.specs.declared.object.Object.{Object}
+use Rattle.tangle_scan.specs.declared.finished.counting.Counted.{Counted}
+use Rattle.tangle_scan.specs.declared.complex.Object.{Object}
 
 -- what they count at (i, j)
 abbrev pub dims_of : Counted → ℤ → ℤ → ℕ

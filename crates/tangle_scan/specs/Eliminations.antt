@@ -13,15 +13,15 @@ use Rattle.scan_laws.specs.Steps.{LeadsTo}
 use Rattle.tangle_maps.specs.declared.way.Way.{Way}
 use Rattle.tangle_maps.specs.Pairings.{joins_of, opened_points, paired_arcs}
 use Rattle.tangle_maps.specs.Sums.{AreReduced, number_in}
-use Rattle.tangle_scan.specs.declared.clearing.Start.{Start}
-use Rattle.tangle_scan.specs.declared.clearing.Turn.{Turn}
-use Rattle.tangle_scan.specs.declared.column.Entry.{Entry}
+use Rattle.tangle_scan.specs.declared.clearing.turns.Start.{Start}
+use Rattle.tangle_scan.specs.declared.clearing.turns.Turn.{Turn}
+use Rattle.tangle_scan.specs.declared.complex.Entry.{Entry}
 use Rattle.tangle_scan.specs.declared.complex.TangleComplex.{TangleComplex}
-use Rattle.tangle_scan.specs.declared.eliminating.Taken.{Taken}
-use Rattle.tangle_scan.specs.declared.front.Front.{Front}
-use Rattle.tangle_scan.specs.declared.object.Object.{Object}
-use Rattle.tangle_scan.specs.declared.pivots.Pivot.{Pivot}
-use Rattle.tangle_scan.specs.declared.rows.Rowed.{Rowed}
+use Rattle.tangle_scan.specs.declared.clearing.turns.Taken.{Taken}
+use Rattle.tangle_scan.specs.declared.complex.Front.{Front}
+use Rattle.tangle_scan.specs.declared.complex.Object.{Object}
+use Rattle.tangle_scan.specs.declared.clearing.pivots.Pivot.{Pivot}
+use Rattle.tangle_scan.specs.declared.clearing.rows.Rowed.{Rowed}
 use Rattle.tangle_scan.specs.Held.{IsColumn, IsComplexAt, column_at, has_head, is_alive_at, partners_at, scan_at, terms_to}
 
 -- a column has an entry to a head

@@ -6,7 +6,7 @@ use Rattle.std.specs.Ordering.{int_eq}
 use Rattle.kh_types.specs.Table.{Row}
 use Rattle.kh_types.specs.declared.limits.TheConstants.{EXPONENT}
 use Rattle.union_laws.specs.UnitedRows.{row_product}
-use Rattle.tangle_scan.specs.declared.grid.Grid.{Grid}
+use Rattle.tangle_scan.specs.declared.scanning.products.Grid.{Grid}
 
 -- whether a grid for n crossings has two degrees: i from -n to n, and j from -EXPONENT to EXPONENT
 abbrev pub is_in : ℕ → ℤ → ℤ → Bool

@@ -11,10 +11,10 @@ use Rattle.scan_laws.specs.Scans.{Scan, first_object}
 use Rattle.tangle_maps.specs.declared.pairing.TheConstants.{POINTS}
 use Rattle.tangle_maps.specs.Pairings.{joins_of, paired_arcs}
 use Rattle.tangle_maps.specs.Sums.{AreReduced, number_in}
-use Rattle.tangle_scan.specs.declared.column.Entry.{Entry}
+use Rattle.tangle_scan.specs.declared.complex.Entry.{Entry}
 use Rattle.tangle_scan.specs.declared.complex.TangleComplex.{TangleComplex}
-use Rattle.tangle_scan.specs.declared.front.Front.{Front}
-use Rattle.tangle_scan.specs.declared.object.Object.{Object}
+use Rattle.tangle_scan.specs.declared.complex.Front.{Front}
+use Rattle.tangle_scan.specs.declared.complex.Object.{Object}
 
 -- an object in memory, as one of the theorem, where these arcs are open
 abbrev pub object_of : List ℕ → Object → scans.Object

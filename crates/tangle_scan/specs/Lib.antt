@@ -5,5 +5,6 @@ pub mod CountedRows
 pub mod Additions
 pub mod AddedBridges
 pub mod Eliminations
+pub mod Clearings
 pub mod Grids
 pub mod Sides

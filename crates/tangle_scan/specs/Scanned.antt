@@ -6,8 +6,8 @@ use Rattle.scan_laws.specs.Scans.{Scan}
 use Rattle.scan_laws.specs.Steps.{IsReached}
 use Rattle.tangle_maps.specs.declared.pairing.TheConstants.{POINTS}
 use Rattle.tangle_scan.specs.declared.complex.TangleComplex.{TangleComplex}
-use Rattle.tangle_scan.specs.declared.object.Object.{Object}
-use Rattle.tangle_scan.specs.declared.front.Front.{Front}
+use Rattle.tangle_scan.specs.declared.complex.Object.{Object}
+use Rattle.tangle_scan.specs.declared.complex.Front.{Front}
 use Rattle.tangle_scan.specs.Held.{HasNoPivot, IsComplexAt, IsFront, scan_at}
 
 -- a front and a complex there

@@ -3,8 +3,8 @@ use Rattle.std.specs.Prelude.{◌≡◌, ℕ, ◌+◌, ◌*◌, ℤ, pos, ◌+�
 use Rattle.std.specs.List.{sum_by}
 use Rattle.std.specs.Ordering.{int_eq}
 use Rattle.kh_types.specs.StateSum.{circle_coefficient}
-use Rattle.tangle_scan.specs.declared.object.Object.{Object}
-use Rattle.tangle_scan.specs.declared.tally.Tally.{Tally}
+use Rattle.tangle_scan.specs.declared.complex.Object.{Object}
+use Rattle.tangle_scan.specs.declared.finished.counting.Tally.{Tally}
 
 -- a value of degree and shift, as often as a tally counts them
 abbrev pub tally_value : (ℕ → ℤ → ℕ) → Tally → ℕ

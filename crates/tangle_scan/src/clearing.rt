@@ -1,293 +1,162 @@
-//! One turn of the elimination: a column is cleared of a pivot's head. The way from the column's
-//! object to that head, by the inverse of the pivot's number back to its tail, and on to each object
-//! there is taken off the column's map to it.
+//! Clearing a complex of isomorphisms: maps that are a number times the identity are cancelled until
+//! none is left. A few passes go over the objects. What they leave, since a cancellation makes new
+//! numbers in columns that were passed, is searched for from the first object on.
 
-ghost use Rattle.std.specs.Prelude.{◌≡◌, ◌≢◌, ℕ, ◌<◌, List, length, false, true, IfOk, IfSome, None, OnOk};
-ghost use Rattle.std.specs.List.{position};
-ghost use Rattle.tangle_maps.specs.Ways.{HasReducedMaps, IsMultiple, IsWay};
-ghost use Rattle.tangle_scan.specs.Held.{IsColumn, has_head, is_alive_at, partners_at};
-ghost use Rattle.tangle_scan.specs.Eliminations.{AreCleared, AreColumns, AreMore, AreTaken, HasHead};
-ghost use Rattle.tangle_scan.specs.Eliminations.{HasHeadsOf, IsChanged, IsCleared, IsClearStep};
-ghost use Rattle.tangle_scan.specs.Eliminations.{IsLess, IsLessIf, IsMultipleAt, IsNext, IsNoted};
-ghost use Rattle.tangle_scan.specs.Eliminations.{IsStart, IsThrough, IsTurn, head_at};
+ghost use Rattle.std.specs.Prelude.{◌≡◌, ◌<◌, length, true, IfOk};
+ghost use Rattle.scan_laws.specs.Steps.{LeadsTo};
+ghost use Rattle.tangle_scan.specs.Held.{HasNoPivot, IsComplexAt, IsFront, scan_at};
+ghost use Rattle.tangle_scan.specs.Eliminations.{AllHaveDots, IsRowed, IsRowedFrom};
 
-use crate::column::{Column, Entry};
-use crate::object::Object;
-use crate::pivots::{Pivot, have_one_pairing};
-use crate::rows::{Rows, note_if};
-use crate::taking::{cancel_in, cancel_new};
-use dotted_maps::term::Term;
+mod pivots;
+mod rows;
+mod turns;
+mod ways;
+
+use crate::clearing::pivots::{Pivot, find_pivot, pivot_of};
+use crate::clearing::rows::{Rowed, rows_of};
+use crate::clearing::turns::eliminate;
+use crate::complex::{Front, Object, TangleComplex};
 use kh_types::NoMemory;
 use prime_field::PrimeField;
-use prime_field::laws::element_laws;
-use tangle_maps::{Pairing, Way, number_of};
+use std::alloc::Global;
 
-/// A pivot that is being cancelled: the opened arcs, the objects, of which its tail and its head are
-/// not there any more, and the column that was taken out at its tail.
+/// A pass over the objects with a smoothing of the crossing that was added last, which cancels a pivot
+/// out of each, if it has one through which at most so many ways lead.
 #[derive(Clone, Copy)]
-pub(crate) struct Turn<'a> {
-    pub(crate) opened: &'a [u8],
-    pub(crate) objects: &'a [Object],
-    pub(crate) pivot: Pivot,
-    pub(crate) column: &'a [Entry],
+struct Pass {
+    smoothing: u8,
+    most_ways: usize,
 }
 
-/// The first map of a way: from the object at a place to the pivot's head; and the number that it is
-/// times the identity, if it is one.
-#[derive(Clone, Copy)]
-struct Start<'a> {
+/// First what changes no other map, then the rest. Objects with the 0-smoothing come first, since most
+/// pivots are saddles out of them; in another order there are several times as many ways.
+const PASSES: [Pass; 4] = [
+    Pass {
+        smoothing: 0,
+        most_ways: 0,
+    },
+    Pass {
+        smoothing: 1,
+        most_ways: 0,
+    },
+    Pass {
+        smoothing: 0,
+        most_ways: usize::MAX,
+    },
+    Pass {
+        smoothing: 1,
+        most_ways: usize::MAX,
+    },
+];
+
+/// Cancels maps that are a number times the identity until none is left. Which comes first no clause
+/// says: it goes pass by pass, and takes in each column the entry whose row is the shortest.
+/// Source: Bar-Natan 2007.
+pub fn eliminate_all<F: PrimeField>(
+    alloc: Global,
+    front: &Front,
+    complex: TangleComplex,
+) -> Result<TangleComplex, NoMemory>
+    requires front { IsFront front.now }
+    requires complex { IsComplexAt F.P front.now complex }
+    requires dots { AllHaveDots front.now.diagram (scan_at front.now complex) }
+    ensures complex { IfOk result (IsComplexAt F.P front.now) }
+    ensures dots { IfOk result (λ next. AllHaveDots front.now.diagram (scan_at front.now next)) }
+    ensures steps { IfOk result (λ next.
+        LeadsTo F.P front.now.diagram (scan_at front.now complex) (scan_at front.now next)) }
+    ensures none { IfOk result HasNoPivot }
+{
+    let rows = rows_of(alloc, complex.columns.as_slice())?;
+    let rowed = pass_each::<F>(alloc, front, Rowed { complex, rows })?;
+    let rowed = finish::<F>(alloc, front, rowed)?;
+    Ok(rowed.complex)
+}
+
+/// Makes all passes, one after another.
+fn pass_each<F: PrimeField>(alloc: Global, front: &Front, rowed: Rowed) -> Result<Rowed, NoMemory>
+    requires front { IsFront front.now }
+    requires rowed { IsRowed F.P front.now rowed }
+    ensures { IfOk result (IsRowedFrom F.P front.now rowed.complex) }
+{
+    let mut rowed = rowed;
+    'passes: for pass in PASSES {
+        rowed = pass_all::<F>(alloc, front, rowed, pass)?;
+    }
+    Ok(rowed)
+}
+
+/// Makes a pass over all objects.
+fn pass_all<F: PrimeField>(
+    alloc: Global,
+    front: &Front,
+    rowed: Rowed,
+    pass: Pass,
+) -> Result<Rowed, NoMemory>
+    requires front { IsFront front.now }
+    requires rowed { IsRowed F.P front.now rowed }
+    ensures { IfOk result (IsRowedFrom F.P front.now rowed.complex) }
+{
+    let mut rowed = rowed;
+    'places: for place in 0..rowed.complex.objects.len() {
+        rowed = pass_object::<F>(alloc, front, rowed, pass, place)?;
+    }
+    Ok(rowed)
+}
+
+/// Cancels a pivot out of the object at a place, if the pass does so.
+fn pass_object<F: PrimeField>(
+    alloc: Global,
+    front: &Front,
+    rowed: Rowed,
+    pass: Pass,
     place: usize,
-    first: &'a [Term],
-    multiple: Option<u8>,
-}
-
-/// Clears the columns that are named.
-pub(crate) fn clear_all<F: PrimeField>(
-    columns: &mut Vec<Column>,
-    rows: &mut Rows,
-    turn: &Turn<'_>,
-    named: &[usize],
-) -> Result<(), NoMemory>
-    requires turn { IsTurn F.P turn.now }
-    requires columns { AreColumns F.P turn.now.objects.now columns.old.items rows.old.items }
-    ensures cleared { OnOk result
-        (AreCleared F.P turn.now named.now columns.old.items columns.new.items) }
-    ensures columns { OnOk result
-        (AreColumns F.P turn.now.objects.now columns.new.items rows.new.items) }
+) -> Result<Rowed, NoMemory>
+    requires front { IsFront front.now }
+    requires rowed { IsRowed F.P front.now rowed }
+    ensures { IfOk result (IsRowedFrom F.P front.now rowed.complex) }
 {
-    'columns: for place in named {
-        clear_at::<F>(columns, rows, turn, *place)?;
+    if !has_smoothing(rowed.complex.objects.as_slice(), place, pass.smoothing) {
+        return Ok(rowed);
     }
-    Ok(())
-}
-
-/// Clears the column at a place, if there is one.
-fn clear_at<F: PrimeField>(
-    columns: &mut Vec<Column>,
-    rows: &mut Rows,
-    turn: &Turn<'_>,
-    place: usize,
-) -> Result<(), NoMemory>
-    requires turn { IsTurn F.P turn.now }
-    requires columns { AreColumns F.P turn.now.objects.now columns.old.items rows.old.items }
-    ensures step { OnOk result (IsClearStep F.P turn.now place columns.old.items columns.new.items) }
-    ensures columns { OnOk result
-        (AreColumns F.P turn.now.objects.now columns.new.items rows.new.items) }
-{
-    if place >= columns.len() {
-        return Ok(());
-    }
-    clear::<F>(&mut columns[place], rows, turn, place)?;
-    Ok(())
-}
-
-/// Clears a column, out of the object at a place.
-fn clear<F: PrimeField>(
-    column: &mut Column,
-    rows: &mut Rows,
-    turn: &Turn<'_>,
-    place: usize,
-) -> Result<(), NoMemory>
-    requires turn { IsTurn F.P turn.now }
-    requires place { place < length turn.now.objects.now }
-    requires column { IsColumn F.P (length turn.now.objects.now) column.old.items }
-    requires rows { length rows.old.items ≡ length turn.now.objects.now }
-    requires noted { IsNoted turn.now.objects.now rows.old.items place column.old.items }
-    ensures cleared { OnOk result
-        (IsCleared F.P turn.now place column.old.items column.new.items) }
-    ensures idle { OnOk result ((HasHead column.old.items turn.now.pivot.head → ⊥)
-        → column.new.items ≡ column.old.items) }
-    ensures column { OnOk result
-        (IsColumn F.P (length turn.now.objects.now) column.new.items) }
-    ensures rows { OnOk result (AreMore rows.old.items rows.new.items) }
-    ensures noted { OnOk result
-        (IsNoted turn.now.objects.now rows.new.items place column.new.items) }
-{
-    match place_of(column, turn.pivot.head) {
-        Some(at) => {
-            let entry = column.remove(at);
-            let first = entry.terms.as_slice();
-            let start = Start {
-                place,
-                first,
-                multiple: multiple_at(turn, place, first),
-            };
-            take_ways::<F>(column, rows, turn, &start)
+    match pivot_of(&rowed, place) {
+        Some(pivot) if way_count(&rowed, &pivot) <= pass.most_ways => {
+            eliminate::<F>(alloc, front, rowed, pivot)
         }
-        None => Ok(()),
+        _ => Ok(rowed),
     }
 }
 
-/// The number that a map from the object at a place to a pivot's head is, times the identity, if it
-/// is one: the object has the pairing of the pivot's tail.
-fn multiple_at(turn: &Turn<'_>, place: usize, first: &[Term]) -> Option<u8>
-    requires place { place < length turn.now.objects.now }
-    requires tail { turn.now.pivot.tail < length turn.now.objects.now }
-    ensures some { IfSome result (IsMultipleAt turn.now place first.now) }
-    ensures none { result ≡ None → (number : ℕ) → IsMultipleAt turn.now place first.now number → ⊥ }
+/// Whether there is an object at a place, with a smoothing of the crossing that was added last.
+fn has_smoothing(objects: &[Object], place: usize, smoothing: u8) -> bool
+    ensures { result ≡ true → place < length objects.now }
 {
-    match number_of(first) {
-        Some(number) if have_one_pairing(&turn.objects[place], &turn.objects[turn.pivot.tail]) => {
-            Some(number)
-        }
-        _ => None,
+    match objects.get(place) {
+        Some(object) => object.smoothing == smoothing,
+        None => false,
     }
 }
 
-/// Takes the ways through the pivot off a column, from which the map to the pivot's head was taken.
-fn take_ways<F: PrimeField>(
-    column: &mut Column,
-    rows: &mut Rows,
-    turn: &Turn<'_>,
-    start: &Start<'_>,
-) -> Result<(), NoMemory>
-    requires turn { IsTurn F.P turn.now }
-    requires start { IsStart F.P turn.now start.now }
-    requires column { IsColumn F.P (length turn.now.objects.now) column.old.items }
-    requires rows { length rows.old.items ≡ length turn.now.objects.now }
-    requires noted { IsNoted turn.now.objects.now rows.old.items start.now.place column.old.items }
-    ensures taken { OnOk result (AreTaken F.P turn.now start.now.place start.now.first.now
-        turn.now.column.now column.old.items column.new.items) }
-    ensures column { OnOk result
-        (IsColumn F.P (length turn.now.objects.now) column.new.items) }
-    ensures rows { OnOk result (AreMore rows.old.items rows.new.items) }
-    ensures noted { OnOk result
-        (IsNoted turn.now.objects.now rows.new.items start.now.place column.new.items) }
+/// How many ways lead through a pivot, at most.
+fn way_count(rowed: &Rowed, pivot: &Pivot) -> usize {
+    let into = rowed.rows.get(pivot.head).map_or(0, |row| row.len());
+    let out = rowed
+        .complex
+        .columns
+        .get(pivot.tail)
+        .map_or(0, |column| column.len());
+    into.saturating_sub(1).saturating_mul(out.saturating_sub(1))
+}
+
+/// Cancels pivots until none is left.
+fn finish<F: PrimeField>(alloc: Global, front: &Front, rowed: Rowed) -> Result<Rowed, NoMemory>
+    requires front { IsFront front.now }
+    requires rowed { IsRowed F.P front.now rowed }
+    ensures rowed { IfOk result (IsRowedFrom F.P front.now rowed.complex) }
+    ensures none { IfOk result (λ next. HasNoPivot next.complex) }
 {
-    let entries = turn.column;
-    'entries: for entry in entries {
-        take_if_alive::<F>(column, rows, turn, start, entry)?;
+    let mut rowed = rowed;
+    'pivots: while let Some(pivot) = find_pivot(&rowed) {
+        rowed = eliminate::<F>(alloc, front, rowed, pivot)?;
     }
-    Ok(())
-}
-
-/// Takes the way over an entry of the pivot's column off a column, if its head is there.
-fn take_if_alive<F: PrimeField>(
-    column: &mut Column,
-    rows: &mut Rows,
-    turn: &Turn<'_>,
-    start: &Start<'_>,
-    entry: &Entry,
-) -> Result<(), NoMemory>
-    requires turn { IsTurn F.P turn.now }
-    requires start { IsStart F.P turn.now start.now }
-    requires entry { IsNext F.P turn.now entry.now }
-    requires column { IsColumn F.P (length turn.now.objects.now) column.old.items }
-    requires rows { length rows.old.items ≡ length turn.now.objects.now }
-    requires noted { IsNoted turn.now.objects.now rows.old.items start.now.place column.old.items }
-    ensures changed { OnOk result (IsChanged
-        (IsLessIf F.P turn.now start.now.place start.now.first.now entry.now)
-        (is_alive_at turn.now.objects.now entry.now.head ≡ true) F.P entry.now.head
-        column.old.items column.new.items) }
-    ensures rows { OnOk result (AreMore rows.old.items rows.new.items) }
-    ensures noted { OnOk result
-        (IsNoted turn.now.objects.now rows.new.items start.now.place column.new.items) }
-{
-    if !turn.objects[entry.head].is_alive {
-        return Ok(());
-    }
-    take_noted::<F>(column, rows, turn, start, entry)
-}
-
-/// Takes the way over an entry off a column, and notes the column if it leads to a new head.
-fn take_noted<F: PrimeField>(
-    column: &mut Column,
-    rows: &mut Rows,
-    turn: &Turn<'_>,
-    start: &Start<'_>,
-    entry: &Entry,
-) -> Result<(), NoMemory>
-    requires turn { IsTurn F.P turn.now }
-    requires start { IsStart F.P turn.now start.now }
-    requires entry { IsNext F.P turn.now entry.now }
-    requires alive { is_alive_at turn.now.objects.now entry.now.head ≡ true }
-    requires column { IsColumn F.P (length turn.now.objects.now) column.old.items }
-    requires rows { length rows.old.items ≡ length turn.now.objects.now }
-    requires noted { IsNoted turn.now.objects.now rows.old.items start.now.place column.old.items }
-    ensures changed { OnOk result (IsChanged
-        (IsLess F.P turn.now start.now.place entry.now.head start.now.first.now
-        entry.now.terms.items) (Unit {0}) F.P entry.now.head column.old.items column.new.items) }
-    ensures rows { OnOk result (AreMore rows.old.items rows.new.items) }
-    ensures noted { OnOk result
-        (IsNoted turn.now.objects.now rows.new.items start.now.place column.new.items) }
-{
-    let is_new = take_way::<F>(column, turn, start, entry)?;
-    note_if(is_new, rows, entry.head, start.place)?;
-    Ok(())
-}
-
-/// Takes the way over an entry off a column, and tells whether the column leads to a new head.
-fn take_way<F: PrimeField>(
-    column: &mut Column,
-    turn: &Turn<'_>,
-    start: &Start<'_>,
-    entry: &Entry,
-) -> Result<bool, NoMemory>
-    requires turn { IsTurn F.P turn.now }
-    requires start { IsStart F.P turn.now start.now }
-    requires entry { IsNext F.P turn.now entry.now }
-    requires alive { is_alive_at turn.now.objects.now entry.now.head ≡ true }
-    requires column { IsColumn F.P (length turn.now.objects.now) column.old.items }
-    ensures changed { OnOk result (IsChanged
-        (IsLess F.P turn.now start.now.place entry.now.head start.now.first.now
-        entry.now.terms.items) (Unit {0}) F.P entry.now.head column.old.items column.new.items) }
-    ensures same_heads { IfOk result (λ is_new. is_new ≡ false
-        → HasHeadsOf column.old.items column.new.items) }
-{
-    element_laws::<F>();
-    let way = way_over::<F>(turn, start, entry);
-    let number = F::of(turn.pivot.number);
-    match place_of(column, entry.head) {
-        Some(at) => {
-            cancel_in(column, at, &way, start.multiple, number)?;
-            Ok(false)
-        }
-        None => cancel_new(column, entry.head, &way, start.multiple, number),
-    }
-}
-
-/// The way from a start through the pivot and over an entry of its column.
-fn way_over<'a, F: PrimeField>(turn: &Turn<'a>, start: &Start<'a>, entry: &'a Entry) -> Way<'a>
-    requires turn { IsTurn F.P turn.now }
-    requires start { IsStart F.P turn.now start.now }
-    requires entry { IsNext F.P turn.now entry.now }
-    requires alive { is_alive_at turn.now.objects.now entry.now.head ≡ true }
-    ensures through { IsThrough turn.now start.now.place entry.now.head start.now.first.now
-        entry.now.terms.items result }
-    ensures way { IsWay result }
-    ensures maps { HasReducedMaps F.P result }
-    ensures multiple { IfSome start.now.multiple (λ m. IsMultiple m result) }
-{
-    Way {
-        opened: turn.opened,
-        from: pairing_at(turn.objects, start.place),
-        over: pairing_at(turn.objects, turn.pivot.tail),
-        to: pairing_at(turn.objects, entry.head),
-        first: start.first,
-        second: entry.terms.as_slice(),
-    }
-}
-
-/// The pairing of the object at a place.
-fn pairing_at(objects: &[Object], place: usize) -> &Pairing
-    requires { place < length objects.now }
-    ensures { result.now.partners ≡ partners_at objects.now place }
-{
-    &objects[place].pairing
-}
-
-/// The place of the entry with a head.
-fn place_of(column: &Column, head: usize) -> Option<usize>
-    ensures some { IfSome result (λ at. (at < length column.now.items)
-        × (head_at column.now.items at ≡ head)) }
-    ensures none { result ≡ None → HasHead column.now.items head → ⊥ }
-{
-    first_place(column.as_slice(), head)
-}
-
-/// The first place of a head.
-fn first_place(column: &[Entry], head: usize) -> Option<usize>
-    ensures { result ≡ position (has_head head) column.now }
-{
-    column.iter().position(|entry| entry.head == head)
+    Ok(rowed)
 }

@@ -9,11 +9,8 @@ ghost use Rattle.tangle_scan.specs.Held.{HasNoPivot};
 ghost use Rattle.tangle_scan.specs.Scanned.{IsBehind, IsFirstComplex, IsScanned, scan_of};
 
 use crate::adding::add_crossing;
-use crate::column::Column;
-use crate::complex::TangleComplex;
-use crate::eliminating::eliminate_all;
-use crate::front::Front;
-use crate::object::Object;
+use crate::clearing::eliminate_all;
+use crate::complex::{Column, Front, Object, TangleComplex};
 use arrayvec::ArrayVec;
 use kh_types::laws::diagrams::diagram_laws;
 use kh_types::{Diagram, NoMemory};
@@ -119,11 +116,25 @@ impl<F: PrimeField> Scan<F> {
         &self.front.diagram
     }
 
+    /// How many of its crossings are done.
+    pub fn done(&self) -> u8
+        ensures { result ≡ self.now.front.done }
+    {
+        self.front.done
+    }
+
     /// The objects, with those that are cancelled.
     pub fn objects(&self) -> &[Object]
         ensures { result.now ≡ self.now.complex.objects.items }
     {
         &self.complex.objects
+    }
+
+    /// The maps out of each object.
+    pub fn columns(&self) -> &[Column]
+        ensures { result.now ≡ self.now.complex.columns.items }
+    {
+        &self.complex.columns
     }
 }
 

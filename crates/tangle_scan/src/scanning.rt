@@ -5,13 +5,15 @@ ghost use Rattle.kh_types.specs.Table.{table};
 ghost use Rattle.order_laws.specs.Orders.{IsReordered};
 ghost use Rattle.union_laws.specs.Pieces.{first_piece, other_pieces};
 
-use crate::ending::table_of_finished;
-use crate::finished::finished_scan;
-use crate::order::ordered;
-use crate::pieces::pieces_apart;
-use crate::products::product_rows;
-use crate::reordering::reordered;
-use crate::table::ScanTable;
+pub mod apart;
+pub mod order;
+pub mod products;
+
+use crate::finished::table::ScanTable;
+use crate::finished::{finished_scan, table_of_finished};
+use crate::scanning::apart::pieces_apart;
+use crate::scanning::order::{ordered, reordered};
+use crate::scanning::products::product_rows;
 use face_walk::pieces;
 use kh_types::laws::diagrams::diagram_laws;
 use kh_types::{Crossing, Diagram, NoMemory};

@@ -6,9 +6,9 @@ ghost use Rattle.tangle_maps.specs.Pairings.{joins_of};
 ghost use Rattle.tangle_scan.specs.Additions.{AreLinks, IsChild, IsParent, IsSideOf, objects_in, scan_in};
 ghost use Rattle.tangle_scan.specs.Held.{is_alive_at, partners_at};
 
-use crate::adding::Adding;
-use crate::adding::successors::Successors;
+use crate::adding::{Adding, Successors};
 use crossing_maps::between::Side;
+use crossing_maps::seams::Labels;
 use crossing_maps::splitting::Split;
 use std::alloc::Global;
 use tangle_maps::Pairing;
@@ -127,5 +127,15 @@ pub fn parent_at<'a>(links: &Links<'a>, place: usize) -> Option<Parent<'a>>
     match &links.successors[place] {
         None => None,
         Some(successors) => Some(Parent { place, successors }),
+    }
+}
+
+/// The labels of two new objects.
+pub fn labels_between(from: &Child<'_>, to: &Child<'_>) -> Labels
+    ensures { result ≡ record { before = from.now.label; behind = to.now.label } }
+{
+    Labels {
+        before: from.label,
+        behind: to.label,
     }
 }

@@ -1,19 +1,20 @@
 //! The new columns.
 
-ghost use Rattle.std.specs.Prelude.{◌≡◌, ℕ, ◌+◌, ◌<◌, List, [], ◌++◌, length, map, take, IfOk, OnOk};
+ghost use Rattle.std.specs.Prelude.{◌≡◌, ◌+◌, ◌<◌, List, [], ◌++◌, length, map, IfOk, OnOk};
 ghost use Rattle.std.specs.List.{flat_map};
 ghost use Rattle.scan_laws.specs.Adding.{Origin, origins_with};
 ghost use Rattle.scan_laws.specs.Scans.{pairs_of};
+ghost use Rattle.tangle_maps.specs.Sums.{AreReduced};
 ghost use Rattle.tangle_scan.specs.AddedBridges.{AreAllBridges, AreBridgesFrom, AreBridgesOf, IsSaddleOf, pairs_in};
 ghost use Rattle.tangle_scan.specs.Additions.{AreColumnsFrom, AreLinks, HasEntriesTo, IsChild, IsColumnFrom, IsParent};
 ghost use Rattle.tangle_scan.specs.Additions.{all_origins, code_in, head_of, objects_in, origin_in, origins_to, scan_in, targets_along};
-ghost use Rattle.tangle_scan.specs.Held.{column_at};
+ghost use Rattle.tangle_scan.specs.Held.{column_at, terms_between};
 
 use crate::adding::bridges::{AllBridges, Bridges, BridgesOf, bridges_of};
 use crate::adding::children::{Child, Links, Parent, child_of, parent_at};
-use crate::adding::entries::{push_along, push_saddles};
-use crate::adding::successors::label_count;
-use crate::column::{Column, Entry};
+use crate::adding::entries::{push_over, push_saddles};
+use crate::adding::label_count;
+use crate::complex::{Column, Entry};
 use crossing_maps::bridges::Bridge;
 use kh_types::NoMemory;
 use prime_field::PrimeField;
@@ -193,4 +194,34 @@ fn push_all<'a, F: PrimeField>(
         push_along::<F>(column, links, bridges, child, entry)?;
     }
     Ok(())
+}
+
+/// Adds the entries along an old map to the object to which it leads, if that is there.
+fn push_along<'a, F: PrimeField>(
+    column: &mut Column,
+    links: &Links<'a>,
+    bridges: &mut Bridges,
+    from: &Child<'a>,
+    old: &Entry,
+) -> Result<(), NoMemory>
+    requires links { AreLinks F.P links.now }
+    requires from { IsChild links.now.adding.now from.now }
+    requires head { old.now.head < length (objects_in links.now.adding.now) }
+    requires terms { old.now.terms.items ≡ terms_between links.now.adding.now.complex.now
+        from.now.parent old.now.head }
+    requires reduced { AreReduced F.P old.now.terms.items }
+    requires bridges { AreBridgesFrom links.now.adding.now from.now.side.smoothing
+        from.now.parent bridges.old.items }
+    ensures entries { (targets : List Origin) → HasEntriesTo F.P links.now.adding.now
+        (origin_in from.now) targets column.old.items
+        → OnOk result (HasEntriesTo F.P links.now.adding.now (origin_in from.now)
+        (targets ++ targets_along links.now.adding.now from.now.side.smoothing old.now.head)
+        column.new.items) }
+    ensures bridges { OnOk result (AreBridgesFrom links.now.adding.now
+        from.now.side.smoothing from.now.parent bridges.new.items) }
+{
+    match parent_at(links, old.head) {
+        None => Ok(()),
+        Some(head) => push_over::<F>(column, links, bridges, from, old, &head),
+    }
 }

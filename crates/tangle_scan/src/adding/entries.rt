@@ -1,21 +1,20 @@
 //! New entries: old maps between successors with one smoothing, and saddles.
 
-ghost use Rattle.std.specs.Prelude.{◌≡◌, ℕ, ◌<◌, List, [], ◌∷◌, ◌++◌, length, OnOk};
+ghost use Rattle.std.specs.Prelude.{◌≡◌, ◌<◌, List, [], ◌∷◌, ◌++◌, length, OnOk};
 ghost use Rattle.std.specs.List.{filter};
 ghost use Rattle.scan_laws.specs.Adding.{Origin, origins_with, sign_at};
 ghost use Rattle.tangle_maps.specs.Sums.{AreReduced};
 ghost use Rattle.tangle_scan.specs.AddedBridges.{AreBridgesFrom, IsBridgeOver, IsSaddleOf};
 ghost use Rattle.tangle_scan.specs.Additions.{AreLinks, HasEntriesTo, IsChild, IsParent};
-ghost use Rattle.tangle_scan.specs.Additions.{code_in, has_terms, objects_in, origin_in, saddle_targets, scan_in, targets_along};
-ghost use Rattle.tangle_scan.specs.Held.{degree_at, terms_between};
+ghost use Rattle.tangle_scan.specs.Additions.{code_in, has_terms, objects_in, origin_in, saddle_targets, scan_in};
+ghost use Rattle.tangle_scan.specs.Held.{terms_between};
 
 use crate::adding::bridges::{Bridges, bridge_to};
-use crate::adding::children::{Child, Links, Parent, child_of, parent_at};
-use crate::adding::successors::label_count;
-use crate::column::{Column, Entry};
+use crate::adding::children::{Child, Links, Parent, child_of, labels_between};
+use crate::adding::label_count;
+use crate::complex::{Column, Entry};
 use crossing_maps::bridges::Bridge;
 use crossing_maps::maps::{added_map, saddle_map};
-use crossing_maps::seams::Labels;
 use dotted_maps::term::Term;
 use kh_types::NoMemory;
 use prime_field::PrimeField;
@@ -47,16 +46,6 @@ fn push_entry(column: &mut Column, head: usize, terms: Terms) -> Result<(), NoMe
         column.push(Entry { head, terms })?;
     }
     Ok(())
-}
-
-/// The labels of two new objects.
-fn labels_between(from: &Child<'_>, to: &Child<'_>) -> Labels
-    ensures { result ≡ record { before = from.now.label; behind = to.now.label } }
-{
-    Labels {
-        before: from.label,
-        behind: to.label,
-    }
 }
 
 /// Adds the entry to a new object along an old map, which keeps its smoothing.
@@ -115,7 +104,7 @@ fn push_all_along<'a, F: PrimeField>(
 }
 
 /// Adds the entries along an old map to the object to which it leads, which is there.
-fn push_over<'a, F: PrimeField>(
+pub fn push_over<'a, F: PrimeField>(
     column: &mut Column,
     links: &Links<'a>,
     bridges: &mut Bridges,
@@ -146,36 +135,6 @@ fn push_over<'a, F: PrimeField>(
         bridge: &bridges[place].bridge,
     };
     push_all_along::<F>(column, links, &arrow, head)
-}
-
-/// Adds the entries along an old map to the object to which it leads, if that is there.
-pub fn push_along<'a, F: PrimeField>(
-    column: &mut Column,
-    links: &Links<'a>,
-    bridges: &mut Bridges,
-    from: &Child<'a>,
-    old: &Entry,
-) -> Result<(), NoMemory>
-    requires links { AreLinks F.P links.now }
-    requires from { IsChild links.now.adding.now from.now }
-    requires head { old.now.head < length (objects_in links.now.adding.now) }
-    requires terms { old.now.terms.items ≡ terms_between links.now.adding.now.complex.now
-        from.now.parent old.now.head }
-    requires reduced { AreReduced F.P old.now.terms.items }
-    requires bridges { AreBridgesFrom links.now.adding.now from.now.side.smoothing
-        from.now.parent bridges.old.items }
-    ensures entries { (targets : List Origin) → HasEntriesTo F.P links.now.adding.now
-        (origin_in from.now) targets column.old.items
-        → OnOk result (HasEntriesTo F.P links.now.adding.now (origin_in from.now)
-        (targets ++ targets_along links.now.adding.now from.now.side.smoothing old.now.head)
-        column.new.items) }
-    ensures bridges { OnOk result (AreBridgesFrom links.now.adding.now
-        from.now.side.smoothing from.now.parent bridges.new.items) }
-{
-    match parent_at(links, old.head) {
-        None => Ok(()),
-        Some(head) => push_over::<F>(column, links, bridges, from, old, &head),
-    }
 }
 
 /// Minus 1 to a degree.

@@ -2,7 +2,7 @@ use Rattle.std.proofs.Common.{◌∙◌, List, length, ap, arith, subst, sym}
 use Rattle.std.specs.Prelude.{Option}
 use Rattle.std.specs.List.{range_with_len}
 use Rattle.std.proofs.lemmas.List.FromFn.{length-range_with_len}
-use Rattle.tangle_scan.specs.declared.adding.successors.Successors.{Successors}
+use Rattle.tangle_scan.specs.declared.adding.Successors.{Successors}
 use Rattle.tangle_scan.specs.Additions.{IsObjectFrom, MaySucceed, SucceedTo, all_origins, objects_in}
 use Rattle.tangle_scan.proofs.ZippedLists.{zip-length}
 use Rattle.tangle_scan.proofs.AddedScan.{complex-made, scan-made}

@@ -1,6 +1,6 @@
 use Rattle.std.proofs.Common.{◌∙◌, List, map, arith, subst, sym}
 use Rattle.std.specs.List.{flat_map}
-use Rattle.tangle_scan.specs.declared.column.Entry.{Entry}
+use Rattle.tangle_scan.specs.declared.complex.Entry.{Entry}
 use Rattle.tangle_scan.specs.Additions.{HasEntriesTo, IsColumnFrom, head_of, origin_in, targets_along}
 use Rattle.tangle_scan.specs.Held.{column_at}
 use Rattle.tangle_scan.proofs.MoreColumns.{column-read}

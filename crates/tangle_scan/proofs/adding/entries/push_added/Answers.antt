@@ -2,7 +2,7 @@ use Rattle.std.proofs.Common.{refl, subst}
 use Rattle.crossing_maps.specs.NewTerms.{AreAddedTerms}
 use Rattle.crossing_maps.specs.declared.seams.Labels.{Labels}
 use Rattle.scan_laws.specs.Scans.{pairs_of}
-use Rattle.tangle_scan.specs.declared.column.Entry.{Entry}
+use Rattle.tangle_scan.specs.declared.complex.Entry.{Entry}
 use Rattle.tangle_scan.specs.Additions.{code_in, done_in, origin_in, scan_in}
 use Rattle.tangle_scan.proofs.NewEntries.{entry-added, entry-on-ok}
 use Rattle.tangle_scan.proofs.adding.entries.push_added.Goals as goal

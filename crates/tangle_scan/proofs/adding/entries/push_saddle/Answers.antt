@@ -3,7 +3,7 @@ use Rattle.crossing_maps.specs.NewTerms.{AreSaddleTerms}
 use Rattle.crossing_maps.specs.declared.seams.Labels.{Labels}
 use Rattle.scan_laws.specs.Scans as scans
 use Rattle.scan_laws.specs.Scans.{pairs_of}
-use Rattle.tangle_scan.specs.declared.column.Entry.{Entry}
+use Rattle.tangle_scan.specs.declared.complex.Entry.{Entry}
 use Rattle.tangle_scan.specs.Additions.{code_in, done_in, origin_in, scan_in}
 use Rattle.tangle_scan.proofs.NewEntries.{entry-on-ok, entry-saddled}
 use Rattle.tangle_scan.proofs.NewObjects.{scan-object}
