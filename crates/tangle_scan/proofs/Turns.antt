@@ -67,6 +67,11 @@ step-set p turn columns x column within cleared idle =
       others = λ z other. column-other columns x z column other;
     }
 
+pub step-none : (p : ℕ) (turn : Turn) (columns : List (Vec Entry)) (x : ℕ) → length columns ≡ length turn.objects.now
+    → (x < length columns → ⊥) → IsClearStep p turn x columns columns
+step-none p turn columns x size past =
+    record { cleared = λ below. absurd (past (omega (arith, below, size))); idle = λ none. refl; others = λ z other. refl }
+
 pub cleared-start : (p : ℕ) (turn : Turn) (columns : List (Vec Entry)) → AreCleared p turn [] columns columns
 cleared-start p turn columns x below = inr (refl, λ has. omega (arith, has.1))
 
