@@ -28,9 +28,6 @@ use Rattle.added_crossing_laws.proofs.Pairs.{only-one}
 use Rattle.kh_types.proofs.Tests.{nat_eq-turned, other-differs, other-passes}
 
 -- a sum over paired points is one over pairs
-
-]
-
 one_and_one : (s : ℕ) (p q : Bool) → s * (cond p 1 0 + cond q 1 0) ≡ cond p s 0 + cond q s 0
 one_and_one s true true = omega arith
 one_and_one s true false = omega arith

@@ -58,9 +58,6 @@ IsSound-finger code c d p q is bigon =
     }
 
 -- the tests find what they should
-
-]
-
 pub HasKinkAt-found : (crossings : List (List ℕ)) (c : ℕ) → c < length crossings → is_kink (slots_in crossings c) ≡ true
     → (p : ℕ) × HasKinkAt crossings c p
 HasKinkAt-found crossings c below holds = grind (arith, nat_tests)
