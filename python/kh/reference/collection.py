@@ -8,11 +8,12 @@ import json
 import os
 import sys
 from collections import Counter
-from typing import NamedTuple
+from collections.abc import Iterator
+from typing import Any, NamedTuple
 
 from ..commands import Unreadable
 from .table_forms import INTEGRAL, RATIONAL, Empty, Reading, field_of, groups_of, j_is_first, read, read_value
-from .stored import listed
+from .stored import Reference, listed
 from .ways import AGREES, EXPLAINED, NEAREST, OTHER, TURNINGS, Comparison, Table, Verdict, sentence, short
 
 OVER = {RATIONAL: "Q", INTEGRAL: "Z"}
@@ -98,7 +99,7 @@ class Compared(NamedTuple):
 class Collection:
     """The answers of a program, compared one by one."""
 
-    def __init__(self, answers, reference, words):
+    def __init__(self, answers: list[Answer], reference: Reference, words: Any) -> None:
         self.answers, self.reference, self.words = answers, reference, words
         self.compared, self.unreadable, self.strangers, self.fields = [], [], [], {}
         # (the links whose answers are no tables; and those without an answer, by the field in words and why)
@@ -185,7 +186,7 @@ class Collection:
             words = " ".join(filter(None, (counted(len(names), "link has", "links have"), "no answer", listed(overs))))
             yield f"{words}{f', since {why}' if why else ''}: {self.some(names)}"
 
-    def links(self):
+    def links(self) -> dict[str, str]:
         """What came of each link of the reference, in its order."""
         found = {name: {} for name in self.reference.lines}
         turned = {it.name for it in self.exact if it.verdict.kind != AGREES}
@@ -249,7 +250,7 @@ class Collection:
         if left:
             yield f"{counted(left, 'answer', 'answers')} in {counted(len(every) - self.words.most, 'other way', 'other ways')}"
 
-    def lines(self):
+    def lines(self) -> Iterator[str]:
         """What is said of all."""
         yield f"{len(self.of_kind(AGREES))} of {counted(len(self.compared), 'answer agrees', 'answers agree')}"
         if self.way:
@@ -264,7 +265,7 @@ class Collection:
             yield f"{counted(len(self.strangers), 'answer is', 'answers are')} of no link of the reference: {self.some(self.strangers)}"
         yield from self.silent()
 
-    def is_fine(self):
+    def is_fine(self) -> bool:
         """Whether all links have an answer that agrees."""
         agreeing = len(self.of_kind(AGREES))
         return 0 < agreeing == len(self.compared) and not (self.unreadable or self.missing())
