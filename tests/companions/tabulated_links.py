@@ -176,11 +176,8 @@ GIVEN = (
 )
 QUESTIONS = [
     (("same",), SAME + UNKNOTS.format("2,3", "") + TREFOILS.format(""), "classes: 2; links in them: 5, of 8 with a table"),
-    (
-        ("same", "--mirror"),
-        SIDES + UNKNOTS.format("2,3", "both\t") + TREFOILS.format("same\t") + "2\te\t2,3\tmirror\tmirrored\n",
-        "classes: 2; links in them: 6, of 8 with a table",
-    ),
+    (("same", "--mirror"), SIDES + UNKNOTS.format("2,3", "both\t") + TREFOILS.format("same\t") + "2\te\t2,3\tmirror\tmirrored\n",
+     "classes: 2; links in them: 6, of 8 with a table"),
     (("torsion",), TORSION + EVEN + THREE, "links with torsion: 4; without: 4; known over too few fields: 2"),
     (("torsion", "--prime", "3"), TORSION + THREE, "links with torsion: 1; without: 7; known over too few fields: 2"),
     (("torsion", "--prime", "5"), TORSION, "links with torsion: 0; without: 0; known over too few fields: 10"),
