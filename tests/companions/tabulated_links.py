@@ -3,6 +3,7 @@ import json
 import random
 
 from bench.braids import planar_diagram
+from shared.places import read_text
 from shared.running import PATIENCE
 from shared.tabulating import COUNT, HEAD, TABULATE, kept_fault, wanted
 
@@ -23,8 +24,7 @@ def rows_of_a_list(folder):
         folder.run("run", path, folder.at("results.db"), "--fields", "2")
     every = folder.run("write", folder.at("results.db"))[1].splitlines()
     wanted_rows = [HEAD[:4], ["b", "PD[Loop[1]]", "2", "0"], ["line 5", "PD[]", "2", "0"], ["a", "wide", "2", "6"], ["none", " ", "2", "1"]]
-    with open(path, encoding="utf-8") as file:
-        given = file.read()
+    given = read_text(path)
     for words, text in (((path,), None), (("-",), given)):
         came = folder.run("write", folder.at("results.db"), "--list", *words, given=text)
         rows = [line.split("\t")[:4] for line in came[1].splitlines()]
@@ -135,8 +135,7 @@ def dropped_results(folder):
 def spoilt_lines(folder):
     """Lines of JSON that `work` has not written are told; those of a version without programs are read."""
     folder.run("work", folder.at("list"), folder.at("out"))
-    with open(folder.at("out"), encoding="utf-8") as file:
-        text = file.read()
+    text = read_text(folder.at("out"))
     folder.run("store", folder.at("results.db"), folder.write("older", text.replace(', "program": "scan"', "")))
     programs = folder.select("select distinct program from answers")
     for wrong in ("[]\n", '{"name": "one"}\n', text.splitlines()[0].replace("; 1 0 1", "; one") + "\n"):
