@@ -95,6 +95,11 @@ class Compared(NamedTuple):
     def label(self):
         return f"{self.name} {self.over}"
 
+    @property
+    def reason(self):
+        """Why it is shifted so, where that is known."""
+        return "".join(it for it in self.verdict.lines[1:] if it.startswith("so "))
+
 
 class Collection:
     """The answers of a program, compared one by one."""
@@ -228,21 +233,26 @@ class Collection:
         return [it for it in self.compared if it.verdict.kind == kind]
 
     def one_way(self):
-        """The way in which the most answers are exact, if they are more than those that agree, and the answers that are exact in it."""
+        """The way in which the most answers are exact, if they are more than those that agree, and not fewer than those that one reason
+        shifts; and the answers that are exact in it."""
         common = Counter(it.verdict.exact for it in self.of_kind(EXPLAINED) if it.verdict.exact)
         best, whole = None, self.of_kind(AGREES)
+        shifted = max(Counter(it.reason for it in self.of_kind(EXPLAINED) if it.reason).values(), default=0)
         for way in dict.fromkeys([*((place, (0, 0)) for place in range(1, len(TURNINGS))), *(it for it, _ in common.most_common(TRIED))]):
             exact = [it for it in self.compared if it.comparison.agrees_in(*way)]
-            if len(exact) > len(whole):
+            if len(exact) > len(whole) and len(exact) >= shifted:
                 best, whole = way, exact
         return best, whole
 
     def explained(self, but):
-        """What explains the answers but these, those of most answers first."""
-        found = {}
-        for it in self.of_kind(EXPLAINED):
-            if it not in but:
-                found.setdefault(it.verdict.lines[0], []).append(it.label)
+        """What explains the answers but these, those of most answers first; where one reason shifts links by different numbers, the reason."""
+        found, ways, some = {}, {}, [it for it in self.of_kind(EXPLAINED) if it not in but]
+        for it in some:
+            ways.setdefault(it.reason, set()).add(it.verdict.lines[0])
+        for it in some:
+            is_own = it.reason and len(ways[it.reason]) > 1
+            told = f"the same table, shifted at each link by its own numbers: {it.reason}" if is_own else it.verdict.lines[0]
+            found.setdefault(told, []).append(it.label)
         every = sorted(found.items(), key=lambda it: -len(it[1]))
         for line, labels in every[: self.words.most]:
             yield f"{counted(len(labels), 'answer', 'answers')} ({self.some(labels)}): {line}"
