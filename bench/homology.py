@@ -33,4 +33,4 @@ def main(arguments):
 if __name__ == "__main__":
     parser = reader(__doc__, 3, workers=1, only="")
     parser.add_argument("other")
-    main(parser.parse_args())
+    main(parser.parse_intermixed_args())
