@@ -19,7 +19,6 @@ The gate does not run it.
 The diagrams are the closed braids of `braids.txt` and those of 17 and 20 crossings below. A generator's time is that of the run by the
 number of generators.
 """
-import argparse
 import datetime
 import os
 import shutil
@@ -29,9 +28,7 @@ import sys
 
 import kh
 from braids import braids, planar_diagram
-from homology import PROGRAM, run
-
-TOP = os.path.dirname(os.path.dirname(os.path.abspath(__file__)))
+from measuring import PROGRAM, TOP, in_turns, is_same, reader, run
 
 RESULTS = os.path.join(TOP, "bench", "RESULTS.md")
 OTHERS = "## By other scripts"
@@ -64,14 +61,11 @@ class Bench:
     def mine(self, words, text):
         return run([self.program, *words], text)
 
-    def others(self, words, text):
-        return run([self.other, *words], text)
-
     def both(self, words, other_words, text):
         """The least times of both, alternated, and whether both write the same table and polynomial."""
-        pairs = [(self.mine(words, text), self.others(other_words, text)) for _ in range(self.runs)]
-        lines = [[line for line in pairs[0][k][0].splitlines() if line != "table 2"] for k in (0, 1)]
-        return min(one[1] for one, _ in pairs), min(two[1] for _, two in pairs), lines[0] == lines[1]
+        calls = ([self.program, *words], text), ([self.other, *other_words], text)
+        (wrote, mine, *_), (others_wrote, other, *_) = in_turns(calls, self.runs)
+        return mine, other, is_same(wrote, others_wrote)
 
     def note(self, work, found, wanted, fits):
         self.rows.append((work, found, wanted, "yes" if fits else "no"))
@@ -80,7 +74,7 @@ class Bench:
 
 def generators(bench, text):
     """How many generators a diagram of 14 crossings or more has: eight loops more take it beyond the limit, whose line has the number."""
-    wrote = bench.mine(["homology"], text[:-1] + ",Loop[1]" * 8 + "]")[0].split()
+    wrote = bench.mine(["homology"], text[:-1] + ",Loop[1]" * 8 + "]").wrote.split()
     return int(wrote[2]) >> 8
 
 
@@ -147,7 +141,7 @@ def limit(bench):
         text = planar_diagram(*braid)
         mine, other, _ = bench.both(["homology"], [], text)
         ratios.append(mine / max(other, 0.001))
-        memory = max(memory, bench.mine(["homology"], text)[3])
+        memory = max(memory, bench.mine(["homology"], text).memory)
     bench.note("limit generators, 20 crossings: times of the other, worst", f"{max(ratios):.2f}", "1", max(ratios) <= 1)
     bench.note("limit generators, 20 crossings: memory", f"{memory:.0f} MB", "20 MB", memory <= 20)
 
@@ -155,14 +149,14 @@ def limit(bench):
 def workers(bench):
     """Four workers against one, on the ten largest braids."""
     texts = [(name, planar_diagram(strands, letters)) for name, strands, letters in braids() if len(letters) >= 13]
-    timed = sorted(((bench.mine(["homology"], text)[1], name, text) for name, text in texts), reverse=True)[:LARGEST]
+    timed = sorted(((bench.mine(["homology"], text).seconds, name, text) for name, text in texts), reverse=True)[:LARGEST]
     wall, user, memory = [], [], {1: 0, 4: 0}
     for _, name, text in timed:
-        pairs = [(bench.mine(["homology"], text), bench.mine(["homology", "--workers", "4"], text)) for _ in range(bench.runs)]
-        wall.append(min(one[2] for one, _ in pairs) / min(four[2] for _, four in pairs))
-        user.append(min(four[1] for _, four in pairs) / min(one[1] for one, _ in pairs))
-        memory[1] = max(memory[1], *(one[3] for one, _ in pairs))
-        memory[4] = max(memory[4], *(four[3] for _, four in pairs))
+        calls = [([bench.program, "homology", *words], text) for words in ((), ("--workers", "4"))]
+        (_, one, one_wall, one_most), (_, four, four_wall, four_most) = in_turns(calls, bench.runs)
+        wall.append(one_wall / four_wall)
+        user.append(four / one)
+        memory = {1: max(memory[1], one_most), 4: max(memory[4], four_most)}
         print(f"  {name}: 4 workers {wall[-1]:.2f} times faster, user time {user[-1]:.2f} times", flush=True)
     bench.note("4 workers, wall: times faster than 1, least of the ten largest", f"{min(wall):.2f}", "2.5", min(wall) >= 2.5)
     bench.note("4 workers, user time: times that of 1, worst", f"{max(user):.2f}", "1.3", max(user) <= 1.3)
@@ -172,8 +166,8 @@ def workers(bench):
 
 def small(bench):
     """Acceptance, faces and pieces of 20 crossings, as a whole process, against `true`."""
-    nothing = min(run(["true"], "")[2] for _ in range(200))
-    ratio = min(bench.mine(["check"], planar_diagram(*TWENTY[0]))[2] for _ in range(200)) / nothing
+    nothing = min(run(["true"]).wall for _ in range(200))
+    ratio = min(bench.mine(["check"], planar_diagram(*TWENTY[0])).wall for _ in range(200)) / nothing
     bench.note("check of 20 crossings, whole process, wall: times `true`", f"{ratio:.2f}", "3", ratio <= 3)
 
 
@@ -216,10 +210,7 @@ def main(arguments):
 
 
 if __name__ == "__main__":
-    parser = argparse.ArgumentParser(description=__doc__, formatter_class=argparse.RawDescriptionHelpFormatter)
-    parser.add_argument("runs", nargs="?", type=int, default=3)
+    parser = reader(__doc__, 3, program=PROGRAM, only="")
     parser.add_argument("other", nargs="?", default=os.environ.get("KH_BASELINE"))
-    parser.add_argument("--program", default=PROGRAM)
-    parser.add_argument("--only", default="")
     parser.add_argument("--no-results", action="store_true")
     main(parser.parse_intermixed_args())

@@ -9,12 +9,11 @@ log, and the ratios of the least user and system times and of the most memory; t
 several kinds, the worst of its runs; and that of `show/verify.py` on the log of a diagram of 11 crossings. The last lines are rows of
 `bench/RESULTS.md`, which are put there by hand. Build the program first, by `./build`. The gate does not run it.
 """
-import argparse
 import os
 import sys
 
 from braids import braids, planar_diagram
-from homology import PROGRAM, TOP, run
+from measuring import PROGRAM, TOP, in_turns, reader, run
 from reduced import THREE, largest
 
 LOG_BYTES = 67_108_864
@@ -41,24 +40,21 @@ class Figures:
 
 def turns(program, text, log, runs):
     """The least times and the most memory of each command, in turns."""
-    commands = {"homology": text, "certify": text, "verify": log}  # (a log tells its field)
-    seen = {command: [] for command in commands}
-    for _ in range(runs):
-        for command, given in commands.items():
-            seen[command].append(run([program, command, *(() if command == "verify" else THREE)], given))
-    return {command: (min(it[1] for it in them), max(it[3] for it in them)) for command, them in seen.items()}
+    calls = {command: ([program, command, *THREE], text) for command in ("homology", "certify")}
+    calls["verify"] = [program, "verify"], log  # (a log tells its field)
+    return {command: (seconds, memory) for command, (_, seconds, _, memory) in zip(calls, in_turns(calls.values(), runs))}
 
 
 def against_homology(program, runs, figures):
     worst = {(command, at): 0 for command in ("certify", "verify") for at in (0, 1)}
     for name, text in largest():
-        log = run([program, "certify", *THREE], text)[0]
+        log = run([program, "certify", *THREE], text).wrote
         found = turns(program, text, log, runs)
         for command, at in worst:
             worst[command, at] = max(worst[command, at], found[command][at] / found["homology"][at])
         ratios = ", ".join(f"{it} {found[it][0]:.2f} s and {found[it][1]:.0f} MB" for it in found)
         print(f"{name}: a log of {len(log):,} bytes; {ratios}", flush=True)
-        if not run([program, "verify"], log)[0].startswith("verified\n"):
+        if not run([program, "verify"], log).wrote.startswith("verified\n"):
             print(f"{name}: NOT VERIFIED")
     for (command, at), ratio in worst.items():
         what = ("time", "memory")[at]
@@ -70,7 +66,7 @@ def hostile(program, runs, figures):
     for head, begin in HEADS.items():
         for name, filler in FILLERS.items():
             text = begin + filler * ((LOG_BYTES - len(begin)) // len(filler))
-            wrote, took, _, memory = max((run([program, "verify"], text) for _ in range(runs)), key=lambda it: it[1])
+            wrote, took, _, memory, *_ = max((run([program, "verify"], text) for _ in range(runs)), key=lambda it: it.seconds)
             slowest = max(slowest, took)
             print(f"64 MiB of {name}{head}: {took:.2f} s, {memory:.0f} MB, {wrote.strip()[:60]}", flush=True)
     figures.note("`verify` of 64 MiB that are no log, worst", slowest, 1, " s")
@@ -78,7 +74,7 @@ def hostile(program, runs, figures):
 
 def second_verifier(program, figures):
     strands, letters = next((strands, letters) for _, strands, letters in braids() if len(letters) == ELEVEN)
-    log = run([program, "certify"], planar_diagram(strands, letters))[0]
+    log = run([program, "certify"], planar_diagram(strands, letters)).wrote
     wrote, took, *_ = run([sys.executable, os.path.join(TOP, "show", "verify.py")], log)
     print(f"show/verify.py: {len(log):,} bytes of {ELEVEN} crossings, {wrote[:9].strip()}")
     figures.note(f"`show/verify.py` on a log of {ELEVEN} crossings", took, 10, " s")
@@ -93,8 +89,5 @@ def main(program, runs):
 
 
 if __name__ == "__main__":
-    reader = argparse.ArgumentParser(description=__doc__, formatter_class=argparse.RawDescriptionHelpFormatter)
-    reader.add_argument("runs", nargs="?", type=int, default=2)
-    reader.add_argument("--program", default=PROGRAM)
-    given = reader.parse_args()
+    given = reader(__doc__, 2, program=PROGRAM).parse_args()
     main(given.program, given.runs)

@@ -17,7 +17,6 @@ of the two are alternated, and the least of each is taken. For each diagram it p
 of `kh` it is; at the end the greatest ratio. It wants gdb with Python, and nm. Build the program first, by `./build`. The gate does not
 run it.
 """
-import argparse
 import json
 import os
 import re
@@ -26,7 +25,7 @@ import sys
 import tempfile
 
 from braids import braids, planar_diagram
-from homology import PROGRAM, run
+from measuring import PROGRAM, reader, run
 
 HERE = os.path.dirname(os.path.abspath(__file__))
 CROSSINGS = 16
@@ -80,7 +79,7 @@ def main(arguments):
         for _ in range(arguments.runs):
             mine.append(building(arguments.program, words, text))
             others.append(others_building(arguments.other, arguments.field, text))
-            all_of_it.append(run([arguments.program, *words], text)[1])
+            all_of_it.append(run([arguments.program, *words], text).seconds)
         (seconds, blocks), other = min(mine), min(others)
         greatest = max(greatest, seconds / other)
         print(
@@ -92,10 +91,6 @@ def main(arguments):
 
 
 if __name__ == "__main__":
-    parser = argparse.ArgumentParser(description=__doc__, formatter_class=argparse.RawDescriptionHelpFormatter)
-    parser.add_argument("runs", nargs="?", type=int, default=3)
-    parser.add_argument("--only", default="")
-    parser.add_argument("--field", default="2")
-    parser.add_argument("--program", default=PROGRAM)
+    parser = reader(__doc__, 3, only="", field="2", program=PROGRAM)
     parser.add_argument("other")
     main(parser.parse_intermixed_args())

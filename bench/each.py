@@ -16,24 +16,20 @@ It prints the seconds of each, and their ratios: what `each` takes of the comput
 which at most 2 is wanted. It compares what `each` writes with what the runs write, byte for byte. Build the programs first, by `./build`.
 The gate does not run it.
 """
-import argparse
 import os
 import random
 import re
-import subprocess
 import sys
 import tempfile
-import time
 
+import measuring
 from braids import planar_diagram
+from measuring import FIELDS, SCAN, TOP, reader
 
-TOP = os.path.dirname(os.path.dirname(os.path.abspath(__file__)))
-SCAN = os.path.join(TOP, "crates", "scan_main", "out", "scan_main")
 TABULATE = os.path.join(TOP, "tabulate", "kh-tabulate")
-FIELDS = ("2", "3", "5", "7")
 PARTS, SEED, WANTED = 4, 16, 2
 EMPTY = 5
-FRAME = re.compile(rb"code (\d+) field (\d) status (\d+) bytes (\d+)\n")
+FRAME = re.compile(r"code (\d+) field (\d) status (\d+) bytes (\d+)\n")
 
 
 def drawn(count, crossings):
@@ -49,37 +45,29 @@ def drawn(count, crossings):
     return list(found)
 
 
-def run(words, given=b""):
-    """What a run writes, its user and system time and that of all it has waited for, and its wall time."""
-    begun = time.perf_counter()
-    with tempfile.TemporaryFile() as source:
-        source.write(given)
-        source.seek(0)
-        program = subprocess.Popen(words, stdin=source, stdout=subprocess.PIPE, stderr=subprocess.DEVNULL)
-        wrote = program.stdout.read()
-        program.stdout.close()
-        _, status, usage = os.wait4(program.pid, 0)
-    program.returncode = os.waitstatus_to_exitcode(status)
-    if program.returncode:
-        sys.exit(f"each: {' '.join(words)} ended with status {program.returncode}")
-    return wrote, usage.ru_utime + usage.ru_stime, time.perf_counter() - begun
+def run(words, text=""):
+    """A run that has to answer."""
+    came = measuring.run(words, text)
+    if came.status:
+        sys.exit(f"each: {' '.join(words)} ended with status {came.status}")
+    return came
 
 
 def one_by_one(scan, codes):
     """The texts of the runs by code and field, in their order, and the seconds of computing."""
-    empty = sum(run([scan], b"PD[]")[1] for _ in range(EMPTY)) / EMPTY
+    empty = sum(run([scan], "PD[]").seconds for _ in range(EMPTY)) / EMPTY
     texts, seconds = [], 0
     for code in codes:
         for field in FIELDS:
-            wrote, took, _ = run([scan, "--field", field], code.encode())
-            texts.append(wrote)
-            seconds += took - empty
+            came = run([scan, "--field", field], code)
+            texts.append(came.wrote)
+            seconds += came.seconds - empty
     return texts, max(seconds, 1e-6)
 
 
 def frames(wrote):
     """The texts of the answers that `each` has written."""
-    at = len(b"answers 1\n")
+    at = len("answers 1\n")
     while at < len(wrote):
         found = FRAME.match(wrote, at)
         at = found.end() + int(found[4])
@@ -92,9 +80,9 @@ def tabulated(scan, codes, jobs, folder):
     with open(path, "w", encoding="utf-8") as file:
         file.writelines(f"code {number}\t{code}\n" for number, code in enumerate(codes))
     words = [TABULATE, "run", path, results, "--fields", "all", "--jobs", str(jobs), "--scan", scan]
-    took = run(words)[1:]
+    came = run(words)
     os.remove(results)
-    return took
+    return came.seconds, came.wall
 
 
 def measured(scan, codes, jobs):
@@ -105,7 +93,7 @@ def measured(scan, codes, jobs):
         for at in range(0, len(codes), size):
             part = codes[at : at + size]
             texts, alone = one_by_one(scan, part)
-            wrote, each, _ = run([scan, "each", "--field", "all"], "".join(f"{code}\n" for code in part).encode())
+            wrote, each, *_ = run([scan, "each", "--field", "all"], "".join(f"{code}\n" for code in part))
             processors, wall = tabulated(scan, part, jobs, folder)
             found = list(frames(wrote))
             differ += sum(one != two for one, two in zip(texts, found)) + abs(len(texts) - len(found))
@@ -128,9 +116,6 @@ def main(given):
 
 
 if __name__ == "__main__":
-    reader = argparse.ArgumentParser(description=__doc__, formatter_class=argparse.RawDescriptionHelpFormatter)
-    reader.add_argument("codes", nargs="?", type=int, default=2_000)
-    reader.add_argument("--crossings", type=int, default=16)
-    reader.add_argument("--jobs", type=int, default=os.cpu_count())
-    reader.add_argument("--scan", default=SCAN)
-    main(reader.parse_args())
+    parser = reader(__doc__, crossings=16, jobs=os.cpu_count(), scan=SCAN)
+    parser.add_argument("codes", nargs="?", type=int, default=2_000)
+    main(parser.parse_args())

@@ -9,15 +9,11 @@ gets by with an address space of 8 MB; and at the end by how much a crossing mor
 ticks, so the mean of many runs is taken. Build the program first, by `./build`. The gate does not run it.
 """
 import argparse
-import os
-import resource
-import subprocess
-import tempfile
 
 from braids import planar_diagram
+from measuring import PROGRAM, reader, run
 
-TOP = os.path.dirname(os.path.dirname(os.path.abspath(__file__)))
-PROGRAM = [os.path.join(TOP, "crates", "kh_main", "out", "kh_main"), "jones"]
+JONES = [PROGRAM, "jones"]
 MEMORY = 8 * 1024 * 1024
 
 # Name, strands, and letters: letter k is a crossing of the strands k and k + 1, negative where the letter is.
@@ -34,40 +30,23 @@ BRAIDS = [
 ]
 
 
-def run(words, text, memory=resource.RLIM_INFINITY):
-    """The user time of a run in seconds, and its status."""
-    with tempfile.TemporaryFile() as given:
-        given.write(text.encode())
-        given.seek(0)
-        program = subprocess.Popen(
-            words,
-            stdin=given,
-            stdout=subprocess.DEVNULL,
-            preexec_fn=(lambda: resource.setrlimit(resource.RLIMIT_AS, (memory, memory))) if memory >= 0 else None,
-        )
-        _, status, used = os.wait4(program.pid, 0)
-        program.returncode = os.waitstatus_to_exitcode(status)
-    return used.ru_utime, program.returncode
-
-
 def main(runs, other):
     times = []
     for name, strands, letters in BRAIDS:
         text = planar_diagram(strands, letters)
         mine = others = 0
         for _ in range(runs):
-            mine += run(PROGRAM, text)[0]
-            others += run(other, text)[0] if other else 0
+            mine += run(JONES, text).user
+            others += run(other, text).user if other else 0
         times.append(mine)
         beside = f", other {others / runs * 1000:.1f} ms, ratio {mine / others:.2f}" if other else ""
-        memory = "8 MB are enough" if run(PROGRAM, text, MEMORY)[1] == 0 else "8 MB are not enough"
+        memory = "8 MB are enough" if run(JONES, text, MEMORY).status == 0 else "8 MB are not enough"
         print(f"{name}: {mine / runs * 1000:.1f} ms{beside}, {memory}")
     print(f"from 12 to 16 crossings each multiplies the time by {(times[4] / times[0]) ** 0.25:.2f}")
 
 
 if __name__ == "__main__":
-    reader = argparse.ArgumentParser(description=__doc__, formatter_class=argparse.RawDescriptionHelpFormatter)
-    reader.add_argument("runs", nargs="?", type=int, default=40)
-    reader.add_argument("other", nargs=argparse.REMAINDER, metavar="OTHER WORDS")
-    words = reader.parse_args()
+    parser = reader(__doc__, 40)
+    parser.add_argument("other", nargs=argparse.REMAINDER, metavar="OTHER WORDS")
+    words = parser.parse_args()
     main(words.runs, words.other)

@@ -10,28 +10,18 @@ is compiled for this, carries out the same script many times, and tells what a m
 both end with the same diagram. Build the program first, by `./build`. It needs a C++ compiler (`CXX`, else c++). The gate does not run
 it.
 """
-import argparse
 import os
 import subprocess
 import tempfile
 
 from braids import planar_diagram
-from homology import PROGRAM, run
+from measuring import PROGRAM, in_turns, reader
 
 HERE = os.path.dirname(os.path.abspath(__file__))
 STRANDS, LETTERS = 3, [1, 2] * 9
-ROUND = [
-    "r2 add 1 right 14 right",
-    "r3 8 9 10",
-    "r3 8 9 10",
-    "r2 drop 19 20",
-    "r1 add 1 under plus",
-    "r1 add 5 over minus",
-    "r3 8 9 10",
-    "r3 8 9 10",
-    "r1 drop 20",
-    "r1 drop 19",
-]
+SLIDES = ["r3 8 9 10"] * 2
+ROUND = ["r2 add 1 right 14 right", *SLIDES, "r2 drop 19 20", "r1 add 1 under plus", "r1 add 5 over minus", *SLIDES]
+ROUND += ["r1 drop 20", "r1 drop 19"]
 ROUNDS, TIMES = 409, 100
 LIMIT = 20
 
@@ -53,12 +43,12 @@ def main(arguments):
     lines = ROUND * ROUNDS
     text = braid + ";" + "\n".join(lines)
     other, plain_time = plain(text)
-    edits = [run([arguments.program, "edit"], text) for _ in range(arguments.runs)]
-    checks = [run([arguments.program, "check"], braid) for _ in range(arguments.runs)]
-    wrote = edits[0][0].splitlines()
+    calls = ([arguments.program, "edit"], text), ([arguments.program, "check"], braid)
+    (edited, edits, *_), (_, checks, *_) = in_turns(calls, arguments.runs)
+    wrote = edited.splitlines()
     if len(wrote) != len(lines):
         raise SystemExit(f"the script ends at line {len(wrote)}: {wrote[-1] if wrote else 'nothing'}")
-    took = (min(edit[1] for edit in edits) - min(check[1] for check in checks)) * 1e6 / len(lines)
+    took = (edits - checks) * 1e6 / len(lines)
     last = wrote[-1].partition(" ")[2]
     same = "same" if last.replace(" ", "") == other.replace(" ", "") else "DIFFERENT"
     print(f"a move {took:.2f} us, plain arrays {plain_time:.2f} us, ratio {took / plain_time:.1f}, diagrams {same}")
@@ -66,7 +56,4 @@ def main(arguments):
 
 
 if __name__ == "__main__":
-    parser = argparse.ArgumentParser(description=__doc__, formatter_class=argparse.RawDescriptionHelpFormatter)
-    parser.add_argument("runs", nargs="?", type=int, default=20)
-    parser.add_argument("--program", default=PROGRAM)
-    main(parser.parse_args())
+    main(reader(__doc__, 20, program=PROGRAM).parse_args())

@@ -8,12 +8,10 @@ and system time of some runs and the most memory; with OTHER also those of the o
 write the same. (The system shows the memory of this script, where that is more.) Build the program first, by `./build`. The gate does not
 run it.
 """
-import argparse
 import os
 
 from braids import planar_diagram
-from homology import TREFOIL, run
-from scan import FIELDS, SCAN
+from measuring import FIELDS, SCAN, TREFOIL, in_turns, reader
 from scan_links import diagrams
 from plain import algebra
 
@@ -41,18 +39,12 @@ def measured():
     yield "the trefoil", TREFOIL
 
 
-def turns(programs, words, text, runs):
-    """For each program what it writes, the least time and the most memory of some runs, which take turns."""
-    seen = [[run([it, *words], text) for it in programs] for _ in range(runs)]
-    return [(them[0][0], min(it[1] for it in them), max(it[3] for it in them)) for them in zip(*seen)]
-
-
 def main(given):
     load, programs = os.getloadavg()[0], [given.scan, *filter(None, [given.other])]
     for name, text in measured():
-        (wrote, seconds, memory), *others = turns(programs, ["--field", given.field], text, given.runs)
+        (wrote, seconds, _, memory), *others = in_turns([([it, "--field", given.field], text) for it in programs], given.runs)
         line = f"{name}: {seconds * 1000:.0f} ms, {memory:.0f} MB"
-        for far_wrote, far_seconds, far_memory in others:
+        for far_wrote, far_seconds, _, far_memory in others:
             ratios = max(seconds, LEAST) / max(far_seconds, LEAST), memory / far_memory
             line += f", other {far_seconds * 1000:.0f} ms, {far_memory:.0f} MB, ratios {ratios[0]:.2f} and {ratios[1]:.2f}"
             line += ", same" if wrote == far_wrote else ", DIFFERENT"
@@ -61,9 +53,7 @@ def main(given):
 
 
 if __name__ == "__main__":
-    reader = argparse.ArgumentParser(description=__doc__, formatter_class=argparse.RawDescriptionHelpFormatter)
-    reader.add_argument("runs", nargs="?", type=int, default=3)
-    reader.add_argument("--field", choices=FIELDS, default="2")
-    reader.add_argument("--scan", default=SCAN)
-    reader.add_argument("other", nargs="?")
-    main(reader.parse_intermixed_args())
+    parser = reader(__doc__, 3, scan=SCAN)
+    parser.add_argument("--field", choices=FIELDS, default="2")
+    parser.add_argument("other", nargs="?")
+    main(parser.parse_intermixed_args())

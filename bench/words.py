@@ -9,21 +9,13 @@ comes the least address space in which `check` of a diagram writes its answer, i
 runs. Times are user and system time but for those of wrong words and `true`, which are wall times. Build the program first, by
 `./build`. The gate does not run it.
 """
-import argparse
 import os
-import resource
 import statistics
-import subprocess
-import sys
-import tempfile
-import time
 
 from braids import closure
+from measuring import PROGRAM, TREFOIL, reader, run
 
-TOP = os.path.dirname(os.path.dirname(os.path.abspath(__file__)))
-PROGRAM = os.path.join(TOP, "crates", "kh_main", "out", "kh_main")
 NUMBERS = [0, 349_525, 559_240, 1_047_524]
-CHECKED = "PD[X[1,4,2,5], X[3,6,4,1], X[5,2,6,3]]"
 EVERY_OPTION = ["--field=7", "--workers=64", "--to", "gauss", "--number", "1234567"]
 STEP = 16 * 1024
 
@@ -36,23 +28,9 @@ def diagram(number):
     return "PD[" + ", ".join(items) + "]"
 
 
-def run(words, text=b"", memory=None):
-    """The status, the processor time and the wall time of a run."""
-    with tempfile.TemporaryFile() as given:
-        given.write(text)
-        given.seek(0)
-        limit = memory and (lambda: resource.setrlimit(resource.RLIMIT_AS, (memory, memory)))
-        start = time.perf_counter()
-        program = subprocess.Popen(words, stdin=given, stdout=subprocess.DEVNULL, stderr=subprocess.DEVNULL, preexec_fn=limit)
-        _, status, used = os.wait4(program.pid, 0)
-        wall = time.perf_counter() - start
-        program.returncode = os.waitstatus_to_exitcode(status)
-    return program.returncode, used.ru_utime + used.ru_stime, wall
-
-
 def compared(one, other, runs, which):
-    """The medians of two runs, given by their words and texts; which time is said by its place."""
-    pairs = [(run(*one)[which], run(*other)[which]) for _ in range(runs)]
+    """The medians of a time of two runs, given by their words and texts."""
+    pairs = [(getattr(run(*one), which), getattr(run(*other), which)) for _ in range(runs)]
     return [statistics.median(times) for times in zip(*pairs)]
 
 
@@ -61,7 +39,7 @@ def least_memory(words, text, status):
     low, high = 0, 64 * 1024 * 1024
     while high - low > STEP:
         middle = (low + high) // 2 // STEP * STEP
-        if run(words, text, middle)[0] == status:
+        if run(words, text, middle).status == status:
             high = middle
         else:
             low = middle
@@ -72,20 +50,20 @@ def main(arguments):
     program, runs, ratios = os.path.abspath(arguments.program), arguments.runs, []
     for number in NUMBERS:
         bench = [program, "bench", "--number", str(number)]
-        mine, read = compared((bench,), ([program, "homology"], diagram(number).encode()), runs, 1)
+        mine, read = compared((bench,), ([program, "homology"], diagram(number)), runs, "seconds")
         print(f"bench --number {number}: {mine * 1000:.2f} ms; homology of its diagram: {read * 1000:.2f} ms")
         ratios.append((f"the bench of {number} to homology", mine / read))
     wrong = [program, "-f", "3", "homology"]
-    mine, true = compared((wrong,), (["true"],), max(runs, 201), 2)
+    mine, true = compared((wrong,), (["true"],), max(runs, 201), "wall")
     print(f"kh -f 3 homology: {mine * 1000:.2f} ms of wall time; true: {true * 1000:.2f} ms")
     ratios.append(("wrong words to true", mine / true))
     for name, words, text, status in (
-        ("check", [program, "check"], CHECKED.encode(), 0),
-        ("check with all options", [program, *EVERY_OPTION, "check"], CHECKED.encode(), 0),
-        ("bench --number 559240", [program, "bench", "--number", "559240"], b"", 0),
-        ("wrong words", wrong, b"", 2),
-        ("5,000 words", [program] + ["homology"] * 5_000, b"", 2),
-        ("true", ["true"], b"", 0),
+        ("check", [program, "check"], TREFOIL, 0),
+        ("check with all options", [program, *EVERY_OPTION, "check"], TREFOIL, 0),
+        ("bench --number 559240", [program, "bench", "--number", "559240"], "", 0),
+        ("wrong words", wrong, "", 2),
+        ("5,000 words", [program] + ["homology"] * 5_000, "", 2),
+        ("true", ["true"], "", 0),
     ):
         print(f"{name}: {least_memory(words, text, status) / 2**20:.2f} MB of address space")
     for name, ratio in ratios:
@@ -93,7 +71,4 @@ def main(arguments):
 
 
 if __name__ == "__main__":
-    parser = argparse.ArgumentParser(description=__doc__, formatter_class=argparse.RawDescriptionHelpFormatter)
-    parser.add_argument("runs", nargs="?", type=int, default=31)
-    parser.add_argument("--program", default=PROGRAM)
-    sys.exit(main(parser.parse_args()))
+    main(reader(__doc__, 31, program=PROGRAM).parse_args())

@@ -9,22 +9,15 @@ since a machine's cores share its memory, what N separate runs with one worker c
 after another, and their ratio of user times. Then a trefoil with 64 workers against one. On idle cores alone the wall times tell
 something; the load is printed. Build the program first, by `./build`. The gate does not run it.
 """
-import argparse
 import os
 import subprocess
 import tempfile
 import time
 
 from braids import braids, planar_diagram
-from homology import PROGRAM, TREFOIL, run
+from measuring import PROGRAM, TREFOIL, in_turns, reader, run
 
 LARGEST = 10
-
-
-def least(words, text, runs):
-    """The least user and wall times of some runs, the most memory, and what was written."""
-    seen = [run(words, text) for _ in range(runs)]
-    return min(r[1] for r in seen), min(r[2] for r in seen), max(r[3] for r in seen), seen[0][0]
 
 
 def at_once(text, copies):
@@ -46,11 +39,11 @@ def at_once(text, copies):
 def main(arguments):
     print("load", os.getloadavg())
     texts = [(name, planar_diagram(strands, letters)) for name, strands, letters in braids() if len(letters) >= 13]
-    timed = [(run([PROGRAM, "homology"], text)[1], name, text) for name, text in texts]
+    timed = [(run([PROGRAM, "homology"], text).seconds, name, text) for name, text in texts]
     many = ["--workers", str(arguments.workers)]
     for _, name, text in sorted(timed, reverse=True)[:LARGEST]:
-        user_one, wall_one, memory_one, wrote = least([PROGRAM, "homology"], text, arguments.runs)
-        user, wall, memory, wrote_too = least([PROGRAM, "homology", *many], text, arguments.runs)
+        (wrote, user_one, wall_one, memory_one), = in_turns([([PROGRAM, "homology"], text)], arguments.runs)
+        (wrote_too, user, wall, memory), = in_turns([([PROGRAM, "homology", *many], text)], arguments.runs)
         line = (
             f"{name}: 1 worker {wall_one:.2f} s wall {user_one:.2f} s user {memory_one:.0f} MB, {arguments.workers} workers"
             f" {wall:.2f} s wall {user:.2f} s user {memory:.0f} MB, {wall_one / wall:.2f} times faster, user ratio {user / user_one:.2f},"
@@ -59,12 +52,9 @@ def main(arguments):
         wall_copies, user_copies = at_once(text, arguments.workers)
         faster, ratio = arguments.workers * wall_one / wall_copies, user_copies / user_one
         print(f"{line}, {arguments.workers} runs at once {faster:.2f} times faster, user ratio {ratio:.2f}", flush=True)
-    walls = [min(run([PROGRAM, "homology", "--workers", w], TREFOIL)[2] for _ in range(100)) for w in ("64", "1")]
+    walls = [min(run([PROGRAM, "homology", "--workers", w], TREFOIL).wall for _ in range(100)) for w in ("64", "1")]
     print(f"trefoil: 64 workers {walls[0] * 1000:.2f} ms, 1 worker {walls[1] * 1000:.2f} ms, ratio {walls[0] / walls[1]:.2f}")
 
 
 if __name__ == "__main__":
-    parser = argparse.ArgumentParser(description=__doc__, formatter_class=argparse.RawDescriptionHelpFormatter)
-    parser.add_argument("runs", nargs="?", type=int, default=3)
-    parser.add_argument("--workers", type=int, default=4)
-    main(parser.parse_args())
+    main(reader(__doc__, 3, workers=4).parse_args())

@@ -176,12 +176,12 @@ def by_hand(name, text, line, answer):
 
 def nine_loops(program):
     """Nine curls become loops, more than a text can have, and none of them takes a curl."""
-    left = [codes.printed(codes.Code(codes.read(hand.curls(9 - done)).crossings, done)) for done in range(1, 9)]
+    left = [codes.printed(codes.Code(codes.read(hand.links(9 - done)).crossings, done)) for done in range(1, 9)]
     left.append("PD[" + ", ".join(f"Loop[{loop}]" for loop in range(1, 10)) + "]")
     wrote = "".join(f"{number} {text}\n" for number, text in enumerate([*left, left[7], left[8]], 1))
     script = "r1 drop 1\n" * 9 + "undo\nredo\n"
     for line, why in (("r1 add 9 under plus", "loop 9"), ("r1 add 10 under plus", "no arc 10")):
-        yield asked(program, ["edit"], f"{hand.curls(9)};{script}{line}", (moves.MOVE_REFUSED, wrote + f"12 refused {why}\n"))
+        yield asked(program, ["edit"], f"{hand.links(9)};{script}{line}", (moves.MOVE_REFUSED, wrote + f"12 refused {why}\n"))
 
 
 def bad_lines(program):

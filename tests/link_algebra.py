@@ -15,6 +15,7 @@ import plain.answers
 import plain.cube
 import plain.diagrams as codes
 from plain.codes import Ended
+from rows.texts import TREFOIL
 from shared import known_diagrams
 from shared.pool import tell_parts
 from shared.running import Child, fault_of, told
@@ -23,8 +24,6 @@ from shared.tables import table_of, wrong
 COMMANDS = ("mirror", "reverse", "union")
 DRAWN = 300
 FIELDS = "2357"
-TREFOIL = "PD[X[1,4,2,5], X[3,6,4,1], X[5,2,6,3]]"
-CURL = "PD[X[1,1,2,2]]"
 TWO_OVER = "PD[X[2,4,1,3], X[1,4,2,3]]"
 
 ROWS = (

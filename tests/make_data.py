@@ -21,7 +21,7 @@ import sys
 from collections import Counter
 
 from plain.cube import with_path
-from shared.places import DATA
+from shared.places import DATA, write_text
 from shared.stored_links import blocks_of
 from bench.braids import planar_diagram
 
@@ -38,23 +38,10 @@ TABLES = [
     (6, [1, 2, 3, 4, 5, 1, 2, 3, 4, 5, 1, 2, 3, 4, 5, 1, 2]),
 ]
 POLYNOMIALS = [
-    *TABLES,
-    (3, [1, -2] * 8 + [1]),
-    (2, [1] * 17),
-    (18, list(range(1, 18))),
-    (3, [1, -2] * 9),
-    (4, [1, 2, 3] * 6),
-    (4, [1, -2, 3, 2, -1, 2] * 3),
-    (2, [-1] * 18),
-    (3, [1, 2] * 9 + [1]),
-    (5, [1, -2, 3, -4] * 4 + [1, -2, 3]),
-    (20, [(-1) ** k * k for k in range(1, 20)]),
-    (3, [1, -2] * 10),
-    (5, [1, 2, 3, 4] * 5),
-    (6, [-1, -2, -3, -4, -5] * 4),
-    (4, [1, 1, -2, -2, 3, 3, -2, 1, 2, -3] * 2),
-    (2, [1] * 20),
-    (21, list(range(1, 21))),
+    *TABLES, (3, [1, -2] * 8 + [1]), (2, [1] * 17), (18, list(range(1, 18))), (3, [1, -2] * 9), (4, [1, 2, 3] * 6),
+    (4, [1, -2, 3, 2, -1, 2] * 3), (2, [-1] * 18), (3, [1, 2] * 9 + [1]), (5, [1, -2, 3, -4] * 4 + [1, -2, 3]),
+    (20, [(-1) ** k * k for k in range(1, 20)]), (3, [1, -2] * 10), (5, [1, 2, 3, 4] * 5), (6, [-1, -2, -3, -4, -5] * 4),
+    (4, [1, 1, -2, -2, 3, 3, -2, 1, 2, -3] * 2), (2, [1] * 20), (21, list(range(1, 21))),
 ]
 
 
@@ -165,13 +152,11 @@ def number_line(other, number):
 
 
 def write_numbers(other):
-    with open(os.path.join(DATA, "numbers.txt"), "w", encoding="utf-8") as file:
-        file.write(NUMBERS_HEAD + "".join(number_line(other, number) + "\n" for number in NUMBERS))
+    write_text(os.path.join(DATA, "numbers.txt"), NUMBERS_HEAD + "".join(number_line(other, number) + "\n" for number in NUMBERS))
 
 
 def write(name, what, lines, blocks):
-    with open(os.path.join(DATA, name), "w", encoding="utf-8") as file:
-        file.write("\n\n".join([HEAD.format(what=what, lines=lines).rstrip("\n"), *blocks]) + "\n")
+    write_text(os.path.join(DATA, name), "\n\n".join([HEAD.format(what=what, lines=lines).rstrip("\n"), *blocks]) + "\n")
 
 
 def main():

@@ -15,6 +15,8 @@ from collections import Counter
 import link_algebra
 import plain.cube
 import plain.diagrams as codes
+from rows.link import REDUCED_TREFOIL
+from rows.texts import TREFOIL, USAGE
 from shared import known_diagrams
 from shared.pool import tell_parts
 from shared.running import Child, fault_of, told
@@ -24,23 +26,12 @@ FIELDS = "2357"
 WHOLE = 1_000
 GENERATORS = 30_000
 SHARES = 8
-TREFOIL = "PD[X[1,4,2,5], X[3,6,4,1], X[5,2,6,3]]"
-REDUCED_TREFOIL = """\
-mark 1
-table 2
-field {}
-j -8 i -3 dim 1
-j -6 i -2 dim 1
-j -2 i 0 dim 1
-jones -1*q^-9 1*q^-5 1*q^-3 1*q^-1
-"""
 LOOP = "table 2\nfield 2\nj 0 i 0 dim 1\njones 1*q^-1 1*q^1\n"
-USAGE = "usage: kh COMMAND [OPTIONS]\n"
 TWO_LOOPS = "table 2\nfield 2\nj -1 i 0 dim 1\nj 1 i 0 dim 1\njones 1*q^-2 2*q^0 1*q^2\n"
 NINE_CURLS = link_algebra.curls(9)
 
 ROWS = (
-    *((["reduced", "--mark", "1", "--field", field], TREFOIL, 0, REDUCED_TREFOIL.format(field)) for field in FIELDS),
+    *((["reduced", "--mark", "1", "--field", field], TREFOIL, 0, REDUCED_TREFOIL.replace("field 2", f"field {field}")) for field in FIELDS),
     (["reduced", "--mark", "1"], "PD[Loop[1]]", 0, "mark 1\n" + LOOP),
     (["reduced", "--mark=001"], "PD[Loop[1]]", 0, "mark 1\n" + LOOP),
     (["--mark", "3", "reduced", "--workers", "4"], "PD[X[1,1,2,2]]", 1, "refused mark 3\n"),

@@ -25,7 +25,7 @@ import textwrap
 import believed
 from companions.pages import pages
 from shared import named_scripts
-from shared.places import TOP
+from shared.places import TOP, read_text, write_text
 
 LONGEST = 7
 HEADINGS = "foundations diagrams cube moves texts cancellation invariance links scan threads program tests".split()
@@ -49,8 +49,7 @@ WORD = re.compile(r"[\w'-]+")
 
 
 def read(*path):
-    with open(os.path.join(TOP, *path), encoding="utf-8") as file:
-        return file.read()
+    return read_text(*path)
 
 
 def stands_on():
@@ -143,8 +142,7 @@ def edit_faults(crates):
     for crate in crates:
         for folder in ("must-fail", "more-edits"):
             for path in files(crate, folder, ".edit"):
-                with open(path, encoding="utf-8") as file:
-                    lines = [line.partition(":") for line in file.read().splitlines()]
+                lines = [line.partition(":") for line in read_text(path).splitlines()]
                 edit = {head: text.removeprefix(" ") for head, _, text in lines}
                 source = os.path.join(TOP, "crates", crate, edit["file"])
                 count = read(source).count(edit["old"]) if os.path.isfile(source) else 0
@@ -200,8 +198,7 @@ def cited_names(crates):
     found = {}
     for crate in crates:
         for path in files(crate, "src", ".rt"):
-            with open(path, encoding="utf-8") as file:
-                found.update({(name, *where): None for name, where in cited(file.read(), crates).items()})
+            found.update({(name, *where): None for name, where in cited(read_text(path), crates).items()})
     return sorted(found)
 
 
@@ -272,8 +269,7 @@ def with_length_of_edge(page):
 
 
 def write(text, *path):
-    with open(os.path.join(TOP, *path), "w", encoding="utf-8") as file:
-        file.write(text.rstrip("\n") + "\n")
+    write_text(os.path.join(TOP, *path), text.rstrip("\n") + "\n")
 
 
 def crate_faults(crates):

@@ -5,7 +5,6 @@ import re
 from tools import definitions as sources
 
 COMMENT = re.compile(r"^\s*(--|//)")
-USE = re.compile(r"^ *(?:ghost )?use Rattle\.(\w+)\.specs\.([\w.]+)", re.M)
 
 
 class Unknown(Exception):

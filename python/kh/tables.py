@@ -71,8 +71,7 @@ class Table(Mapping[Degrees, int]):
             size = reading.field if reading.field in FIELDS else field or 2
             found = forms.groups_of(reading, is_first)
             if groups.has_torsion(found) or reading.field not in (None, *FIELDS):
-                found = {key[1:]: count for key, count in stored.given_tables(found, forms.INTEGRAL, (size,)).items()}
-                return cls(found, field=size)
+                return cls({(j, i): count for (_, j, i), count in stored.given_tables(found, forms.INTEGRAL, (size,)).items()}, field=size)
         except Unreadable as fault:
             raise Refused(str(fault), text) from None
         return cls({degrees: sum(group.values()) for degrees, group in found.items()}, field=size, mark=0 if reading.is_reduced else None)

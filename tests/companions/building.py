@@ -14,7 +14,7 @@ import sys
 from shared import rtlib
 from shared.places import TOP
 from shared.running import PATIENCE
-from shared.waiting import wait_for, written_folder
+from shared.waiting import is_living, wait_for, written_folder
 
 TOOLS = os.path.join(TOP, "tools")
 # What each crate stands on, the lowest first, and the seconds that it takes by the file of times. The programs, kh_main and scan_main, do
@@ -68,15 +68,6 @@ class Kit:
     def times(self):
         with open(os.path.join(self.copy.folder, "tools", "build-times.txt"), encoding="utf-8") as file:
             return [line.split()[0] for line in file if not line.startswith("#")]
-
-
-def is_gone(process):
-    """Whether a process has ended, though perhaps nobody has asked for its status."""
-    try:
-        with open(f"/proc/{process}/stat", encoding="utf-8") as file:
-            return file.read().rsplit(")", 1)[1].split()[0] == "Z"
-    except OSError:
-        return True
 
 
 def order_fault(told, processors):
@@ -143,7 +134,7 @@ def interrupted(kit):
         started = started_under(kit, number, signal.SIG_DFL, "1000")
         started.send_signal(number)
         said = number.name in started.communicate(timeout=PATIENCE)[1]
-        ended.append((started.returncode, said, wait_for(lambda: all(is_gone(process) for *_, process in kit.told()))))
+        ended.append((started.returncode, said, wait_for(lambda: not any(is_living(process) for *_, process in kit.told()))))
     return ended, [(70, True, True)] * len(SIGNALS)
 
 
@@ -296,23 +287,9 @@ def kh_meanwhile(kit):
 
 
 TRIED = (
-    each_behind_those_below,
-    the_longest_chain_first,
-    a_crate_that_is_refused,
-    the_rest_behind_a_refusal,
-    interrupted,
-    not_interrupted,
-    two_at_once,
-    nothing_to_do,
-    nothing_to_prove,
-    kept_work,
-    one_library_is_missing,
-    one_program_is_missing,
-    one_program_alone,
-    another_word,
-    without_scans,
-    the_file_of_times,
-    kh_meanwhile,
+    each_behind_those_below, the_longest_chain_first, a_crate_that_is_refused, the_rest_behind_a_refusal, interrupted, not_interrupted,
+    two_at_once, nothing_to_do, nothing_to_prove, kept_work, one_library_is_missing, one_program_is_missing, one_program_alone,
+    another_word, without_scans, the_file_of_times, kh_meanwhile,
 )
 
 

@@ -8,12 +8,11 @@ import json
 import os
 import re
 import shutil
-import subprocess
 from collections import Counter
 
 from companions.code_texts import run
-from shared.places import TOP
-from shared.running import PATIENCE
+from shared.places import TOP, read_text
+from shared.running import ended
 from shared.scanning import is_there, scan_of
 
 CHECK, MAKE = (os.path.join(TOP, "reference", name) for name in ("check", "make"))
@@ -55,9 +54,8 @@ def inverted(code):
 
 def check_fault(words, status, said):
     """What is wrong with what `reference/check` says, if anything is."""
-    came = subprocess.run([CHECK, *words], capture_output=True, text=True, timeout=PATIENCE)
-    found = came.returncode, came.stdout + came.stderr
-    return None if found == (status, "".join(f"{it}\n" for it in said)) else str(found)
+    found, wrote, errors = ended([CHECK, *words])
+    return None if (found, wrote + errors) == (status, "".join(f"{it}\n" for it in said)) else f"{found}, {wrote}{errors}"
 
 
 def kept_faults():
@@ -105,8 +103,7 @@ def hand_faults():
 
 def table_faults(scan):
     """What is wrong with the tables of the names of `prime.txt`, if anything is."""
-    with open(PRIME_VECTORS, encoding="utf-8") as file:
-        lines = [json.loads(line) for line in file.read().splitlines()[1:]]
+    lines = [json.loads(line) for line in read_text(PRIME_VECTORS).splitlines()[1:]]
     fields = {}
     for it in lines:
         fields.setdefault(it["name"], []).append(it["field"])
@@ -117,9 +114,8 @@ def table_faults(scan):
     size = os.path.getsize(PRIME_VECTORS)
     yield "reference: the size of their tables", None if size <= MOST_BYTES else f"{size} bytes"
     if is_there(scan):
-        words = [MAKE, "--test", "--prime", "--kh", scan]
-        came = subprocess.run(words, capture_output=True, text=True, timeout=PATIENCE)
-        yield "reference: a part of their tables", None if came.stdout == "all are as stored\n" else came.stdout + came.stderr
+        _, wrote, said = ended([MAKE, "--test", "--prime", "--kh", scan])
+        yield "reference: a part of their tables", None if wrote == "all are as stored\n" else wrote + said
 
 
 def characteristic(rows):

@@ -7,7 +7,7 @@ import subprocess
 import sys
 import tempfile
 
-from shared.places import TOP
+from shared.places import TOP, write_text
 from shared.running import PATIENCE
 from bench import braids
 
@@ -110,8 +110,7 @@ def faults(count=COUNT, seed=SEED, other=(sys.executable, "-c", BY_TREE)):
     text = "\n".join(table(draw, number) if draw.random() < 0.1 else line(draw, number) for number in range(count)) + "\n"
     with tempfile.TemporaryDirectory() as folder:
         path = os.path.join(folder, "codes")
-        with open(path, "w", encoding="utf-8") as file:
-            file.write(text)
+        write_text(path, text)
         for words in ([], ["--names", "--keep"], ["--clockwise"]):
             mine, others = ended([CODES, *words], path), ended([*other, *words], path)
             parts = [f"{one[:300]!r} and not {two[:300]!r}" for one, two in zip(lines_of(mine), lines_of(others)) if one != two]

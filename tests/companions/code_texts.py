@@ -72,29 +72,16 @@ def one_turned(code):
     return [it[2:] + it[:2] if number == turned else it for number, it in enumerate(code.crossings)]
 
 
-def passes(code):
-    """The passes of each component in their order, each a crossing and whether it is over; and which crossings are positive."""
-    diagram, following, enters = plain.diagrams.accepted(code), plain.diagrams.followers(code), {}
-    for number, (under, over, _) in enumerate(diagram.crossings, 1):
-        enters[under.enters], enters[over.enters] = (number, False), (number, True)
-    groups = []
-    for component in plain.diagrams.components(code):
-        arcs = [component[0]]
-        while len(arcs) < len(component):
-            arcs.append(following[arcs[-1]])
-        groups.append([enters[arc] for arc in arcs])
-    return groups, [it.positive for it in diagram.crossings]
-
-
 def unsigned_gauss(code):
     """The Gauss text of a code, without signs."""
-    groups = [", ".join(str(number if is_over else -number) for number, is_over in them) for them in passes(code)[0]]
-    return f"GaussCode[{', '.join('{' + it + '}' for it in groups + [''] * code.loops)}]"
+    groups = [", ".join(str(number if is_over else -number) for number, is_over in them) for them in plain.diagrams.passes(code)]
+    return f"GaussCode[{', '.join('{' + it + '}' for it in groups)}]"
 
 
 def signed_gauss(code):
     """The signed Gauss text of a code."""
-    return f"{unsigned_gauss(code)} Signs[{', '.join('1' if it else '-1' for it in passes(code)[1])}]"
+    signs = ", ".join("1" if it.positive else "-1" for it in plain.diagrams.accepted(code).crossings)
+    return f"{unsigned_gauss(code)} Signs[{signs}]"
 
 
 def starts(groups):
@@ -116,7 +103,7 @@ def starts(groups):
 
 def dowker(code):
     """The lists of a DT code: of each crossing the even number, by the odd ones; it is negative where its pass goes over."""
-    groups = passes(code)[0]
+    groups = list(filter(None, plain.diagrams.passes(code)))
     groups = [them[at:] + them[:at] for them, at in zip(groups, starts(groups))]
     place = {it: at for at, it in enumerate((it for them in groups for it in them), 1)}
     return [[place[number, not is_over] * (1 if is_over else -1) for number, is_over in them[::2]] for them in groups]

@@ -12,7 +12,7 @@ from collections import Counter
 import plain.codes
 import plain.cube
 import plain.diagrams
-from companions.code_texts import diagrams, dowker, dowker_text, passes, run, run_each, signed_gauss, unsigned_gauss
+from companions.code_texts import diagrams, dowker, dowker_text, run, run_each, signed_gauss, unsigned_gauss
 from shared.places import TOP
 
 # DT codes as tables of knots and links have them, by names of the reference.
@@ -40,32 +40,16 @@ TABLES = {
 # Texts of one link each, in several forms.
 ONE_LINK = {
     "the trefoil": (
-        "3_1",
-        "PD[X[1,4,2,5], X[3,6,4,1], X[5,2,6,3]]",
-        "[[1,5,2,4],[3,1,4,6],[5,3,6,2]]",
-        "braid: {1, 1, 1}",
-        "GaussCode[-1,3,-2,1,-3,2] Signs[-1,-1,-1]",
-        "DT[cacbca]",
-        "T(3,2)",
+        "3_1", "PD[X[1,4,2,5], X[3,6,4,1], X[5,2,6,3]]", "[[1,5,2,4],[3,1,4,6],[5,3,6,2]]", "braid: {1, 1, 1}",
+        "GaussCode[-1,3,-2,1,-3,2] Signs[-1,-1,-1]", "DT[cacbca]", "T(3,2)",
     ),
     "the figure eight": (
-        "4_1",
-        "[[4,2,5,1],[8,6,1,5],[6,3,7,4],[2,7,3,8]]",
-        "braid: (1 -2)^2",
-        "BR[3, {-1, 2, -1, 2}]",
-        "GaussCode[1,-4,3,-1,2,-3,4,-2] Signs[1,1,-1,-1]",
-        "DT: [(6, 8, 2, 4)]",
-        "DT[dadCDAB]",
+        "4_1", "[[4,2,5,1],[8,6,1,5],[6,3,7,4],[2,7,3,8]]", "braid: (1 -2)^2", "BR[3, {-1, 2, -1, 2}]",
+        "GaussCode[1,-4,3,-1,2,-3,4,-2] Signs[1,1,-1,-1]", "DT: [(6, 8, 2, 4)]", "DT[dadCDAB]",
     ),
     "8_19": (
-        "8_19",
-        "PD[X[4,2,5,1], X[8,4,9,3], X[9,15,10,14], X[5,13,6,12], X[13,7,14,6], X[11,1,12,16], X[15,11,16,10], X[2,8,3,7]]",
-        "braid: (1 2)^4",
-        "[4, 8, -12, 2, -14, -16, -6, -10]",
-        "DT[hahbdFaGHCE]",
-        "TorusKnot[3, 4]",
-        "T(4,-3)",
-        "braid: (1 2 3)^3",
+        "8_19", "PD[X[4,2,5,1], X[8,4,9,3], X[9,15,10,14], X[5,13,6,12], X[13,7,14,6], X[11,1,12,16], X[15,11,16,10], X[2,8,3,7]]",
+        "braid: (1 2)^4", "[4, 8, -12, 2, -14, -16, -6, -10]", "DT[hahbdFaGHCE]", "TorusKnot[3, 4]", "T(4,-3)", "braid: (1 2 3)^3",
     ),
     "10_124": ("10_124", "10_{124}", "Knot[10, 124]", "T(3,5)", "braid 3: (1 2)^5", "braid: (-1 -2 -3 -4)^3"),
     "the unknot": ("unknot", "0_1", "braid: 1", "T(1,5)", "PD[X[1,1,2,2]]", "DT[4, 2]", "braid 1:"),
@@ -142,7 +126,7 @@ def table_faults():
 
 def has_circle_above(code):
     """Whether a component has two passes, both over, whose first `kh` chooses."""
-    return any(len(them) == 2 and all(is_over for _, is_over in them) for them in passes(code)[0])
+    return any(len(them) == 2 and all(is_over for _, is_over in them) for them in plain.diagrams.passes(code))
 
 
 def there_and_back_fault(code, line, is_one_part):
@@ -292,15 +276,7 @@ def help_faults():
 
 
 PARTS = (
-    one_link_faults,
-    power_faults,
-    table_faults,
-    dowker_faults,
-    realised_faults,
-    unsigned_faults,
-    torus_faults,
-    row_faults,
-    help_faults,
+    one_link_faults, power_faults, table_faults, dowker_faults, realised_faults, unsigned_faults, torus_faults, row_faults, help_faults,
 )
 
 

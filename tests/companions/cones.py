@@ -8,10 +8,9 @@ behind its rows.
 import json
 import os
 import re
-import subprocess
 
 from shared.places import TOP
-from shared.running import PATIENCE
+from shared.running import ended
 from tools import cones, definitions
 
 WHOLE = re.compile(r"Rattle-(\w+)-specs\.(.*)")
@@ -134,8 +133,7 @@ def difference(name, kept):
 def answer_faults():
     """The words of each call of `tools/cone`, and what is wrong with its answer."""
     for words, *wanted in ASKED:
-        ran = subprocess.run([os.path.join(TOP, "tools/cone"), *words], capture_output=True, text=True, timeout=PATIENCE)
-        got = [ran.stdout, ran.stderr]
+        _, *got = ended([os.path.join(TOP, "tools", "cone"), *words])
         yield f"tools/cone {' '.join(words)}", f"wanted {wanted}, got {got}" if got != wanted else None
 
 

@@ -17,8 +17,8 @@ from kh.codes import explain, pointing, refusals
 from plain.codes import LIMIT, REFUSED
 from rows import said
 from rows.texts import CHECK, HOMOLOGY, JONES, TREFOIL, curls
-from shared.places import TOP
-from shared.running import PATIENCE
+from shared.places import TOP, read_text
+from shared import running
 
 FILE, COLUMNS = "code", 100
 DRAWN = 300
@@ -43,8 +43,7 @@ def furnished(folder, program):
         os.symlink(os.path.join(TOP, name), os.path.join(folder, name))
     os.makedirs(os.path.join(folder, "crates", "kh_main", "out"))
     os.symlink(os.path.abspath(program), os.path.join(folder, "crates", "kh_main", "out", "kh_main"))
-    copy.write(os.path.join("crates", "scan_main", "out", "scan_main"), STAND_IN)
-    os.chmod(os.path.join(folder, "crates", "scan_main", "out", "scan_main"), 0o755)
+    copy.write(os.path.join("crates", "scan_main", "out", "scan_main"), STAND_IN, 0o755)
     return copy
 
 
@@ -60,7 +59,7 @@ def run(copy, words, given, name=FILE, start=0, columns=COLUMNS, **settings):
 def ended(copy, words, columns=COLUMNS, path=None, script="./kh", **streams):
     settings = dict(os.environ, COLUMNS=str(columns), PATH=path or os.environ.get("PATH", os.defpath))
     streams = {"stdout": subprocess.PIPE, "stderr": subprocess.PIPE, **streams}
-    came = subprocess.run([script, *words], cwd=copy.folder, env=settings, timeout=PATIENCE, **streams)
+    came = subprocess.run([script, *words], cwd=copy.folder, env=settings, timeout=running.PATIENCE, **streams)
     return came.returncode, came.stdout.decode(), (came.stderr or b"").decode()
 
 
@@ -118,7 +117,7 @@ def row_fault(copy, words, marked, line, texts):
 
 def wrote_in(copy, line):
     """What a line for a shell writes in a folder."""
-    return subprocess.run(["sh", "-c", line], cwd=copy.folder, capture_output=True, text=True, timeout=PATIENCE).stdout
+    return running.ended(["sh", "-c", line], cwd=copy.folder)[1]
 
 
 def foreign_faults(copy):
@@ -315,11 +314,9 @@ def drawn_faults():
 def page_faults():
     """The pages and headings are there that are named."""
     for path in (("tools", "kh-help"), ("python", "kh", "codes", "explain.py"), ("python", "kh", "codes", "refusals.py")):
-        with open(os.path.join(TOP, *path), encoding="utf-8") as file:
-            named = set(PAGE.findall(file.read().replace('\\"', '"')))
+        named = set(PAGE.findall(read_text(*path).replace('\\"', '"')))
         for page, heading in sorted(named):
-            with open(os.path.join(TOP, page), encoding="utf-8") as file:
-                is_there = not heading or re.search(f"^##+ {re.escape(heading)}$", file.read(), re.M)
+            is_there = not heading or re.search(f"^##+ {re.escape(heading)}$", read_text(page), re.M)
             yield f"{page} {heading}, which {path[-1]} names", None if is_there else "it is not there"
 
 

@@ -30,6 +30,8 @@ def faults_of(path):
     for case in xml.etree.ElementTree.parse(path).iter("testcase"):
         name = f"{case.get('classname', '').rpartition('.')[2]}: {case.get('name')}"
         wrong = [it for it in case if it.tag in ("failure", "error")]
+        for it in case.iter("skipped"):
+            print(f"left out, since {it.get('message')}: {name}")
         yield name, wrong[0].get("message", "") + "\n" + (wrong[0].text or "")[-2_000:] if wrong else None
 
 

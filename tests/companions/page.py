@@ -7,7 +7,6 @@ import itertools
 import math
 import os
 import re
-import subprocess
 import tempfile
 
 import plain.cube
@@ -19,8 +18,9 @@ from companions.show import help_fault, named_circles
 from kh.show import asking, page_moves
 from kh.show import sheet as sheets
 from shared import documents, known_diagrams
-from shared.places import TOP
-from shared.running import PATIENCE
+from shared.places import TOP, example, read_text, write_text
+from shared.running import ended, silent_fault
+from shared.waiting import is_living, wait_for
 
 PAGE = os.path.join(TOP, "show", "page")
 FIELDS = (2, 3, 5, 7)
@@ -40,15 +40,13 @@ WRONG = [
 
 def made(program, text, *words):
     """How `show/page` ends for a text, and what it wrote and said."""
-    came = subprocess.run([PAGE, "--kh", program, *words], input=text, capture_output=True, text=True, timeout=PATIENCE)
-    return came.returncode, came.stdout, came.stderr
+    return ended([PAGE, "--kh", program, *words], text)
 
 
 def codes():
     """The name and the text of each code of which a page is read."""
     for name in EXAMPLES:
-        with open(os.path.join(TOP, "examples", f"{name}.pd"), encoding="utf-8") as file:
-            yield name, file.read()
+        yield name, example(name)
     yield from OTHERS.items()
 
 
@@ -211,8 +209,7 @@ def page_faults(program, name, text):
 def large_faults(program):
     """Larger diagrams: above six crossings no cube is drawn and states are counted, above the limit a line says that there is no table."""
     for name, crossings, words in (("8_19", 8, "generators, in"), ("braid-20", 20, BEYOND)):
-        with open(os.path.join(TOP, "examples", f"{name}.pd"), encoding="utf-8") as file:
-            status, wrote, said = made(program, file.read(), "--title", "<a & b>", "--scan", os.path.join(TOP, "no scan"))
+        status, wrote, said = made(program, example(name), "--title", "<a & b>", "--scan", os.path.join(TOP, "no scan"))
         root = documents.read(wrote)
         right = (status, said) == (0, "") and not list(root.all("svg", class_="cube")) and words in root.one("main").text()
         right = right and root.one("head").one("title").text() == root.one("h1").text() == "<a & b>"
@@ -272,22 +269,17 @@ def slow_fault():
     """A run that takes too long is ended, and all that it began."""
     with tempfile.TemporaryDirectory() as folder:
         path = os.path.join(folder, "slow")
-        with open(path, "w", encoding="utf-8") as file:
-            file.write("#!/bin/sh\nsleep 600 & echo $! > \"$0.pid\"; wait\n")
-        os.chmod(path, 0o755)
+        write_text(path, "#!/bin/sh\nsleep 600 & echo $! > \"$0.pid\"; wait\n", 0o755)
         try:
             asking.Kh(path, 1).ask(asking.CHECK, "PD[]")
             return "it was waited for"
         except asking.Unreadable as fault:
             told = str(fault)
-        with open(path + ".pid", encoding="utf-8") as file:
-            child = int(file.read())
+        child = int(read_text(path + ".pid"))
     # (the child is nobody's: the system removes it once it has ended)
-    for _ in range(200):
-        if not os.path.exists(f"/proc/{child}") or " Z " in open(f"/proc/{child}/stat", encoding="utf-8").read():
-            return None if "longer than 1 seconds" in told else told
-        subprocess.run(["sleep", "0.05"], check=True)
-    return "what it began is still there"
+    if not wait_for(lambda: not is_living(child)):
+        return "what it began is still there"
+    return None if "longer than 1 seconds" in told else told
 
 
 BEYOND = "limit generators 35161506 of 4194304"
@@ -303,17 +295,15 @@ printf 'table 2\\nfield %s\\nj 0 i 0 dim 1\\njones 1*q^0\\n' "$2"
 
 def scan_fault(program):
     """The tables are those of `kh-scan`, where there is one and it ends in time, asked with the words for the field; else those of `kh`."""
-    trefoil, large = (open(os.path.join(TOP, "examples", f"{it}.pd"), encoding="utf-8").read() for it in ("trefoil", "braid-20"))
+    trefoil, large = map(example, ("trefoil", "braid-20"))
     with tempfile.TemporaryDirectory() as folder:
         kh = asking.Kh(program, scan=os.path.join(folder, "kh-scan"))
         alone, without = sheets.tables_of(kh, trefoil), sheets.tables_of(kh, large)
-        with open(kh.scan, "w", encoding="utf-8") as made_of:
-            made_of.write(SCAN)
-        os.chmod(kh.scan, 0o755)
+        write_text(kh.scan, SCAN, 0o755)
         first, (tables, limit) = sheets.tables_of(kh, trefoil), sheets.tables_of(kh, large)
-        words = open(kh.scan + ".words", encoding="utf-8").read().splitlines()
+        words = read_text(kh.scan + ".words").splitlines()
         status, page, said = made(program, large, "--scan", kh.scan)
-        open(kh.scan + ".slow", "w", encoding="utf-8").close()
+        write_text(kh.scan + ".slow", "")
         late = sheets.tables_of(asking.Kh(program, 5, kh.scan), large)
     if (status, said) != (0, "") or list(documents.read(page).all("p", class_="limit")):
         return f"{status}, {said}"
@@ -322,13 +312,6 @@ def scan_fault(program):
     # (each of them waits until all four have begun)
     right = right and sorted(words) == sorted(2 * [f"--field {field}" for field in FIELDS])
     return None if right else f"{without}, {tables}, {limit}, {words}, {late}"
-
-
-def stored_fault(program):
-    """The pages of `docs/pages` are what their script makes."""
-    words = [os.path.join(TOP, "show", "pages"), "--test", "--kh", program]
-    came = subprocess.run(words, capture_output=True, text=True, timeout=PATIENCE)
-    return None if (came.returncode, came.stderr) == (0, "") else came.stderr
 
 
 def faults(program):
@@ -346,5 +329,5 @@ def faults(program):
     yield "no other words", words_fault(program)
     yield "a run that takes long", slow_fault()
     yield "tables of kh-scan", scan_fault(program)
-    yield "docs/pages", stored_fault(program)
+    yield "docs/pages", silent_fault(os.path.join(TOP, "show", "pages"), "--test", "--kh", program)
     yield "kh-page --help", help_fault("kh-page")

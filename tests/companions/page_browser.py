@@ -11,7 +11,7 @@ import subprocess
 from companions import page_lessons, page_screens
 from rows.texts import TREFOIL
 from shared import browser
-from shared.places import TOP
+from shared.places import TOP, read_text
 from shared.running import PATIENCE
 from shared.serving import Serving
 
@@ -259,8 +259,7 @@ QUOTED = re.compile(r'"([^"\n]*(?:\n[^"\n]+)*)"')
 def lessons_fault(tab, program):
     """The steps of `docs/TEACHING.md` can be done, and what it quotes is then on the page."""
     seen = []
-    with open(os.path.join(TOP, "docs", "TEACHING.md"), encoding="utf-8") as file:
-        quotes = [" ".join(it.split()) for it in QUOTED.findall(re.sub("```.*?```", "", file.read(), flags=re.S))]
+    quotes = [" ".join(it.split()) for it in QUOTED.findall(re.sub("```.*?```", "", read_text("docs", "TEACHING.md"), flags=re.S))]
     with Serving(program) as serving:
         tab.load(serving.address())
         for kind, what in LESSONS:

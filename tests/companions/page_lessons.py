@@ -12,7 +12,7 @@ import plain.cube
 import plain.diagrams
 import kh
 from rows.texts import TREFOIL
-from shared.places import TOP
+from shared.places import TOP, write_text
 from shared.running import PATIENCE
 from shared.serving import Serving
 
@@ -122,9 +122,7 @@ def pointed_fault(tab, program):
     """Where the mouse goes over moves faster than their pictures come, those of the moves between are not made."""
     with tempfile.TemporaryDirectory() as folder:
         path = os.path.join(folder, "kh")
-        with open(path, "w", encoding="utf-8") as file:
-            file.write(SLOW % program)
-        os.chmod(path, 0o755)
+        write_text(path, SLOW % program, 0o755)
         with Serving(path) as serving:
             tab.load(serving.address(serving.step(TREFOIL)))
             open(path + ".slow", "w", encoding="utf-8").close()
@@ -253,13 +251,10 @@ def wide_fault(tab, program):
     """A table of 21 columns with numbers of four digits stays on the screen of a laptop, and no number leaves its cell."""
     with tempfile.TemporaryDirectory() as folder:
         path = os.path.join(folder, "kh-scan")
-        with open(path, "w", encoding="utf-8") as file:
-            file.write(WIDE)
-        os.chmod(path, 0o755)
+        write_text(path, WIDE, 0o755)
         for field in (2, 3, 5, 7):
             dimensions = {(2 * i + shift, i): 1941 for i in range(-10, 11) for shift in (-1, 1)}
-            with open(f"{path}.{field}", "w", encoding="utf-8") as file:
-                file.write(kh.Table(dimensions, field=field).text)
+            write_text(f"{path}.{field}", kh.Table(dimensions, field=field).text)
         page = os.path.join(folder, "page.html")
         words = [os.path.join(TOP, "show", "page"), "--kh", program, "--scan", path, os.path.join(TOP, "examples", "braid-20.pd")]
         with open(page, "w", encoding="utf-8") as file:

@@ -14,9 +14,9 @@ from kh.show.page import picture
 from kh.show.page_figure import Change, Figure
 from kh.show.passage import passage_of
 from kh.show.slices import read_drawing
+from rows.texts import TREFOIL
 from shared import known_diagrams
 
-TREFOIL = "PD[X[1,4,2,5], X[3,6,4,1], X[5,2,6,3]]"
 # What is drawn first, the lines of moves, and for each whether all else stays at its place.
 ROWS = [
     ("a kink and back", known_diagrams.diagram_of(TREFOIL), ["r1 add 1 under plus", "r1 drop 4"], [True, True]),

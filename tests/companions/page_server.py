@@ -7,16 +7,16 @@ import contextlib
 import itertools
 import os
 import socket
-import subprocess
 import tempfile
 import threading
 import time
 
 from rows.texts import TREFOIL
 from shared import documents
-from shared.places import TOP
-from shared.running import PATIENCE
+from shared.places import TOP, read_text, write_text
+from shared.running import ended
 from shared.serving import KH_PAGE, Serving
+from shared.waiting import is_living, wait_for
 
 # Texts that are typed, and what stands on the page behind them: its heading and a sentence.
 TYPED = [
@@ -300,30 +300,25 @@ def end_at_work_fault(program):
     """Control-C ends a run of `kh` too."""
     with tempfile.TemporaryDirectory() as folder:
         path = os.path.join(folder, "slow")
-        with open(path, "w", encoding="utf-8") as file:
-            file.write(SLOW % os.path.abspath(program))
-        os.chmod(path, 0o755)
+        write_text(path, SLOW % os.path.abspath(program), 0o755)
         with Serving(path, "--scan", path + ".none") as serving:
             asked = threading.Thread(target=serving.get, args=[serving.step(TREFOIL)], daemon=True)
             asked.start()
             while not (os.path.exists(path + ".pid") and os.path.getsize(path + ".pid")):
                 time.sleep(0.05)
             came = serving.interrupted()
-        with open(path + ".pid", encoding="utf-8") as file:
-            place = f"/proc/{file.read().strip()}/stat"
-        for _ in range(200):
-            if not os.path.exists(place) or " Z " in open(place, encoding="utf-8").read():
-                return None if came == (0, "") else f"{came}"
-            time.sleep(0.05)
-    return "the run goes on"
+        number = int(read_text(path + ".pid"))
+    if not wait_for(lambda: not is_living(number)):
+        return "the run goes on"
+    return None if came == (0, "") else f"{came}"
 
 
 def no_program_fault():
     """Without a program that answers it says so, and ends."""
     for path, wanted in (("/bin/false", "gives no answer: status 1"), ("/nowhere", "No such file")):
-        came = subprocess.run([KH_PAGE, "--kh", path], capture_output=True, text=True, stdin=subprocess.DEVNULL, timeout=PATIENCE)
-        if came.returncode != 1 or came.stdout or not came.stderr.startswith("kh-page: ") or wanted not in came.stderr:
-            return f"{path}: {came}"
+        status, wrote, said = ended([KH_PAGE, "--kh", path])
+        if status != 1 or wrote or not said.startswith("kh-page: ") or wanted not in said:
+            return f"{path}: status {status}, {wrote}{said}"
     return None
 
 

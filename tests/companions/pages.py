@@ -7,11 +7,10 @@ commands of the same page. Behind the pages come the texts of `docs/pictures`. `
 """
 import os
 import re
-import subprocess
 import tempfile
 
-from shared.places import TOP
-from shared.running import PATIENCE
+from shared.places import TOP, read_text
+from shared.running import ended, silent_fault
 from shared.scanning import scan_of
 
 BLOCK = re.compile(r"^```[a-z]*\n(.*?)^```$", re.M | re.S)
@@ -51,25 +50,19 @@ def folder_of(path, program):
 
 def page_faults(name, program):
     """What is wrong with the commands of a page."""
-    path = os.path.join(TOP, name)
-    if not os.path.exists(path):
+    if not os.path.exists(os.path.join(TOP, name)):
         return
-    with open(path, encoding="utf-8") as file:
-        text = file.read()
     with tempfile.TemporaryDirectory() as folder:
         folder_of(folder, program)
-        for command, shown, line in commands(text):
+        for command, shown, line in commands(read_text(name)):
             settings = dict(os.environ, COLUMNS="100", LC_ALL="C", PYTHONUTF8="1")
-            words, nothing = ["sh", "-c", command], subprocess.DEVNULL
-            came = subprocess.run(words, cwd=folder, env=settings, stdin=nothing, capture_output=True, text=True, timeout=PATIENCE)
-            fault = None if came.stdout + came.stderr == shown else f"{came.stdout}{came.stderr}\nand not\n{shown}"
-            yield f"{name}, line {line}: {command}", fault
+            _, wrote, said = ended(["sh", "-c", command], cwd=folder, env=settings)
+            yield f"{name}, line {line}: {command}", None if wrote + said == shown else f"{wrote}{said}\nand not\n{shown}"
 
 
 def faults(program):
     """The name of each command, and what is wrong, if anything is."""
     for name in pages():
         yield from page_faults(name, program)
-    words = [os.path.join(TOP, "show", "pictures"), "--test", "--kh", os.path.abspath(program)]
-    came = subprocess.run(words, capture_output=True, text=True, timeout=PATIENCE)
-    yield "pages: the texts of docs/pictures", came.stderr or None
+    words = os.path.join(TOP, "show", "pictures"), "--test", "--kh", os.path.abspath(program)
+    yield "pages: the texts of docs/pictures", silent_fault(*words)

@@ -4,7 +4,6 @@ The companion `show` runs these behind its own cases, with diagrams that are dra
 """
 import itertools
 import math
-import os
 import random
 import re
 import sys
@@ -17,7 +16,7 @@ from kh.show import cubes, figure
 from kh.show.slices import read_drawing
 from shared import known_diagrams
 from shared.pictures import Reading, nearest, read_picture
-from shared.places import TOP
+from shared.places import example
 
 # How near the middles of strands come, how far an arrow is from its strand at most, and how near other strands come to it.
 NEAREST, STRAIGHT, CLEAR = 8.5, 1.8, 8
@@ -40,8 +39,7 @@ def nested(count):
 def codes():
     """The name and the code of each diagram that is drawn."""
     for name in EXAMPLES:
-        with open(os.path.join(TOP, "examples", f"{name}.pd"), encoding="utf-8") as file:
-            yield name, plain.diagrams.read(file.read().strip())
+        yield name, plain.diagrams.read(example(name).strip())
     for strands, turns in TORUS:
         yield f"T({strands},{turns})", plain.diagrams.code_of(known_diagrams.braid(strands, list(range(1, strands)) * turns))
     draw = random.Random("pictures")
@@ -59,25 +57,6 @@ def drawn(code, **words):
     """The picture of a code with its numbers."""
     slices = read_drawing(plain.drawing.drawing(code))
     return figure.svg_of(slices, list(code.crossings), **words)
-
-
-def passes_of(code):
-    """The passes of each component, the crossing and whether it is over, from the end of its least arc; a loop has none."""
-    following, enters = plain.diagrams.followers(code), entered(code)
-    for component in plain.diagrams.components(code):
-        arcs = [component[0]]
-        while len(arcs) < len(component):
-            arcs.append(following[arcs[-1]])
-        yield [enters[arc] for arc in arcs]
-    yield from [[]] * code.loops
-
-
-def entered(code):
-    """For each arc the number of the crossing to which it leads, and whether it is over there."""
-    enters = {}
-    for number, (under, over, _) in enumerate(plain.diagrams.accepted(code).crossings, 1):
-        enters.update({under.enters: (number, False), over.enters: (number, True)})
-    return enters
 
 
 def turned_least(passes):
@@ -102,7 +81,7 @@ def shown_fault(code, wrote):
         reading = Reading(read_picture(wrote))
     except ValueError as stop:
         return f"no picture: {stop}"
-    number, wanted = numbered(reading), sorted(map(turned_least, passes_of(code)))
+    number, wanted = numbered(reading), sorted(map(turned_least, plain.diagrams.passes(code)))
     found = sorted(turned_least([(number[it.crossing], it.is_over) for it in passes]) for passes in reading.components)
     if found != wanted:
         return f"{found} and not {wanted}"
@@ -117,7 +96,7 @@ def shown_fault(code, wrote):
 
 def arcs_fault(code, reading, number):
     """Each arc and each loop has its number, and the strand that is nearest to the number is that arc."""
-    texts, enters = [it for it in reading.picture.texts if "arc" in it.classes], entered(code)
+    texts, enters = [it for it in reading.picture.texts if "arc" in it.classes], plain.diagrams.entered(code)
     wanted = list(range(1, 2 * len(code.crossings) + code.loops + 1))
     if sorted(int(it.text) for it in texts) != wanted:
         return f"numbers {sorted(int(it.text) for it in texts)}"
@@ -202,7 +181,7 @@ def said_fault(code, wrote):
     told = re.search(r"<desc>(.*)</desc>", wrote)[1]
     parts = re.findall(r"component [^.]*\.", told)
     found = [[(int(it), word == "over") for word, it in re.findall(r"(over|under) (\d+)", part)] for part in parts]
-    wanted = list(passes_of(code))
+    wanted = plain.diagrams.passes(code)
     loops = f"Components without crossings: {code.loops}." in told if code.loops else "without" not in told
     return None if found == wanted[: len(wanted) - code.loops] and loops else told
 
@@ -215,7 +194,7 @@ def mark_fault(code, mark):
     found, number = reading.next_pass(dot), numbered(reading)
     text = min((math.dist(it.middle(), dot), int(it.text)) for it in reading.picture.texts if "arc" in it.classes)[1]
     passed = (number[found[0]], found[1]) if found else None
-    right = passed == entered(code).get(mark) and (passed or text == mark) and nearest(dot, reading.picture)[2] < 1
+    right = passed == plain.diagrams.entered(code).get(mark) and (passed or text == mark) and nearest(dot, reading.picture)[2] < 1
     return None if right and f"{mark}." in wrote else f"{dot}, {passed}, {text}"
 
 

@@ -4,13 +4,12 @@
 """
 import json
 import os
-import subprocess
 import tempfile
 from collections import Counter
 
 from rows.compare import ROWS
-from shared.places import TOP
-from shared.running import PATIENCE
+from shared.places import TOP, read_text, write_text
+from shared.running import ended, help_fault
 from shared.scanning import is_there, scan_of
 
 MAKE = os.path.join(TOP, "reference", "make")
@@ -22,15 +21,14 @@ MOST_BYTES, CROSSINGS = 1_000_000, range(14, 21)
 
 
 def fault_of(*words):
-    came = subprocess.run([MAKE, *words], capture_output=True, text=True, timeout=PATIENCE)
-    return None if (came.returncode, came.stdout, came.stderr) == (0, "all are as stored\n", "") else came.stdout + came.stderr
+    came = ended([MAKE, *words])
+    return None if came == (0, "all are as stored\n", "") else str(came)
 
 
 def compare_fault(words, given, status, said):
     """What is wrong with what is said of a table, if anything is."""
-    came = subprocess.run([COMPARE, *words], input=given, capture_output=True, text=True, timeout=PATIENCE)
-    found = came.returncode, came.stdout + came.stderr
-    return None if found == (status, said) else f"{found} and not {(status, said)}"
+    found, *texts = ended([COMPARE, *words], given)
+    return None if (found, "".join(texts)) == (status, said) else f"{found}, {texts} and not {(status, said)}"
 
 
 # Answers of a program to 3_1, 4_1, 8_19 and the Hopf link over three elements, in all forms, and what is said of them.
@@ -51,66 +49,35 @@ COLLECTIONS = [
     ("all agree", FINE, 0, ["4 of 4 answers agree"]),
     ("the file's own first line", ['{"made by": "a program"}', *FINE], 0, ["4 of 4 answers agree"]),
     ("an answer less", FINE[1:], 1, ["3 of 3 answers agree", "1 link has no answer over 3: 3_1"]),
-    (
-        "one explained",
-        [SHIFTED, *FINE[1:]],
-        1,
-        ["3 of 4 answers agree", "1 answer (3_1 over 3): the same table, with j shifted by 2"],
-    ),
-    (
-        "two are other tables",
-        [TREFOIL, EIGHT.replace("-2 1;", "-2 2;"), LARGE.replace(" + q^15 t^5 + q^17 t^5", ""), HOPF],
-        1,
-        ["2 of 4 answers agree", "2 answers are other tables:", *(f"  {it}" for it in WRONG)],
-    ),
+    ("one explained", [SHIFTED, *FINE[1:]], 1, ["3 of 4 answers agree", "1 answer (3_1 over 3): the same table, with j shifted by 2"]),
+    ("two are other tables", [TREFOIL, EIGHT.replace("-2 1;", "-2 2;"), LARGE.replace(" + q^15 t^5 + q^17 t^5", ""), HOPF], 1,
+     ["2 of 4 answers agree", "2 answers are other tables:", *(f"  {it}" for it in WRONG)]),
     (
         "exact in one way",
         MIRRORED,
         1,
         [
-            "1 of 3 answers agree",
-            "3 of 3 are exact in one way: it is the table of the mirror image: i and j are negated",
-            "agree: 4_1",
-            "mirrored: 3_1, Hopf",
-            "1 link has no answer over 3: 8_19",
+            "1 of 3 answers agree", "3 of 3 are exact in one way: it is the table of the mirror image: i and j are negated", "agree: 4_1",
+            "mirrored: 3_1, Hopf", "1 link has no answer over 3: 8_19",
             "compare: pairs are read as i, j, as all tell in which it can be told",
         ],
     ),
-    (
-        "nearest in one way",
-        [TREFOIL, EIGHT, LARGE, '{"name": "Hopf", "field": 3, "rows": [[0, 0, 1], [-2, 0, 1], [-4, -2, 1], [-6, -2, 2]]}'],
-        1,
-        ["3 of 4 answers agree", "1 answer is another table:", f"  Hopf over 3: {NEAREST} j -6 i -2: yours 2, the mirrored reference 1"],
-    ),
-    (
-        "a program that wrote nothing",
-        ['{"name": "3_1", "field": 3, "table": " "}', *FINE[1:]],
-        1,
-        ["3 of 3 answers agree", "1 link has no answer, since the program wrote nothing: 3_1"],
-    ),
-    (
-        "another name",
-        [TREFOIL.replace("3_1", "4_1"), TREFOIL, LARGE, HOPF],
-        1,
-        ["3 of 4 answers agree", "1 answer (4_1 over 3): this is the table of 3_1"],
-    ),
-    (
-        "a reduced one",
-        [*FINE, '{"name": "3_1", "field": 3, "reduced": true, "table": "q^2 + q^6 t^2 + q^8 t^3"}'],
-        1,
-        ["5 of 5 answers agree", "3 links have no answer over 3, reduced: 4_1, 8_19 and Hopf"],
-    ),
+    ("nearest in one way",
+     [TREFOIL, EIGHT, LARGE, '{"name": "Hopf", "field": 3, "rows": [[0, 0, 1], [-2, 0, 1], [-4, -2, 1], [-6, -2, 2]]}'], 1,
+     ["3 of 4 answers agree", "1 answer is another table:", f"  Hopf over 3: {NEAREST} j -6 i -2: yours 2, the mirrored reference 1"]),
+    ("a program that wrote nothing", ['{"name": "3_1", "field": 3, "table": " "}', *FINE[1:]], 1,
+     ["3 of 3 answers agree", "1 link has no answer, since the program wrote nothing: 3_1"]),
+    ("another name", [TREFOIL.replace("3_1", "4_1"), TREFOIL, LARGE, HOPF], 1,
+     ["3 of 4 answers agree", "1 answer (4_1 over 3): this is the table of 3_1"]),
+    ("a reduced one", [*FINE, '{"name": "3_1", "field": 3, "reduced": true, "table": "q^2 + q^6 t^2 + q^8 t^3"}'], 1,
+     ["5 of 5 answers agree", "3 links have no answer over 3, reduced: 4_1, 8_19 and Hopf"]),
     (
         "no answers",
         [*FINE, "nothing", '{"name": "3_1", "refusal": "limit generators 5 of 4"}', '{"name": "9_1", "rows": [[0, 0, 1]]}', '{"field": 3}'],
         1,
         [
-            "4 of 4 answers agree",
-            "3 answers are no tables:",
-            "  line 5: it is no JSON",
-            "  line 6, 3_1: limit generators 5 of 4",
-            "  line 8: it has no name",
-            "1 answer is of no link of the reference: 9_1",
+            "4 of 4 answers agree", "3 answers are no tables:", "  line 5: it is no JSON", "  line 6, 3_1: limit generators 5 of 4",
+            "  line 8: it has no name", "1 answer is of no link of the reference: 9_1",
         ],
     ),
 ]
@@ -138,22 +105,19 @@ def collection_faults():
     with tempfile.TemporaryDirectory() as folder:
         vectors, answers, files = few_vectors(folder), os.path.join(folder, "answers"), os.path.join(folder, "files")
         for name, lines, status, said in COLLECTIONS:
-            with open(answers, "w", encoding="utf-8") as file:
-                file.write("".join(f"{line}\n" for line in lines))
+            write_text(answers, "".join(f"{line}\n" for line in lines))
             fault = compare_fault(["--all", answers, "--vectors", vectors], "", status, "".join(f"{it}\n" for it in said))
             yield f"reference/compare --all: {name}", fault
         os.mkdir(files)
         for name, text in FILES.items():
-            with open(os.path.join(files, name), "w", encoding="utf-8") as file:
-                file.write(text)
+            write_text(os.path.join(files, name), text)
         yield "reference/compare --all: a folder", compare_fault(["--all", files, "--vectors", vectors], "", 0, "4 of 4 answers agree\n")
     whole = compare_fault(["--all", VECTORS], "", 0, "672 of 672 answers agree\n")
     yield "reference/compare --all: the reference itself", whole
 
 
 def lines_of_reference(path=VECTORS):
-    with open(path, encoding="utf-8") as file:
-        return [json.loads(line) for line in file.read().splitlines()[1:]]
+    return [json.loads(line) for line in read_text(path).splitlines()[1:]]
 
 
 def halved(rows):
@@ -221,11 +185,6 @@ def halving_faults():
                 yield f"{it['name']} over {it['field']} at {part['marks']}"
 
 
-def help_fault(name):
-    came = subprocess.run([os.path.join(TOP, "reference", name), "--help"], capture_output=True, text=True, timeout=PATIENCE)
-    return None if came.returncode == 0 and not came.stderr and f"reference/{name}" in came.stdout else came.stdout + came.stderr
-
-
 def faults(program):
     """The name of each test, and what is wrong, if anything is."""
     for name, words, given, status, said in ROWS:
@@ -233,7 +192,7 @@ def faults(program):
     yield from collection_faults()
     yield "reference: reduced tables", "; ".join(halving_faults()) or None
     for name in ("check", "compare", "make"):
-        yield f"reference/{name} --help", help_fault(name)
+        yield f"reference/{name} --help", help_fault(f"reference/{name}")
     yield "reference: determinants and signatures", fault_of("--published")
     yield "reference: a part of the vectors", fault_of("--test", "--kh", program)
     if os.path.isfile(LARGE_VECTORS):

@@ -3,13 +3,13 @@
 `tests/program` runs these behind its rows. No program is run for them but `show/scan_steps`.
 """
 import os
-import subprocess
 from collections import Counter
 
 import plain.diagrams
 from kh.show import scan
-from shared.places import DATA, TOP
-from shared.running import PATIENCE
+from shared import stored_links
+from shared.places import TOP, read_text
+from shared.running import ended
 
 MOST = 6
 
@@ -28,12 +28,10 @@ def table_of(code, crossings, p):
 
 def stored():
     """The name, the code and the rows over each field of the stored diagrams with few crossings."""
-    with open(os.path.join(DATA, "tables.txt"), encoding="utf-8") as file:
-        for block in file.read().split("\n\n")[1:]:
-            name, text, *tables, _ = block.strip().splitlines()
-            code = plain.diagrams.read(text)
-            if len(code.crossings) <= MOST:
-                yield name, code, [line.split(": ") for line in tables]
+    for name, text, *tables, _ in stored_links.blocks_of("tables.txt"):
+        code = plain.diagrams.read(text)
+        if len(code.crossings) <= MOST:
+            yield name, code, [line.split(": ") for line in tables]
 
 
 def table_fault(code, tables):
@@ -53,11 +51,8 @@ def order_fault(code, p):
 
 def picture_fault():
     """The picture of `docs/pictures` is what its script makes."""
-    words = [os.path.join(TOP, "show", "scan_steps"), os.path.join(TOP, "examples", "trefoil.pd")]
-    came = subprocess.run(words, capture_output=True, timeout=PATIENCE)
-    with open(os.path.join(TOP, "docs", "pictures", "trefoil-scan.svg"), "rb") as file:
-        right = (came.returncode, came.stdout, came.stderr) == (0, file.read(), b"")
-    return None if right else f"status {came.returncode}, {came.stderr.decode()}"
+    came = ended([os.path.join(TOP, "show", "scan_steps"), os.path.join(TOP, "examples", "trefoil.pd")])
+    return None if came == (0, read_text("docs", "pictures", "trefoil-scan.svg"), "") else f"status {came[0]}, {came[2]}"
 
 
 def faults(program=None):

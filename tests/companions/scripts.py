@@ -13,8 +13,8 @@ import sys
 
 from companions import building
 from shared.named_scripts import BY_HAND
-from shared.places import TOP
-from shared.running import PATIENCE
+from shared.places import TOP, write_text
+from shared.running import PATIENCE, ended, help_fault
 from shared.waiting import written_folder
 
 CANNOT_RUN = 70
@@ -47,18 +47,16 @@ class Copy:
             self.write(os.path.join("crates", name, "src", "lib.rt"), "")
             self.write(os.path.join("crates", name, "stdin"), "")
         self.write("crates.txt", "".join(f"{name}: {below}\n" for name, below in CRATES.items()))
-        self.write(os.path.join("bin", "rt"), TOOLCHAIN)
-        os.chmod(os.path.join(folder, "bin", "rt"), 0o755)
+        self.write(os.path.join("bin", "rt"), TOOLCHAIN, 0o755)
         os.mkdir(os.path.join(folder, "commands"))
         for name, path in [("python3", sys.executable), *((name, shutil.which(name)) for name in COMMANDS)]:
             if path:
                 os.symlink(path, os.path.join(folder, "commands", name))
 
-    def write(self, path, text):
+    def write(self, path, text, mode=None):
         path = os.path.join(self.folder, path)
         os.makedirs(os.path.dirname(path), exist_ok=True)
-        with open(path, "w", encoding="utf-8") as file:
-            file.write(text)
+        write_text(path, text, mode)
 
     def start(self, name, *words, toolchain=True, refused="", more={}):
         path, pipe = os.path.join(self.folder, "commands"), subprocess.PIPE
@@ -152,31 +150,9 @@ def where_a_source_is_newer(copy):
 
 
 TRIED = (
-    without_a_toolchain,
-    before_it_is_built,
-    where_the_interpreter_has_no_answer,
-    without_the_steps,
-    by_links,
-    where_a_crate_is_refused,
-    two_builds_at_once,
-    once_it_is_built,
-    where_one_is_asked_for,
-    where_a_source_is_newer,
+    without_a_toolchain, before_it_is_built, where_the_interpreter_has_no_answer, without_the_steps, by_links, where_a_crate_is_refused,
+    two_builds_at_once, once_it_is_built, where_one_is_asked_for, where_a_source_is_newer,
 )
-
-
-def ended(path, *words):
-    """The status of a script of the repository, what it wrote and what it said."""
-    came = subprocess.run([os.path.join(TOP, path), *words], stdin=subprocess.DEVNULL, capture_output=True, text=True, timeout=PATIENCE)
-    return came.returncode, came.stdout, came.stderr
-
-
-def help_faults():
-    """What is wrong with the scripts that are run by hand, where they only say what they do."""
-    for path in BY_HAND:
-        status, wrote, errors = ended(path, "--help")
-        fault = None if (status, errors) == (0, "") and os.path.basename(path) in wrote else f"status {status}: {wrote[:200]}{errors[:300]}"
-        yield f"{path} --help", fault
 
 
 # Benchmarks that need no other program: words, and what they write.
@@ -195,7 +171,7 @@ MEASURES = (
 def measure_faults():
     """What is wrong with benchmarks that are run on next to nothing."""
     for path, words, pattern in MEASURES:
-        status, wrote, errors = ended(path, *words)
+        status, wrote, errors = ended([os.path.join(TOP, path), *words])
         fault = None if status == 0 and re.fullmatch(pattern, wrote) else f"status {status}: {wrote}{errors}"
         yield f"{path} {words[0]}", fault
 
@@ -207,5 +183,7 @@ def faults():
             came, wanted = case(Copy(folder))
         yield f"./kh, ./kh-scan and ./build {case.__name__.replace('_', ' ')}", None if came == wanted else f"{came} and not {wanted}"
     yield from building.faults(Copy)
-    yield from help_faults()
+    # (those that are run by hand only say what they do)
+    for path in BY_HAND:
+        yield f"{path} --help", help_fault(path)
     yield from measure_faults()

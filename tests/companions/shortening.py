@@ -4,13 +4,12 @@ that what a check refuses goes back, where a made-up one stands in for `rt check
 import importlib.machinery
 import importlib.util
 import os
-import subprocess
 import sys
 import tempfile
 from unittest import mock
 
-from shared.places import TOP
-from shared.running import PATIENCE
+from shared.places import TOP, read_text
+from shared.running import ended
 
 TOOLS = os.path.join(TOP, "tools")
 PROOFS = """\
@@ -88,22 +87,20 @@ def keeping_fault(shorten, refused, wanted):
         edits = {"proofs/Made.antt": shorten.candidates("grind", PROOFS.split("\n"))}
         with mock.patch.object(shorten, "check", refusing(folder, refused, [])):
             saved = shorten.keep_what_passes(folder, texts, edits)
-        with open(os.path.join(folder, "proofs", "Made.antt"), encoding="utf-8") as file:
-            came = file.read()
+        came = read_text(os.path.join(folder, "proofs", "Made.antt"))
         found = saved, came.count("grind"), came.count("Decides.{nat_tests}")
         return None if found == wanted else f"{found} and not {wanted}"
 
 
 def unused_fault():
     """It lists lemmas of this repository, each with a place where its name stands."""
-    came = subprocess.run([os.path.join(TOOLS, "unused")], capture_output=True, text=True, timeout=PATIENCE)
-    for row in came.stdout.splitlines():
+    status, wrote, said = ended([os.path.join(TOOLS, "unused")])
+    for row in wrote.splitlines():
         place, name, _ = row.split()
         file, line = place.rsplit(":", 1)
-        with open(os.path.join(TOP, file), encoding="utf-8") as source:
-            if f"{name} : " not in source.read().split("\n")[int(line) - 1]:
-                return f"{row}: it does not stand there"
-    return f"status {came.returncode}, {came.stderr}" if came.returncode or came.stderr else None
+        if f"{name} : " not in read_text(file).split("\n")[int(line) - 1]:
+            return f"{row}: it does not stand there"
+    return f"status {status}, {said}" if status or said else None
 
 
 def faults(program=None):

@@ -6,7 +6,6 @@ repository.
 import itertools
 import os
 import re
-import subprocess
 import tempfile
 import xml.etree.ElementTree
 
@@ -17,8 +16,9 @@ from kh.show.layout import lines_of
 from kh.show.slices import read_drawing
 from rows.link import REDUCED_TREFOIL
 from rows.texts import TREFOIL, TREFOIL_OVER_THREE, TREFOIL_TABLE
-from shared.places import DATA, TOP
-from shared.running import PATIENCE
+from shared import stored_links
+from shared.places import TOP
+from shared.running import ended, help_fault, silent_fault
 
 
 TWO_FIELDS = TREFOIL_TABLE + TREFOIL_OVER_THREE
@@ -91,10 +91,7 @@ ROWS = [
 
 def run(name, words, given):
     """The status of a script of `show/`, and what it wrote."""
-    path = os.path.join(TOP, "show", name)
-    settings = dict(os.environ, COLUMNS="100")
-    came = subprocess.run([path, *words], input=given, capture_output=True, text=True, env=settings, timeout=PATIENCE)
-    return came.returncode, came.stdout, came.stderr
+    return ended([os.path.join(TOP, "show", name), *words], given, env=dict(os.environ, COLUMNS="100"))
 
 
 def row_fault(name, words, given, status, wanted):
@@ -106,23 +103,9 @@ def row_fault(name, words, given, status, wanted):
     return None if right else f"{(came, wrote, errors)} and not {(status, wanted)}"
 
 
-def stored_tables():
-    """All tables beside this file, one behind the other, as `kh homology` writes them."""
-    texts = []
-    for name in ("tables.txt", "large_tables.txt"):
-        with open(os.path.join(DATA, name), encoding="utf-8") as file:
-            for block in file.read().split("\n\n")[1:]:
-                _, _, *tables, jones = block.strip().splitlines()
-                for line in tables:
-                    field, rows = line.split(": ")
-                    lines = ["j {} i {} dim {}\n".format(*row.split(",")) for row in rows.split()]
-                    texts.append(f"table 2\nfield {field}\n{''.join(lines)}{jones}\n")
-    return "".join(texts)
-
-
 def round_fault():
     """All stored tables, turned into polynomials and back, are themselves."""
-    text = stored_tables()
+    text = "".join(table for *_, table in stored_links.tables())
     polynomials = run("polynomial", [], text)
     back = run("polynomial", ["--table"], polynomials[1])
     return None if back == (0, text, "") and text.count("table 2") > 100 else f"{polynomials[0]}, {back[0]}, {back[2]}"
@@ -136,18 +119,6 @@ def least_turn(passes):
             names, turned = {}, order[start:] + order[:start]
             forms.append([(names.setdefault(crossing, len(names)), over) for crossing, over in turned])
     return min(forms)
-
-
-def passes_of(code):
-    """The passes of each component of a code: the crossing, and whether it goes over."""
-    following, enters = plain.diagrams.followers(code), {}
-    for number, (under, over, _) in enumerate(plain.diagrams.accepted(code).crossings):
-        enters[under.enters], enters[over.enters] = (number, False), (number, True)
-    for component in plain.diagrams.components(code):
-        arcs = [component[0]]
-        while len(arcs) < len(component):
-            arcs.append(following[arcs[-1]])
-        yield [enters[arc] for arc in arcs]
 
 
 # The ways that a sign leads: up, down, left, right.
@@ -197,17 +168,15 @@ def drawn_fault(code):
     """The drawing in the terminal has the passes of the code, component by component, as long as each component is taken alone."""
     wrote = "\n".join(lines_of(read_drawing(plain.drawing.drawing(code))))
     found = sorted(map(least_turn, drawn_passes(wrote)))
-    wanted = sorted([*map(least_turn, passes_of(code)), *[[]] * code.loops])
+    wanted = sorted(map(least_turn, plain.diagrams.passes(code)))
     return None if found == wanted else f"{plain.diagrams.printed(code)}: {found} and not {wanted}"
 
 
 def diagrams():
     """Codes of many kinds: the stored ones, and closed braids with curls and loops."""
     codes = ["PD[X[1,1,2,2],X[3,4,4,3],Loop[5],Loop[6]]", "PD[X[4,1,3,2],X[2,3,1,4]]", "PD[X[1,4,2,3],X[2,4,1,3]]", TREFOIL]
-    for name in ("tables.txt", "polynomials.txt"):
-        with open(os.path.join(DATA, name), encoding="utf-8") as file:
-            codes += [block.strip().splitlines()[1] for block in file.read().split("\n\n")[1:]]
-    return [plain.diagrams.read(it) for it in codes]
+    stored = (stored_links.texts(name).values() for name in ("tables.txt", "polynomials.txt"))
+    return [plain.diagrams.read(it) for it in itertools.chain(codes, *stored)]
 
 
 def named_circles(code, state):
@@ -297,18 +266,6 @@ def scripts():
                 yield os.path.join(folder, name)
 
 
-def help_fault(name):
-    """A script says with --help what it does, and does nothing else."""
-    came = subprocess.run([os.path.join(TOP, name), "--help"], capture_output=True, text=True, stdin=subprocess.DEVNULL, timeout=PATIENCE)
-    return None if (came.returncode, came.stderr) == (0, "") and len(came.stdout) > 100 else f"{came.returncode}, {came.stderr}"
-
-
-def pictures_fault():
-    """The pictures of `docs/pictures` are what their script makes."""
-    came = subprocess.run([os.path.join(TOP, "show", "pictures"), "--test"], capture_output=True, text=True, timeout=PATIENCE)
-    return None if (came.returncode, came.stderr) == (0, "") else came.stderr
-
-
 def faults(program=None):
     """The name of each test, and what is wrong, if anything is."""
     for what, name, words, given, status, wanted in ROWS:
@@ -324,6 +281,6 @@ def faults(program=None):
         yield f"show/states: diagram {number}", states_fault(code)
     yield from pictures.faults()
     yield from move_states.faults()
-    yield "show/pictures: the pictures of the pages", pictures_fault()
+    yield "show/pictures: the pictures of the pages", silent_fault(os.path.join(TOP, "show", "pictures"), "--test")
     for name in scripts():
         yield f"{name} --help", help_fault(name)

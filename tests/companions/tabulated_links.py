@@ -3,6 +3,7 @@ import json
 import random
 
 from bench.braids import planar_diagram
+from shared.places import read_text
 from shared.running import PATIENCE
 from shared.tabulating import COUNT, HEAD, TABULATE, kept_fault, wanted
 
@@ -23,8 +24,7 @@ def rows_of_a_list(folder):
         folder.run("run", path, folder.at("results.db"), "--fields", "2")
     every = folder.run("write", folder.at("results.db"))[1].splitlines()
     wanted_rows = [HEAD[:4], ["b", "PD[Loop[1]]", "2", "0"], ["line 5", "PD[]", "2", "0"], ["a", "wide", "2", "6"], ["none", " ", "2", "1"]]
-    with open(path, encoding="utf-8") as file:
-        given = file.read()
+    given = read_text(path)
     for words, text in (((path,), None), (("-",), given)):
         came = folder.run("write", folder.at("results.db"), "--list", *words, given=text)
         rows = [line.split("\t")[:4] for line in came[1].splitlines()]
@@ -135,8 +135,7 @@ def dropped_results(folder):
 def spoilt_lines(folder):
     """Lines of JSON that `work` has not written are told; those of a version without programs are read."""
     folder.run("work", folder.at("list"), folder.at("out"))
-    with open(folder.at("out"), encoding="utf-8") as file:
-        text = file.read()
+    text = read_text(folder.at("out"))
     folder.run("store", folder.at("results.db"), folder.write("older", text.replace(', "program": "scan"', "")))
     programs = folder.select("select distinct program from answers")
     for wrong in ("[]\n", '{"name": "one"}\n', text.splitlines()[0].replace("; 1 0 1", "; one") + "\n"):
@@ -176,11 +175,8 @@ GIVEN = (
 )
 QUESTIONS = [
     (("same",), SAME + UNKNOTS.format("2,3", "") + TREFOILS.format(""), "classes: 2; links in them: 5, of 8 with a table"),
-    (
-        ("same", "--mirror"),
-        SIDES + UNKNOTS.format("2,3", "both\t") + TREFOILS.format("same\t") + "2\te\t2,3\tmirror\tmirrored\n",
-        "classes: 2; links in them: 6, of 8 with a table",
-    ),
+    (("same", "--mirror"), SIDES + UNKNOTS.format("2,3", "both\t") + TREFOILS.format("same\t") + "2\te\t2,3\tmirror\tmirrored\n",
+     "classes: 2; links in them: 6, of 8 with a table"),
     (("torsion",), TORSION + EVEN + THREE, "links with torsion: 4; without: 4; known over too few fields: 2"),
     (("torsion", "--prime", "3"), TORSION + THREE, "links with torsion: 1; without: 7; known over too few fields: 2"),
     (("torsion", "--prime", "5"), TORSION, "links with torsion: 0; without: 0; known over too few fields: 10"),

@@ -5,7 +5,6 @@ GNU parallel is tried where it is installed, Slurm where KH_SLURM says so (`shar
 import os
 import re
 import shutil
-import subprocess
 import tempfile
 
 import plain.cube
@@ -13,29 +12,27 @@ import plain.diagrams
 from bench.braids import closure
 from companions.pages import folder_of
 from shared import slurm
-from shared.places import TOP
-from shared.running import PATIENCE
+from shared.places import TOP, read_text
+from shared.running import ended, help_fault
 from shared.tabulating import COUNT, ON_MANY, SCAN, TABULATE, result_fault
 
 
 def helps(folder):
     """Each script says what it does, and what its options are."""
     for name in ("kh-tabulate", "measure", "braids", "on-many"):
-        came = folder.start(os.path.join(os.path.dirname(TABULATE), name), "--help")
-        wrote, errors = came.communicate(timeout=PATIENCE)
-        if came.returncode or errors or name not in wrote:
-            return f"{name}: status {came.returncode}, {wrote}, {errors}"
+        fault = help_fault(f"tabulate/{name}")
+        if fault:
+            return f"{name}: {fault}"
     return None
 
 
 def braids(folder):
     """`tabulate/braids` writes each word once, and a diagram of its closure: one with the same Jones polynomial."""
-    came = folder.start(os.path.join(os.path.dirname(TABULATE), "braids"), "5", "4")
-    wrote, errors = came.communicate(timeout=PATIENCE)
+    status, wrote, errors = folder.ended(os.path.join(TOP, "tabulate", "braids"), "5", "4")
     lines = [line.split("\t") for line in wrote.splitlines()]
     are_fine = len({name for name, _ in lines}) == len(lines) and lines[0] == ["3: -2 1", "PD[X[2, 3, 3, 4], X[4, 2, 1, 1]]"]
-    if came.returncode or errors or not are_fine:
-        return f"status {came.returncode}, {len(lines)} lines, {lines[:2]}, {errors}"
+    if status or errors or not are_fine:
+        return f"status {status}, {len(lines)} lines, {lines[:2]}, {errors}"
     for name, text in lines:
         strands, word = name.split(": ")
         crossings, loops = closure(int(strands), [*map(int, word.split())])
@@ -59,10 +56,9 @@ MEASURED = """\
 def measure(folder):
     """`tabulate/measure` comes to its end on few codes, and writes what the page has."""
     words = ("--scan", SCAN, "--jobs", "2", "--letters", "6", "4", "--orders", "1")
-    came = folder.start(os.path.join(os.path.dirname(TABULATE), "measure"), *words)
-    wrote, errors = came.communicate(timeout=PATIENCE)
-    right = came.returncode == 0 and re.match(MEASURED, wrote) and "over all four fields" in " ".join(wrote.split())
-    return None if right else f"status {came.returncode}, {wrote}, {errors}"
+    status, wrote, errors = folder.ended(os.path.join(TOP, "tabulate", "measure"), *words)
+    right = status == 0 and re.match(MEASURED, wrote) and "over all four fields" in " ".join(wrote.split())
+    return None if right else f"status {status}, {wrote}, {errors}"
 
 
 HEADED = "name,pd_notation,pd_notation_vector\none,\"[[1,4,2,5],[3,6,4,1],[5,2,6,3]]\",\n"
@@ -77,23 +73,18 @@ def cut(folder):
     """Of a list in parts each has the names that the list gives, also where these stand in a table, or are the numbers of lines."""
     for number, (name, text, first, second) in enumerate(CUT):
         parts = folder.at(f"cut {number}")
-        came = folder.start(TABULATE, "cut", "--links", "2", folder.write("cut list", text), parts)
-        _, said = came.communicate(timeout=PATIENCE)
+        status, _, said = folder.ended(TABULATE, "cut", "--links", "2", folder.write("cut list", text), parts)
         for part, wanted in (("part-000000", first), ("part-000001", second)):
-            with open(os.path.join(parts, part), encoding="utf-8") as file:
-                lines = file.read().splitlines()
+            lines = read_text(os.path.join(parts, part)).splitlines()
             is_right = len(lines) == len(wanted) and all(map(str.startswith, lines, wanted)) and all("\t" in it for it in lines)
-            if came.returncode or len(os.listdir(parts)) != 2 or not is_right:
-                return f"{name}: status {came.returncode}, {os.listdir(parts)}, {lines}, {said}"
+            if status or len(os.listdir(parts)) != 2 or not is_right:
+                return f"{name}: status {status}, {os.listdir(parts)}, {lines}, {said}"
     return None
 
 
 def has_parallel(test):
     """Whether GNU parallel is installed (another program has the same name); where it is not, it is told that a test is left out."""
-    came = None
-    if shutil.which("parallel"):
-        came = subprocess.run(["parallel", "--version"], stdin=subprocess.DEVNULL, capture_output=True, text=True, timeout=PATIENCE)
-    if came and came.stdout.startswith("GNU parallel"):
+    if shutil.which("parallel") and ended(["parallel", "--version"])[1].startswith("GNU parallel"):
         return True
     print(f"tabulate: GNU parallel is not installed, so {test} is not tried")
     return False
@@ -103,12 +94,10 @@ def by_parallel(folder):
     if not has_parallel("a list in parts"):
         return None
     parts = folder.at("of parts")
-    words = (ON_MANY, folder.at("list"), parts)
-    folder.start(*words).communicate(timeout=PATIENCE)
-    mended = folder.start(words[0], folder.write("mended", "one\tPD[Loop[1]]\n"), parts)
-    _, said = mended.communicate(timeout=PATIENCE)
+    folder.ended(ON_MANY, folder.at("list"), parts)
+    status, _, said = folder.ended(ON_MANY, folder.write("mended", "one\tPD[Loop[1]]\n"), parts)
     os.rename(os.path.join(parts, "results.db"), folder.at("results.db"))
-    return result_fault(folder) or (None if mended.returncode == 65 and "another list" in said else said)
+    return result_fault(folder) or (None if status == 65 and "another list" in said else said)
 
 
 def lost_by_parallel(folder):
@@ -118,10 +107,9 @@ def lost_by_parallel(folder):
     parts = folder.at("of parts")
     folder.write("some", "one\tPD[Loop[1]]\ntwo\tlost\n")
     for calls in (4, 2):
-        before, started = folder.calls(), folder.start(ON_MANY, folder.at("some"), parts)
-        _, said = started.communicate(timeout=PATIENCE)
-        if started.returncode != 1 or folder.calls() - before != calls or "results.db" not in os.listdir(parts):
-            return f"status {started.returncode}, {folder.calls() - before} calls, {os.listdir(parts)}, {said}"
+        before, (status, _, said) = folder.calls(), folder.ended(ON_MANY, folder.at("some"), parts)
+        if status != 1 or folder.calls() - before != calls or "results.db" not in os.listdir(parts):
+            return f"status {status}, {folder.calls() - before} calls, {os.listdir(parts)}, {said}"
     os.rename(os.path.join(parts, "results.db"), folder.at("results.db"))
     return None if [row[0] for row in folder.results()] == ["one", "one"] else str(folder.results())
 
@@ -130,33 +118,30 @@ def none_by_parallel(folder):
     """Where each link has a result and none was answered the status is 3; PROGRAM names the one that is asked."""
     if not has_parallel("a list of which nothing is answered"):
         return None
-    started = folder.start(ON_MANY, folder.write("some", "two\tbad\n"), folder.at("of parts"), PROGRAM="kh", SCAN=folder.at("none"))
-    _, said = started.communicate(timeout=PATIENCE)
-    return None if started.returncode == 3 and "nothing was answered" in said else f"status {started.returncode}, {said}"
+    words = ON_MANY, folder.write("some", "two\tbad\n"), folder.at("of parts")
+    status, _, said = folder.ended(*words, PROGRAM="kh", SCAN=folder.at("none"))
+    return None if status == 3 and "nothing was answered" in said else f"status {status}, {said}"
 
 
 def page_by_parallel(folder):
     """The command of `docs/TABULATION.md` for GNU parallel, as it stands there."""
     if not has_parallel("the command of docs/TABULATION.md"):
         return None
-    with open(os.path.join(TOP, "docs", "TABULATION.md"), encoding="utf-8") as file:
-        command = re.search(r"^(?:\w+=\w+ )*tabulate/on-many .*$", file.read(), re.M)[0]
+    command = re.search(r"^(?:\w+=\w+ )*tabulate/on-many .*$", read_text("docs", "TABULATION.md"), re.M)[0]
     with tempfile.TemporaryDirectory() as top:
         folder_of(top, SCAN)
         os.mkdir(os.path.join(top, "out"))
         shutil.copy(folder.at("list"), os.path.join(top, "out", "mine.tsv"))
-        settings = dict(os.environ, TOLD=folder.told, SCAN=SCAN)
-        came = subprocess.run(["sh", "-c", command], cwd=top, env=settings, capture_output=True, text=True, timeout=PATIENCE)
+        status, _, said = ended(["sh", "-c", command], cwd=top, env=dict(os.environ, TOLD=folder.told, SCAN=SCAN))
         shutil.copy(os.path.join(top, "out", "mine", "results.db"), folder.at("results.db"))
         found = folder.select("select field, count(*) from results group by field")
-    right = came.returncode == 0 and found == [(field, COUNT + 2) for field in (2, 3, 5, 7)]
-    return None if right else f"status {came.returncode}, {found}, {came.stderr}"
+    right = status == 0 and found == [(field, COUNT + 2) for field in (2, 3, 5, 7)]
+    return None if right else f"status {status}, {found}, {said}"
 
 
 def array_commands():
     """The commands at the head of `tabulate/array.slurm`: what cuts the list, what begins the tasks, what stores their results."""
-    with open(os.path.join(TOP, "tabulate", "array.slurm"), encoding="utf-8") as file:
-        return [line.split("        ")[0] for line in re.findall(r"^#   (.*)$", file.read(), re.M)]
+    return [line.split("        ")[0] for line in re.findall(r"^#   (.*)$", read_text("tabulate", "array.slurm"), re.M)]
 
 
 def requeued(queue, folder, top):
@@ -192,8 +177,7 @@ def task_lines(top, ending):
     parts = os.path.join(top, "out", "parts")
     for name in sorted(os.listdir(parts)):
         if name.endswith(ending):
-            with open(os.path.join(parts, name), encoding="utf-8") as file:
-                yield file.read().splitlines()
+            yield read_text(os.path.join(parts, name)).splitlines()
 
 
 def by_slurm(folder):

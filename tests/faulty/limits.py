@@ -45,13 +45,7 @@ PLACES = (
 def run(program, case, limit=lambda: None, environment=None, folder=None):
     """The status, what was written, and what was said, of a run whose new process first calls `limit`."""
     done = subprocess.run(
-        [program, *case.words],
-        input=case.given,
-        capture_output=True,
-        timeout=PATIENCE,
-        preexec_fn=limit,
-        env=environment,
-        cwd=folder,
+        [program, *case.words], input=case.given, capture_output=True, timeout=PATIENCE, preexec_fn=limit, env=environment, cwd=folder
     )
     return done.returncode, done.stdout, done.stderr
 

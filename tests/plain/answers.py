@@ -19,7 +19,7 @@ import plain.moves
 import plain.schedules
 import plain.words
 from plain.codes import LIMIT, REFUSED, Ended
-from shared.places import DATA
+from shared.places import DATA, read_text
 from bench.braids import closure
 
 BYTES = 65_536
@@ -84,11 +84,7 @@ class Command(NamedTuple):
 def printed_gauss(diagram):
     """The signed Gauss text of a diagram: each component from the pass that its least arc enters."""
     code = plain.diagrams.code_of(diagram)
-    label = {}
-    for number, crossing in plain.diagrams.numbered(diagram):
-        label[crossing.under.enters], label[crossing.over.enters] = -number, number
-    groups = [[label[arc] for arc in them] for them in plain.diagrams.components(code)] + [[]] * code.loops
-    groups = [", ".join(map(str, group)) for group in groups]
+    groups = [", ".join(str(number if is_over else -number) for number, is_over in them) for them in plain.diagrams.passes(code)]
     body = groups[0] if len(groups) == 1 and not code.loops else ", ".join(f"{{{group}}}" for group in groups)
     signs = ", ".join("1" if crossing.positive else "-1" for crossing in diagram.crossings)
     return f"GaussCode[{body}] Signs[{signs}]"
@@ -202,8 +198,7 @@ REPLIES = {it.__name__: it for it in (*FIRST_REPLIES, draw, mirror, reverse, uni
 
 def stored_dimensions():
     """The dimensions of the numbers of `numbers.txt`, by number and field."""
-    with open(os.path.join(DATA, "numbers.txt"), encoding="utf-8") as file:
-        lines = [line.split() for line in file.read().split("\n\n", 1)[1].splitlines()]
+    lines = [line.split() for line in read_text(os.path.join(DATA, "numbers.txt")).split("\n\n", 1)[1].splitlines()]
     return {(int(line[0]), field): line[at] for line in lines for field, at in ((2, 3), (3, 4))}
 
 

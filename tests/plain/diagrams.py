@@ -204,15 +204,7 @@ def components_fault(code):
 
 
 RULES = (
-    arc_range_fault,
-    arc_times_fault,
-    interval_fault,
-    under_fault,
-    over_fault,
-    two_arc_fault,
-    checkerboard_fault,
-    genus_fault,
-    components_fault,
+    arc_range_fault, arc_times_fault, interval_fault, under_fault, over_fault, two_arc_fault, checkerboard_fault, genus_fault, components_fault
 )
 
 
@@ -263,6 +255,18 @@ def counts(diagram):
         f"accepted crossings {count} plus {plus} minus {count - plus} components {len(components(code))}"
         f" pieces {len(pieces(code))} faces {len(faces(code))} loops {code.loops}\n"
     )
+
+
+def entered(code):
+    """For each arc of an accepted code the number of the crossing to which it leads, and whether it is over there."""
+    unders, overs = ({it[way].enters: (number, way == 1) for number, it in numbered(accepted(code))} for way in (0, 1))
+    return {**unders, **overs}
+
+
+def passes(code):
+    """The passes of each component of an accepted code, the crossing and whether it is over, from the end of its least arc; a loop has none."""
+    enters = entered(code)
+    return [[enters[arc] for arc in them] for them in components(code)] + [[]] * code.loops
 
 
 def renamed(crossing, enters, leaves):

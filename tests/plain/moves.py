@@ -6,20 +6,7 @@ It was written from their rules alone, and `edit_scripts.py` compares the progra
 import re
 
 from plain.diagrams import (
-    CROSSINGS,
-    Crossing,
-    Diagram,
-    Pass,
-    Refused,
-    arcs_of,
-    classes,
-    code_of,
-    face_counts,
-    faces,
-    numbered,
-    partners,
-    printed,
-    renamed,
+    CROSSINGS, Crossing, Diagram, Pass, Refused, arcs_of, classes, code_of, face_counts, faces, numbered, partners, printed, renamed,
     renumbered,
 )
 

@@ -70,6 +70,13 @@ def test_nothing_is_no_answer(nothing, why):
     assert found.lines[0] == "3 of 3 answers agree" and (silent in found.lines or not why) and found.links["4_1"] == "no answer"
 
 
+def test_one_reason_for_many_shifts():
+    tables = {name: kh.Table.read(TABLES[name], field=3) for name in ("3_1", "8_19")}
+    found = kh.compare({name: it.shift(j=3 * w, i=w) for (name, it), w in zip(tables.items(), (-3, -8))}, names=tables)
+    assert len(found.lines) == 2 and "own numbers: so it is where n+ and n- are exchanged" in found.lines[1]
+    assert found.links["8_19"] == "j shifted by -24 and i shifted by -8"
+
+
 def test_a_link_is_listed_once():
     found = kh.compare({"3_1": "none", "4_1": {}, "Hopf": "0"}, field=3, names=["3_1", "4_1", "Hopf"])
     assert found.lines[1:] == (

@@ -13,7 +13,7 @@ TOP = os.path.dirname(os.path.dirname(os.path.dirname(os.path.abspath(__file__))
 def test_types():
     if not shutil.which("mypy"):
         pytest.skip("mypy is not installed")
-    came = subprocess.run(["mypy", "--cache-dir", os.devnull], cwd=TOP, capture_output=True, text=True, timeout=600)
+    came = subprocess.run(["mypy", "--strict", "--cache-dir", os.devnull, "python/kh"], cwd=TOP, capture_output=True, text=True, timeout=600)
     assert came.returncode == 0, came.stdout
 
 

@@ -39,7 +39,7 @@ def test_the_lines_of_the_page(monkeypatch, tmp_path, capsys):
     """All that needs no SageMath; the loop over its knots is run by `test_conversions.py`."""
     monkeypatch.chdir(tmp_path)
     (tmp_path / "knotinfo.csv").write_text('name,braid_notation\n8_19,"{1,1,1,2,1,1,1,2}"\n')
-    first, beside, turned, moved, own, alone, with_sage, frames = blocks()
+    first, _, beside, turned, moved, own, alone, with_sage, frames = blocks()
     (tmp_path / "my-program").write_text(PROGRAM)
     (tmp_path / "my-program").chmod(0o755)
     monkeypatch.setenv("PYTHONPATH", SURROUNDINGS["PYTHONPATH"])
@@ -77,6 +77,23 @@ def test_the_notebook(tmp_path):
     page = (tmp_path / "tour.html").read_text(encoding="utf-8")
     assert page.count("<svg xmlns") >= 2 and page.count('stroke-width="5"') > 10 and "<caption>over 3 elements</caption>" in page
     assert "672 are exact in one way: it is the table of the mirror image" in page.replace("&#39;", "'") and "image/png" in page
+
+
+@pytest.mark.program
+def test_a_page_that_is_sanitised():
+    """Tables and formulas stay, a drawing loses its lines with pixels beside it and without, and pixels alone stay, as the page says."""
+    notebooks, convert, *_ = map(pytest.importorskip, ("nbformat.v4", "nbconvert", "cairosvg", "IPython.display"))
+    if not convert.__version__.startswith("6."):
+        pytest.skip("nbconvert is another one than the page speaks of")
+    link = kh.Link("3_1")
+    known = {"L": link}
+    exec(blocks()[1].replace("IPython.display.Image(", "shown = IPython.display.Image("), known)
+    (image, _), svg = known["shown"]._repr_mimebundle_(), link.drawing().svg
+    shown = {"text/html": link._repr_html_()}, {"text/html": svg, "image/svg+xml": svg, **image}, image, {"text/latex": link.jones._repr_latex_()}
+    cells = [notebooks.new_code_cell(outputs=[notebooks.new_output("display_data", it)]) for it in shown]
+    page, _ = convert.HTMLExporter(sanitize_html=True).from_notebook_node(notebooks.new_notebook(cells=cells))
+    assert page.count("<caption>") == 4 and page.count('stroke-width="5"') == 0 and page.count('<img src="data:image/png') == 1
+    assert link.jones._repr_latex_() in page
 
 
 @pytest.mark.program

@@ -65,6 +65,8 @@ ONLY_TORSION = "(only torsion at 3, 5 and 7 in one place would explain this)\n"
 INVERSES = "i and j are negated: q and t stand for the inverses of the reference's, and the link is not mirrored\n"
 OF_HOMOLOGY = "the groups are homology: torsion stands at i - 1 where the reference, in cohomology, has it at i\n"
 CUBE = "the same table, with j shifted by -4\nso are the degrees of the cube, without the numbers n+ and n- of crossings\n"
+SIGNS = "the same table, with j shifted by -9 and i shifted by -3\nso it is where n+ and n- are exchanged, since the signs of all crossings "
+SIGNS += "are the other ones\n"
 TURNED = "the same table, with j shifted by -12 and i shifted by -4\nso it is where components are turned round that link the others\n"
 OTHER_FIELD = "it is the table over 3, 5 and 7 elements"
 LARGE = "q^5 + q^7 + q^9 t^2 + q^11 t^4 + q^13 t^3 + q^13 t^4 + q^15 t^5 + q^17 t^5"
@@ -112,6 +114,7 @@ SAID = [
     ("shifted twice", "3_1 --field 3", "t + q^2 t + q^4 t^3 + q^8 t^4", 1, "the same table, with j shifted by -1 and i shifted by 1\n"),
     ("mirrored and shifted", "3_1 --field 3", "1 + q^-2 + q^-4 t^-2 + q^-8 t^-3", 1, MIRROR[:-1] + ", with j shifted by 1\n" + OTHER_HAND),
     ("without crossings", "4^2_1 --field 3", "q^-2 + 1 + q^2 t^2 + q^6 t^3 + q^6 t^4 + q^8 t^4", 1, CUBE),
+    ("signs exchanged", "3_1 --field 3", "q^-8 t^-3 + q^-6 t^-3 + q^-4 t^-1 + 1", 1, SIGNS),
     ("components turned", "4^2_1 --field 3", "q^-10 t^-4 + q^-8 t^-4 + q^-6 t^-2 + q^-2 t^-1 + q^-2 + 1", 1, TURNED),
     ("shifted, and another number", "3_1 --field 3", "q^3 + q^5 + q^7 t^2 + 2 q^11 t^3", 1, NEAREST),
     ("another name", "9_1 --field 3", LARGE, 1, "this is the table of 8_19 and of T(3,4)\n"),

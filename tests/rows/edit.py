@@ -2,21 +2,15 @@
 
 Worked from the rules of moves and of scripts alone; `tests/edit_scripts.py` makes many more by chance, with a plain reading of the moves.
 """
-CURL = "PD[X[1,1,2,2]]"
+from rows.texts import CURL, HOPF, TREFOIL, lines, links
+
 PRINTED_CURL = "PD[X[1, 1, 2, 2]]"
 KINKED = "PD[X[3, 1, 4, 4], X[1, 3, 2, 2]]"
-TREFOIL = "PD[X[1,4,2,5], X[3,6,4,1], X[5,2,6,3]]"
 PRINTED_TREFOIL = "PD[X[1, 4, 2, 5], X[3, 6, 4, 1], X[5, 2, 6, 3]]"
-HOPF = "PD[X[4,1,3,2],X[2,3,1,4]]"
 APART = "PD[X[1,4,2,3], X[2,4,1,3]]"
 TORUS = "PD[X[1,5,2,4], X[3,6,4,1], X[5,2,6,3]]"
 KINK = "r1 add 1 under plus"
 THERE_AND_BACK = [KINK, "r1 drop 2"]
-
-
-def lines(*each):
-    """A text of these lines."""
-    return "".join(line + "\n" for line in each)
 
 
 def numbered(*each):
@@ -24,15 +18,9 @@ def numbered(*each):
     return lines(*(f"{number} {line}" for number, line in enumerate(each, 1)))
 
 
-def curls(count, loops=0, space=""):
-    """The text of so many curls that lie apart, and of loops."""
-    items = [f"X[{a},{space}{a},{space}{a + 1},{space}{a + 1}]" for a in range(1, 2 * count, 2)]
-    return "PD[" + f",{space}".join(items + [f"Loop[{2 * count + 1 + k}]" for k in range(loops)]) + "]"
-
-
 def dropped(count, loops):
     """What is written where the first of so many curls is dropped, again and again, each becoming a loop."""
-    return numbered(*(curls(count - k, loops + k, " ") for k in range(1, count + 1)))
+    return numbered(*(links(count - k, loops + k) for k in range(1, count + 1)))
 
 
 # Three hundred changes, of which the last 256 are undone and redone, and one undo and one redo more.
@@ -63,11 +51,11 @@ ROWS = [
     ("no triangle", HOPF, "r3 1 2 2", 7, "1 refused no triangle at 1 2 2\n"),
     ("a kink on a loop", "PD[Loop[1]]", KINK, 7, "1 refused loop 1\n"),
     ("a finger over its own arc", CURL, "r2 add 1 left 1 right", 7, "1 refused same arc 1\n"),
-    ("one crossing more than twenty", curls(20), KINK, 7, "1 refused crossings 21 of 20\n"),
-    ("two crossings more than nineteen", curls(19), "r2 add 1 left 3 left", 7, "1 refused crossings 21 of 20\n"),
-    ("twenty crossings and back", curls(19), lines("r1 add 38 over minus", "r1 drop 20", "redo"), 7,
-     numbered(curls(18, space=" ")[:-1] + ", X[37, 37, 38, 40], X[39, 38, 40, 39]]", curls(19, space=" "), "refused nothing to redo")),
-    ("more than eight loops", curls(5, 8), lines(*["r1 drop 1"] * 5), 0, dropped(5, 8)),
+    ("one crossing more than twenty", links(20, space=""), KINK, 7, "1 refused crossings 21 of 20\n"),
+    ("two crossings more than nineteen", links(19, space=""), "r2 add 1 left 3 left", 7, "1 refused crossings 21 of 20\n"),
+    ("twenty crossings and back", links(19, space=""), lines("r1 add 38 over minus", "r1 drop 20", "redo"), 7,
+     numbered(links(18)[:-1] + ", X[37, 37, 38, 40], X[39, 38, 40, 39]]", links(19), "refused nothing to redo")),
+    ("more than eight loops", links(5, 8, ""), lines(*["r1 drop 1"] * 5), 0, dropped(5, 8)),
     ("no script", TREFOIL, None, 0, ""),
     ("an empty script", TREFOIL, "", 0, ""),
     ("a script without words", TREFOIL, "\n \t\r\n\n", 0, ""),
@@ -98,7 +86,7 @@ ROWS = [
     ("a finger that is dropped", TREFOIL, lines("r2 add 1 left 3 left", "r2 drop 4 5"), 0,
      numbered("PD[X[3, 8, 4, 9], X[7, 10, 8, 1], X[9, 4, 10, 5], X[6, 2, 7, 1], X[5, 2, 6, 3]]", PRINTED_TREFOIL)),
     ("two pieces that are joined", "PD[X[1,1,2,2], X[3,3,4,4]]", lines("r2 add 1 left 3 left", "undo"), 0,
-     numbered("PD[X[3, 1, 4, 4], X[7, 5, 8, 8], X[6, 2, 7, 1], X[5, 2, 6, 3]]", curls(2, space=" "))),
+     numbered("PD[X[3, 1, 4, 4], X[7, 5, 8, 8], X[6, 2, 7, 1], X[5, 2, 6, 3]]", links(2))),
     ("a Gauss text", "GaussCode[-1, 3, -2, 1, -3, 2] Signs[-1, -1, -1]", lines("r1 add 6 over minus", "r1 drop 4"), 0,
      numbered("PD[X[1, 4, 2, 5], X[3, 8, 4, 1], X[5, 2, 6, 3], X[7, 6, 8, 7]]", PRINTED_TREFOIL)),
     ("JSON", "[[1,1,2,2]]", "r1 drop 1", 0, "1 PD[Loop[1]]\n"),

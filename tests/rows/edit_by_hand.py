@@ -1,8 +1,7 @@
 """Lines of `edit` in places where a rule has little room, with answers that were worked out by hand; `edit_scripts.py` tries them."""
+from rows.texts import CURL, TREFOIL, links
 
-TREFOIL = "PD[X[1,4,2,5], X[3,6,4,1], X[5,2,6,3]]"
 HOPF = "PD[X[4,1,3,2], X[2,3,1,4]]"
-CURL = "PD[X[1,1,2,2]]"
 TWO_CURLS = "PD[X[1,1,2,2], X[3,3,4,4]]"
 CIRCLE_OVER_CIRCLE = "PD[X[1,4,2,3], X[2,4,1,3]]"
 CIRCLE_OVER_CURL = "PD[X[1,6,2,5], X[4,6,1,5], X[2,4,3,3]]"
@@ -15,11 +14,6 @@ TWISTED_LOOP = "PD[X[4,2,1,1], X[3,2,4,3]]"
 TWICE_CURLED_LOOP = "PD[X[4,2,1,1], X[3,3,4,2]]"
 CURL_AND_LOOP = "PD[X[1,1,2,2], Loop[3]]"
 CURL_AND_HOPF = "PD[X[1,1,2,2], X[6,3,5,4], X[4,5,3,6]]"
-
-
-def curls(count):
-    """A text of so many curls that lie apart, as the program prints it."""
-    return "PD[" + ", ".join(f"X[{a}, {a}, {a + 1}, {a + 1}]" for a in range(1, 2 * count, 2)) + "]"
 
 
 def with_more(text, item):
@@ -75,16 +69,16 @@ ROWS = [
     ("a bigon of two crossings that there are not", CURL, "r2 drop 0 9", "refused no crossing 0"),
     ("a bigon of a crossing and one that there is not", CURL, "r2 drop 1 2", "refused no crossing 2"),
     ("a triangle of a crossing twice and one that there is not", CURL, "r3 1 1 9", "refused no crossing 9"),
-    ("crossing 20", curls(19), "r1 add 38 under plus", with_more(curls(18), "X[37, 37, 38, 40], X[38, 40, 39, 39]")),
-    ("crossing 21", curls(20), "r1 add 1 under plus", "refused crossings 21 of 20"),
-    ("crossing 21 on a loop", with_more(curls(20), "Loop[1]"), "r1 add 41 under plus", "refused crossings 21 of 20"),
-    ("crossing 21 on no arc", with_more(curls(20), "Loop[1]"), "r1 add 42 under plus", "refused no arc 42"),
-    ("the crossings 20 and 21", curls(19), "r2 add 1 left 3 left", "refused crossings 21 of 20"),
-    ("the crossings 20 and 21 on one arc", curls(19), "r2 add 1 left 1 left", "refused crossings 21 of 20"),
-    ("the crossings 21 and 22", curls(20), "r2 add 40 left 1 right", "refused crossings 22 of 20"),
-    ("the crossings 21 and 22 on a loop", with_more(curls(20), "Loop[1]"), "r2 add 41 left 1 right", "refused crossings 22 of 20"),
-    ("the crossings 20 and 21 on a loop", with_more(curls(19), "Loop[1]"), "r2 add 1 left 39 right", "refused crossings 21 of 20"),
-    ("the last of twenty curls", curls(20), "r1 drop 20", with_more(curls(19), "Loop[39]")),
+    ("crossing 20", links(19), "r1 add 38 under plus", with_more(links(18), "X[37, 37, 38, 40], X[38, 40, 39, 39]")),
+    ("crossing 21", links(20), "r1 add 1 under plus", "refused crossings 21 of 20"),
+    ("crossing 21 on a loop", with_more(links(20), "Loop[1]"), "r1 add 41 under plus", "refused crossings 21 of 20"),
+    ("crossing 21 on no arc", with_more(links(20), "Loop[1]"), "r1 add 42 under plus", "refused no arc 42"),
+    ("the crossings 20 and 21", links(19), "r2 add 1 left 3 left", "refused crossings 21 of 20"),
+    ("the crossings 20 and 21 on one arc", links(19), "r2 add 1 left 1 left", "refused crossings 21 of 20"),
+    ("the crossings 21 and 22", links(20), "r2 add 40 left 1 right", "refused crossings 22 of 20"),
+    ("the crossings 21 and 22 on a loop", with_more(links(20), "Loop[1]"), "r2 add 41 left 1 right", "refused crossings 22 of 20"),
+    ("the crossings 20 and 21 on a loop", with_more(links(19), "Loop[1]"), "r2 add 1 left 39 right", "refused crossings 21 of 20"),
+    ("the last of twenty curls", links(20), "r1 drop 20", with_more(links(19), "Loop[39]")),
 ]
 
 # Codes of one link before and after a move.

@@ -19,20 +19,10 @@ jones 1*q^0 1*q^2 1*q^4 1*q^6
 """
 
 ROWS = [
-    (
-        "the trefoil over five elements",
-        ["homology", "--field", "5"],
-        TREFOIL,
-        0,
-        "table 2\nfield 5\nj -9 i -3 dim 1\nj -5 i -2 dim 1\nj -3 i 0 dim 1\nj -1 i 0 dim 1\njones -1*q^-9 1*q^-5 1*q^-3 1*q^-1\n",
-    ),
-    (
-        "the trefoil over seven elements",
-        ["homology", "--field", "7"],
-        TREFOIL,
-        0,
-        "table 2\nfield 7\nj -9 i -3 dim 1\nj -5 i -2 dim 1\nj -3 i 0 dim 1\nj -1 i 0 dim 1\njones -1*q^-9 1*q^-5 1*q^-3 1*q^-1\n",
-    ),
+    ("the trefoil over five elements", ["homology", "--field", "5"], TREFOIL, 0,
+     "table 2\nfield 5\nj -9 i -3 dim 1\nj -5 i -2 dim 1\nj -3 i 0 dim 1\nj -1 i 0 dim 1\njones -1*q^-9 1*q^-5 1*q^-3 1*q^-1\n"),
+    ("the trefoil over seven elements", ["homology", "--field", "7"], TREFOIL, 0,
+     "table 2\nfield 7\nj -9 i -3 dim 1\nj -5 i -2 dim 1\nj -3 i 0 dim 1\nj -1 i 0 dim 1\njones -1*q^-9 1*q^-5 1*q^-3 1*q^-1\n"),
     (
         "the trefoil over two elements, with a form that is not needed",
         ["homology", "--to", "pd", "--field", "2"],

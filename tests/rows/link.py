@@ -2,10 +2,8 @@
 
 Worked by hand from the rules of these commands; where homology is compared, by the same table turned round.
 """
-CURL = "PD[X[1,1,2,2]]"
-TREFOIL = "PD[X[1,4,2,5], X[3,6,4,1], X[5,2,6,3]]"
-TREFOIL_IN_GAUSS = "GaussCode[-1, 3, -2, 1, -3, 2] Signs[-1, -1, -1]"
-HOPF = "PD[X[4,1,3,2],X[2,3,1,4]]"
+from rows.texts import CURL, TREFOIL, TREFOIL_IN_GAUSS, USAGE, links
+
 TWO_ARCS = "PD[X[2,4,1,3], X[1,4,2,3]]"
 MIRRORED_TREFOIL = "PD[X[4, 2, 5, 1], X[6, 4, 1, 3], X[2, 6, 3, 5]]"
 REVERSED_TREFOIL = "PD[X[6, 3, 1, 4], X[4, 1, 5, 2], X[2, 5, 3, 6]]"
@@ -20,13 +18,6 @@ j 7 i 3 dim 1
 j 9 i 3 dim 1
 jones 1*q^1 1*q^3 1*q^5 -1*q^9
 """
-USAGE = "usage: kh COMMAND [OPTIONS]\n"
-
-
-def links(crossings, loops, space=" "):
-    """The text of so many curls that lie apart, and of loops."""
-    items = [f"X[{a},{space}{a},{space}{a + 1},{space}{a + 1}]" for a in range(1, 2 * crossings, 2)]
-    return "PD[" + f",{space}".join(items + [f"Loop[{2 * crossings + 1 + k}]" for k in range(loops)]) + "]"
 
 
 def line(text):

@@ -4,15 +4,14 @@ Worked by hand from `docs/LOG-FORMAT.md`. What `certify` may write is free in it
 choose; `tests/logs.py` judges the others.
 """
 from faulty.cases import LOG
+from rows.texts import USAGE, links
 from shared.running import Long
 
 CURL = LOG.decode()
 REST = "field 2\nj -1 i 0 dim 1\nj 1 i 0 dim 1\n"
 VERIFIED = "verified\ntable 2\n" + REST
-USAGE = "usage: kh COMMAND [OPTIONS]\n"
-NINE_CURLS = "PD[" + ",".join(f"X[{a},{a},{a + 1},{a + 1}]" for a in range(1, 19, 2)) + "]"
+NINE_CURLS, TWENTY_CURLS = (links(count, space="") for count in (9, 20))
 TOO_LARGE = "limit generators 10077696 of 4194304\n"
-TWENTY_CURLS = "PD[" + ",".join(f"X[{a},{a},{a + 1},{a + 1}]" for a in range(1, 41, 2)) + "]"
 LONGEST = 67_108_864
 LOG_OF_NOTHING = "log 1\nPD[]\nfield %s\nblock 0\ntable 2\nfield %s\nj 0 i 0 dim 1\n"
 LOG_OF_A_LOOP = "log 1\nPD[Loop[1]]\nfield 2\nblock -1\nblock 1\ntable 2\n" + REST

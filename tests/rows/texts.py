@@ -8,6 +8,7 @@ HOMOLOGY = ["homology"]
 CHECK = ["check"]
 JONES = ["jones"]
 SCHEDULE = ["schedule"]
+CURL = "PD[X[1,1,2,2]]"
 TREFOIL = "PD[X[1,4,2,5], X[3,6,4,1], X[5,2,6,3]]"
 TREFOIL_IN_GAUSS = "GaussCode[-1, 3, -2, 1, -3, 2] Signs[-1, -1, -1]"
 TREFOIL_TABLE = """\
@@ -76,6 +77,12 @@ def crossings(count, between=", "):
 def curls(count):
     """A text of so many curls that lie apart."""
     return "PD[" + ", ".join(f"X[{a},{a},{a + 1},{a + 1}]" for a in range(1, 2 * count, 2)) + "]"
+
+
+def links(count, loops=0, space=" "):
+    """The text of so many curls that lie apart, and of loops, as the program writes it, or without blanks."""
+    items = [f"X[{a},{space}{a},{space}{a + 1},{space}{a + 1}]" for a in range(1, 2 * count, 2)]
+    return "PD[" + f",{space}".join(items + [f"Loop[{2 * count + 1 + k}]" for k in range(loops)]) + "]"
 
 
 def loops(count):

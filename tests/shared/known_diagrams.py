@@ -6,6 +6,7 @@ import drawn.moves as draws
 import plain.diagrams as codes
 import plain.moves as moves
 import rows.edit_by_hand as hand
+import rows.texts as texts
 from shared import stored_links
 from shared.places import TOP
 from bench.braids import closure, planar_diagram
@@ -34,8 +35,8 @@ SMALL = (
     ("a figure eight", "PD[X[4,2,5,1], X[8,6,1,5], X[6,3,7,4], X[2,7,3,8]]"),
     ("a curl and a trefoil apart, with a loop", "PD[X[1,1,2,2], X[3,6,4,7], X[5,8,6,3], X[7,4,8,5], Loop[1]]"),
     ("two Hopf links apart", "PD[X[4,1,3,2], X[2,3,1,4], X[8,5,7,6], X[6,7,5,8]]"),
-    ("five curls and eight loops", hand.with_more(hand.curls(5), ", ".join(["Loop[1]"] * 8))),
-    ("twelve curls", hand.curls(12)),
+    ("five curls and eight loops", hand.with_more(texts.links(5), ", ".join(["Loop[1]"] * 8))),
+    ("twelve curls", texts.links(12)),
 )
 
 

@@ -9,10 +9,12 @@ import os
 import re
 import signal
 import struct
+import subprocess
 import time
 from typing import NamedTuple
 
 import plain.words
+from shared.places import TOP
 
 PIPE_ROOM = 65_536
 
@@ -262,6 +264,25 @@ def told(program, *commands):
     if unknown:
         print(f"left out, since the program does not know them: {', '.join(unknown)}")
     return not unknown
+
+
+def ended(words, given="", **settings):
+    """The status of a command on a text, what it wrote and what it said."""
+    came = subprocess.run(words, input=given, capture_output=True, text=True, timeout=PATIENCE, **settings)
+    return came.returncode, came.stdout, came.stderr
+
+
+def silent_fault(*words):
+    """What is wrong with a command that has to end well and to say nothing."""
+    status, _, said = ended(words)
+    return None if (status, said) == (0, "") else f"status {status}, {said}"
+
+
+def help_fault(path):
+    """What is wrong with what a script says with --help, which is to be what it does, and its name."""
+    status, wrote, said = ended([os.path.join(TOP, path), "--help"])
+    is_fine = (status, said) == (0, "") and os.path.basename(path) in wrote and len(wrote) > 100
+    return None if is_fine else f"status {status}: {wrote[:200]}{said[:300]}"
 
 
 def tell_all(faults):

@@ -11,6 +11,8 @@ import subprocess
 import sys
 import time
 
+from shared.places import write_text
+
 DAEMONS = ("munged", "slurmctld", "slurmd")
 PACKAGES = ("slurm-wlm", "munge")
 PATIENCE = 120
@@ -77,8 +79,7 @@ class Queue:
             os.mkdir(os.path.join(folder, name), 0o755)
         with open(os.path.join(folder, "key"), "wb", opener=lambda path, flags: os.open(path, flags, 0o600)) as file:
             file.write(os.urandom(128))
-        with open(self.settings, "w", encoding="utf-8") as file:
-            file.write(SETTINGS.format(folder=folder, user=getpass.getuser(), ports=free_ports(2), processors=processors))
+        write_text(self.settings, SETTINGS.format(folder=folder, user=getpass.getuser(), ports=free_ports(2), processors=processors))
 
     def __enter__(self):
         at = {name: os.path.join(self.folder, name) for name in ("key", "munge.socket", "munge.pid", "munge.log", "munge.seed")}

@@ -1,13 +1,12 @@
 """The links of `tests/data`: texts, tables and polynomials, which other programs have found."""
 import os
 
-from shared.places import DATA
+from shared.places import DATA, read_text
 
 
 def blocks_of(name):
     """The lines of each link of a file, which says at its head where they come from."""
-    with open(os.path.join(DATA, name), encoding="utf-8") as file:
-        return [block.strip().splitlines() for block in file.read().split("\n\n")[1:]]
+    return [block.strip().splitlines() for block in read_text(os.path.join(DATA, name)).split("\n\n")[1:]]
 
 
 def texts(name):

@@ -11,8 +11,9 @@ import sqlite3
 import subprocess
 import time
 
-from shared.places import TOP
+from shared.places import TOP, read_text, write_text
 from shared.running import PATIENCE
+from shared.waiting import is_living
 
 TABULATE, ON_MANY = (os.path.join(TOP, "tabulate", name) for name in ("kh-tabulate", "on-many"))
 SCAN = os.path.join(TOP, "tests", "shared", "pretended_scan.py")
@@ -53,21 +54,11 @@ def heeds_signals():
         signal.signal(number, signal.SIG_DFL)
 
 
-def is_living(number):
-    """Whether a process runs, where /proc says it: one that has ended may be listed until it is waited for."""
-    try:
-        with open(f"/proc/{number}/stat", encoding="utf-8") as file:
-            return file.read().rpartition(")")[2].split()[0] not in "ZX"
-    except OSError:
-        return False
-
-
 def lines_of(path):
     """The lines of a file, none where there is none."""
     if not os.path.exists(path):
         return []
-    with open(path, encoding="utf-8") as file:
-        return file.read().splitlines()
+    return read_text(path).splitlines()
 
 
 def wanted():
@@ -107,8 +98,7 @@ class Folder:
 
     def __init__(self, path):
         self.path, self.told, self.said = path, os.path.join(path, "told"), ""
-        self.program = self.write("kh", PROGRAM)
-        os.chmod(self.program, 0o755)
+        self.program = self.write("kh", PROGRAM, 0o755)
         # (what says which program is asked)
         self.asked = ()
         self.write("list", "# a list\n" + "".join(f"link {k}\tPD[Loop[{k}]]\n" for k in range(COUNT)) + "wrong\tbad\nhuge\tlarge\n")
@@ -116,10 +106,9 @@ class Folder:
     def at(self, name):
         return os.path.join(self.path, name)
 
-    def write(self, name, text):
+    def write(self, name, text, mode=None):
         """A file with this text, and its path."""
-        with open(self.at(name), "w", encoding="utf-8") as file:
-            file.write(text)
+        write_text(self.at(name), text, mode)
         return self.at(name)
 
     def remove(self, name):
@@ -139,9 +128,13 @@ class Folder:
     def tabulated(self, *words):
         return (TABULATE, "--scan", SCAN, "--kh", self.program, *self.asked, "--fields", "2,3", *words)
 
-    def run(self, *words, given=None, **more):
-        """The status, what was written and what was said; of words of `kh-tabulate`."""
-        started = self.start(*self.tabulated(*words), **more)
+    def run(self, *words, **more):
+        """The same of words of `kh-tabulate`."""
+        return self.ended(*self.tabulated(*words), **more)
+
+    def ended(self, *words, given=None, **more):
+        """The status of what these words start, what was written and what was said."""
+        started = self.start(*words, **more)
         wrote, errors = started.communicate(given, timeout=PATIENCE)
         return started.returncode, wrote, errors
 

@@ -5,6 +5,7 @@ import shutil
 import tempfile
 import time
 
+from shared.places import read_text
 from shared.running import PATIENCE
 
 
@@ -16,6 +17,14 @@ def wait_for(is_so):
             return False
         time.sleep(0.02)
     return True
+
+
+def is_living(number):
+    """Whether a process runs, where /proc says it: one that has ended may be listed until it is waited for."""
+    try:
+        return read_text(f"/proc/{number}/stat").rpartition(")")[2].split()[0] not in "ZX"
+    except OSError:
+        return False
 
 
 @contextlib.contextmanager

@@ -4,7 +4,7 @@
 labels: four at each crossing, counterclockwise from an arc of the under pass.
 """
 import re
-from typing import NamedTuple
+from typing import Any, NamedTuple
 
 OPEN, CLOSE = "[({", "])}"
 TOKEN = re.compile(r"(?P<blank>[\s\\]+)|(?P<number>[-+]?\d+)|(?P<word>[A-Za-z_][A-Za-z_.0-9]*)|(?P<sign>[\[\](){},;:^*])")
@@ -246,7 +246,7 @@ def directed(entered, crossings):
     return (walked_back(entered) if is_back else entered), True
 
 
-def numbered(crossings):
+def numbered(crossings: Any) -> Any:
     """The crossings with arcs numbered from 1 along each component, from its least label, components by their least labels; the crossings
     that were turned, where the first arc was the one on which the under pass goes out; how many components no under pass directs."""
     partner = partners_of(crossings)
@@ -272,7 +272,7 @@ def numbered(crossings):
     return result, sorted(it + 1 for it in turned), free
 
 
-def sphere_counts(crossings):
+def sphere_counts(crossings: Any) -> tuple[int, int]:
     """The faces of a code, and how many a drawing on a sphere has."""
     partner, seen, faces = partners_of(crossings), set(), 0
     for start in partner:
@@ -288,7 +288,7 @@ def sphere_counts(crossings):
     return faces, len(crossings) + 2 * len(set(piece))
 
 
-def text_of(crossings, loops):
+def text_of(crossings: Any, loops: int) -> str:
     """The text that `kh` reads, as `kh convert` writes it."""
     items = ["X[{}, {}, {}, {}]".format(*it) for it in crossings]
     items += [f"Loop[{2 * len(crossings) + loop}]" for loop in range(1, loops + 1)]

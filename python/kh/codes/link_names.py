@@ -3,6 +3,8 @@ import difflib
 import json
 import os
 import re
+from collections.abc import Iterable, Sequence
+from typing import Any
 
 from ..places import reference_file
 from . import braid_words, codes, dowker
@@ -46,7 +48,7 @@ def lines_of(path):
                 yield name, rest
 
 
-def reference():
+def reference() -> dict[str, Any]:
     """What the reference has of each link, by its name: the number of strands and letters, or the hand and the entries of a DT code."""
     return dict(it for path in (BRAIDS, PRIME) for it in lines_of(path))
 
@@ -60,7 +62,7 @@ def hand_of(name):
         return next((json.loads(line).get("hand") for line in file if line.startswith(head)), None)
 
 
-def name_of(text):
+def name_of(text: str) -> str:
     """The name that a text is, as tables have it: 10_124 for 10_{124} and Knot[10, 124]; nothing where it is none."""
     text = re.sub(r"[\\$]", "", text.strip())
     directed = DIRECTED.fullmatch(re.sub(r"[\s\"']", "", text))
@@ -122,7 +124,7 @@ def fault_of(name, known, place):
     return codes.Fault(NO_LINK.format(f"{directed[0]} to {directed[-1]}"), place)
 
 
-def near(name, names):
+def near(name: str, names: Iterable[str]) -> list[str]:
     """Those of these names that may be meant by one that is none of them: other names of its link, else the same in other letters, else the
     first that are written alike."""
     known, names = reference(), [*names]
@@ -133,7 +135,7 @@ def near(name, names):
     return same[:NEAR] or [written[it] for it in alike if it == name.lower()] or [written[it] for it in alike]
 
 
-def question(names):
+def question(names: Sequence[str]) -> str:
     """Whether one of these names is meant; nothing where there are none."""
     *first, last = names or [""]
     return f"is {' or '.join(filter(None, (', '.join(first), last)))} meant?" if last else ""

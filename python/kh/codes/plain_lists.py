@@ -132,7 +132,7 @@ def is_fit(labels, count):
     return pieces > 0 and cycle_count(partners(labels).translate(BEFORE)) == count + 2 * pieces
 
 
-def written(text):
+def written(text: str) -> str:
     """The text of `kh` for a planar diagram that stays as it is; nothing for what is none, or has to be looked at."""
     found = SHAPES.get(text.translate(NO_DIGITS))
     if not found:

@@ -4,6 +4,7 @@ Nothing is shown that a terminal could obey: what is not printable ASCII is a qu
 """
 import shutil
 import textwrap
+from collections.abc import Iterable
 
 WIDEST, NARROWEST = 100, 40
 MARGIN, CUT = "  ", "..."
@@ -71,7 +72,7 @@ def lines_of(text, spans):
     return found.values()
 
 
-def pointed(text, spans):
+def pointed(text: bytes, spans: Iterable[tuple[int, int]]) -> list[str]:
     """The lines of a text with carets below its spans, which are pairs of places; numbered where the text has several lines."""
     several, shown = b"\n" in text.strip(b" \t\r\n"), []
     for number, line, marks in lines_of(text, spans):

@@ -188,7 +188,7 @@ TELLING = (
 )
 
 
-def told(text, command, refusal):
+def told(text: bytes, command: str, refusal: str) -> tuple[str, list[tuple[int, int]]]:
     """A sentence and spans."""
     found = re.fullmatch(r"line (\d+)", refusal)
     if found and command in LINES:

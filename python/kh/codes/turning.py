@@ -1,6 +1,7 @@
 """Turns codes, in any of the forms, into the planar diagrams that `kh` reads, and says what was changed."""
 import functools
-from typing import NamedTuple
+from collections.abc import Iterator, Sequence
+from typing import Any, NamedTuple
 
 from . import codes, forms, link_names, statements
 
@@ -15,7 +16,7 @@ class Turned(NamedTuple):
     code: str
     said: list
     line: int
-    statement: object = None
+    statement: Any = None
     fault: codes.Fault = None
 
 
@@ -50,7 +51,7 @@ def turned(statement, known, clockwise):
     return codes.text_of(result, links.loops), said
 
 
-def is_in_no_plane(said):
+def is_in_no_plane(said: Sequence[str]) -> bool:
     """Whether what is said of a code says that no drawing has it."""
     return any(it.startswith(NO_SPHERE) for it in said)
 
@@ -61,7 +62,7 @@ def name_of(statement, number):
     return statement.name or not is_known and link_names.name_of(statement.text) or f"code {number}"
 
 
-def all_of(text, clockwise=False):
+def all_of(text: str, clockwise: bool = False) -> Iterator[Turned]:
     """The codes of a text, turned one after another; of a wrong one the fault."""
     for number, statement in enumerate(statements.statements(text, not clockwise), 1):
         name = name_of(statement, number)

@@ -8,11 +8,12 @@ import json
 import os
 import sys
 from collections import Counter
-from typing import NamedTuple
+from collections.abc import Iterator
+from typing import Any, NamedTuple
 
 from ..commands import Unreadable
 from .table_forms import INTEGRAL, RATIONAL, Empty, Reading, field_of, groups_of, j_is_first, read, read_value
-from .stored import listed
+from .stored import Reference, listed
 from .ways import AGREES, EXPLAINED, NEAREST, OTHER, TURNINGS, Comparison, Table, Verdict, sentence, short
 
 OVER = {RATIONAL: "Q", INTEGRAL: "Z"}
@@ -94,11 +95,16 @@ class Compared(NamedTuple):
     def label(self):
         return f"{self.name} {self.over}"
 
+    @property
+    def reason(self):
+        """Why it is shifted so, where that is known."""
+        return "".join(it for it in self.verdict.lines[1:] if it.startswith("so "))
+
 
 class Collection:
     """The answers of a program, compared one by one."""
 
-    def __init__(self, answers, reference, words):
+    def __init__(self, answers: list[Answer], reference: Reference, words: Any) -> None:
         self.answers, self.reference, self.words = answers, reference, words
         self.compared, self.unreadable, self.strangers, self.fields = [], [], [], {}
         # (the links whose answers are no tables; and those without an answer, by the field in words and why)
@@ -185,7 +191,7 @@ class Collection:
             words = " ".join(filter(None, (counted(len(names), "link has", "links have"), "no answer", listed(overs))))
             yield f"{words}{f', since {why}' if why else ''}: {self.some(names)}"
 
-    def links(self):
+    def links(self) -> dict[str, str]:
         """What came of each link of the reference, in its order."""
         found = {name: {} for name in self.reference.lines}
         turned = {it.name for it in self.exact if it.verdict.kind != AGREES}
@@ -227,21 +233,26 @@ class Collection:
         return [it for it in self.compared if it.verdict.kind == kind]
 
     def one_way(self):
-        """The way in which the most answers are exact, if they are more than those that agree, and the answers that are exact in it."""
+        """The way in which the most answers are exact, if they are more than those that agree, and not fewer than those that one reason
+        shifts; and the answers that are exact in it."""
         common = Counter(it.verdict.exact for it in self.of_kind(EXPLAINED) if it.verdict.exact)
         best, whole = None, self.of_kind(AGREES)
+        shifted = max(Counter(it.reason for it in self.of_kind(EXPLAINED) if it.reason).values(), default=0)
         for way in dict.fromkeys([*((place, (0, 0)) for place in range(1, len(TURNINGS))), *(it for it, _ in common.most_common(TRIED))]):
             exact = [it for it in self.compared if it.comparison.agrees_in(*way)]
-            if len(exact) > len(whole):
+            if len(exact) > len(whole) and len(exact) >= shifted:
                 best, whole = way, exact
         return best, whole
 
     def explained(self, but):
-        """What explains the answers but these, those of most answers first."""
-        found = {}
-        for it in self.of_kind(EXPLAINED):
-            if it not in but:
-                found.setdefault(it.verdict.lines[0], []).append(it.label)
+        """What explains the answers but these, those of most answers first; where one reason shifts links by different numbers, the reason."""
+        found, ways, some = {}, {}, [it for it in self.of_kind(EXPLAINED) if it not in but]
+        for it in some:
+            ways.setdefault(it.reason, set()).add(it.verdict.lines[0])
+        for it in some:
+            is_own = it.reason and len(ways[it.reason]) > 1
+            told = f"the same table, shifted at each link by its own numbers: {it.reason}" if is_own else it.verdict.lines[0]
+            found.setdefault(told, []).append(it.label)
         every = sorted(found.items(), key=lambda it: -len(it[1]))
         for line, labels in every[: self.words.most]:
             yield f"{counted(len(labels), 'answer', 'answers')} ({self.some(labels)}): {line}"
@@ -249,7 +260,7 @@ class Collection:
         if left:
             yield f"{counted(left, 'answer', 'answers')} in {counted(len(every) - self.words.most, 'other way', 'other ways')}"
 
-    def lines(self):
+    def lines(self) -> Iterator[str]:
         """What is said of all."""
         yield f"{len(self.of_kind(AGREES))} of {counted(len(self.compared), 'answer agrees', 'answers agree')}"
         if self.way:
@@ -264,7 +275,7 @@ class Collection:
             yield f"{counted(len(self.strangers), 'answer is', 'answers are')} of no link of the reference: {self.some(self.strangers)}"
         yield from self.silent()
 
-    def is_fine(self):
+    def is_fine(self) -> bool:
         """Whether all links have an answer that agrees."""
         agreeing = len(self.of_kind(AGREES))
         return 0 < agreeing == len(self.compared) and not (self.unreadable or self.missing())

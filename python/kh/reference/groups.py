@@ -2,8 +2,12 @@
 
 A group is a count by orders: how many summands there are of each order, where 0 stands for the integers, or for a dimension over a field.
 """
+from __future__ import annotations
+
 import re
 from collections import Counter
+from collections.abc import Mapping
+from typing import Any
 
 INTEGERS = "ZMod|ZZ|Z|ℤ"
 SUMMAND = re.compile(
@@ -18,13 +22,13 @@ IN_POLYNOMIAL = re.compile(
 )
 
 
-def group_of(text):
+def group_of(text: str) -> Counter[int] | None:
     """The group that a text writes: a number, `Z`, `Z^2`, `Z[2]`, `Z x C2 x C4`, `(Z/2)^3` and the like; nothing where it writes none."""
     text = text.strip()
     space = SPACE.fullmatch(text)
     if text.isdecimal() or space:
         return Counter({0: int(space[1] if space else text)})
-    group = Counter()
+    group: Counter[int] = Counter()
     for part in BETWEEN.split(text):
         found = SUMMAND.fullmatch(part)
         if not found:
@@ -39,7 +43,7 @@ def order_and_count(found):
     return int(found["order"] or found["listed"] or found["below"] or 0), int(found["power"] or 1)
 
 
-def has_torsion(groups):
+def has_torsion(groups: Mapping[Any, Mapping[int, int]]) -> bool:
     return any(order > 1 and count for group in groups.values() for order, count in group.items())
 
 

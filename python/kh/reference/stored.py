@@ -5,7 +5,8 @@ integers is compared over all fields.
 """
 import functools
 import json
-from typing import NamedTuple
+from collections.abc import Sequence
+from typing import Any, NamedTuple
 
 from ..commands import Unreadable
 from .table_forms import INTEGRAL, RATIONAL
@@ -41,7 +42,7 @@ def diagrams(path):
 class Reference:
     """The lines of files of vectors, by name and field."""
 
-    def __init__(self, *paths):
+    def __init__(self, *paths: str) -> None:
         self.lines, self.known = {}, {}
         for path in paths:
             with open(path, encoding="utf-8") as file:
@@ -114,7 +115,7 @@ def rational(tables, marks):
     return Wanted(joined({RATIONAL: least}), marks, sizes, frozenset(undecided))
 
 
-def given_tables(groups, field, sizes, step=-1):
+def given_tables(groups: Any, field: Any, sizes: Sequence[int], step: int = -1) -> dict[tuple[int, int, int], int]:
     """The table that these groups say, over a field, the rational numbers, or for integers over the fields of these sizes."""
     if field == RATIONAL:
         return joined({RATIONAL: ranks(groups)})

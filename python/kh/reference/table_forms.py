@@ -4,7 +4,7 @@ import json
 import re
 import warnings
 from collections import Counter
-from typing import NamedTuple
+from typing import Any, NamedTuple
 
 from ..commands import Unreadable
 from ..polynomial_texts import dimensions
@@ -38,7 +38,7 @@ class Reading(NamedTuple):
 
     cells: dict
     is_j_first: bool = True
-    field: object = None
+    field: Any = None
     is_reduced: bool = False
     jones: str = None
 
@@ -75,7 +75,7 @@ def field_of(value):
     return FIELDS.get(str(value).lower())
 
 
-def read(text):
+def read(text: str) -> Reading:
     """The table of a text in any of the forms."""
     text = text.lstrip("\ufeff").strip()
     if not text:
@@ -193,7 +193,7 @@ def plain_value(node):
     return ast.literal_eval(node)
 
 
-def read_value(value):
+def read_value(value: Any) -> Reading:
     """The table of a value: a text, an object with a table as a member, a dictionary or a list."""
     if isinstance(value, str):
         return read(value)
@@ -252,7 +252,7 @@ def pair_of(key):
     raise Unreadable(f"{key} is no pair of degrees")
 
 
-def j_is_first(reading, parity=None):
+def j_is_first(reading: Reading, parity: int | None = None) -> bool | None:
     """Whether j stands first in the pairs of a table, nothing where that can not be told: the quantum degrees of one link are all even or
     all odd, and which of these it is where a parity is given."""
     turned = {(second, first): group for (first, second), group in reading.cells.items()}
@@ -265,6 +265,6 @@ def j_is_first(reading, parity=None):
     return None
 
 
-def groups_of(reading, is_first):
+def groups_of(reading: Reading, is_first: bool) -> dict[tuple[int, int], Counter[int]]:
     """The groups of a table by degrees (j, i)."""
     return {pair if is_first else pair[::-1]: group for pair, group in reading.cells.items()}

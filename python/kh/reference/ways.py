@@ -240,6 +240,8 @@ class Comparison:
         components = sum(coefficient for _, coefficient in line.get("jones", []))
         if components > 2 and way.shift[0] == 3 * way.shift[1] and way.shift[1] % 2 == 0:
             return ["so it is where components are turned round that link the others"]
+        if way.shift == (3 * (minus - plus), minus - plus):
+            return ["so it is where n+ and n- are exchanged, since the signs of all crossings are the other ones"]
         return []
 
     def nearest(self, tried):

@@ -17,7 +17,7 @@ def read_code(path):
     return crossings_of(given([path]), path)
 
 
-def crossings_of(text, path):
+def crossings_of(text: str, path: str) -> list[tuple[int, ...]]:
     """The arcs at the crossings of a text that `kh convert` wrote; it is named so where it has another form."""
     crossings = [tuple(map(int, it)) for it in ITEM.findall(text)]
     if not text.startswith("PD[") or sorted(arc for it in crossings for arc in it) != sorted([*range(1, 2 * len(crossings) + 1)] * 2):

@@ -2,12 +2,17 @@
 
 `drawing` makes a picture of them, and `page_figure.py` the drawing of a page.
 """
+from __future__ import annotations
+
+from typing import Any
+
 from ..commands import Unreadable
 from .arcs import in_order, leaving_darts, numbers_of
 from .labels import arrows_of, around, beside, name_of, page_of, placed
 from .page import colour_class, number_text, path_of, picture, text_at
 from .planar import components_of, first_passes, plane_of
 from .shape import point_at, scaled, shape_of
+from .slices import Slice
 from .strands import BROAD, strands_of
 
 # The lengths of a shape in pixels, the least first: the next is taken where there is no room for a number.
@@ -141,7 +146,9 @@ class Lines:
         return [edge for strand in self.parts for edge in strand.curve] + corners
 
 
-def svg_of(slices, crossings=None, with_numbers=False, mark=None, colours=False):
+def svg_of(
+    slices: list[Slice], crossings: Any = None, with_numbers: bool = False, mark: int | None = None, colours: bool = False
+) -> str:
     """The picture of a drawing, with arrows where there is a code or directions are known without it."""
     diagram = Diagram(slices, crossings)
     labels = labels_of(diagram, shape_of(diagram.plane, slices), mark, with_numbers)

@@ -1,6 +1,14 @@
 """Tables as grids, as the Knot Atlas has them: j down from the greatest, i across; as text, as a picture and as a table of HTML."""
+from __future__ import annotations
+
+from collections.abc import Sequence
+from typing import TYPE_CHECKING
+
 from ..commands import Unreadable
 from .page import picture, text_at, text_width
+
+if TYPE_CHECKING:
+    from ..tables import Table
 
 BETWEEN = "    "
 # The breadth and the height of a cell, where its text stands in it, the room around a grid, and the sizes of texts.
@@ -12,7 +20,7 @@ RULES = (
 STAR = "* not the same over all these fields: torsion"
 
 
-def ranges(tables):
+def ranges(tables: Sequence[Table]) -> tuple[Sequence[int], Sequence[int]]:
     """The quantum degrees that the rows have, from the greatest, and the homological degrees of the columns."""
     degrees = [pair for table in tables for pair in table]
     if not degrees:
@@ -81,7 +89,7 @@ def beside(grids, width):
     return lines
 
 
-def text_of(tables, width):
+def text_of(tables: Sequence[Table], width: int) -> str:
     """The grids as text, with a line on stars where there is one."""
     lines = beside([grid(table, tables) for table in tables], width)
     return "\n".join(lines + ([STAR] if differing(tables) else [])) + "\n"
@@ -145,7 +153,7 @@ def pairs_told(tables):
     return ", ".join(f"j {j} and i {i}" for j, i in sorted(differing(tables)))
 
 
-def html_of(table, tables):
+def html_of(table: Table, tables: Sequence[Table]) -> str:
     """The grid of a table that stands beside these as a table of HTML, without a style; what is not the same over all fields is bold."""
     rows, columns = ranges(tables)
     stars, sums = differing(tables), euler(table)

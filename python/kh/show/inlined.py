@@ -18,7 +18,7 @@ def rules_of(svg):
     return rules
 
 
-def inlined(svg):
+def inlined(svg: str) -> str:
     """The picture with attributes in place of its style."""
     rules = rules_of(svg)
 

@@ -6,6 +6,8 @@ low as it can.
 """
 from typing import NamedTuple
 
+from .slices import Slice
+
 class Event(NamedTuple):
     """A slice with its two columns."""
 
@@ -74,7 +76,7 @@ def levels_of(events, places):
     return [level - top for level in levels]
 
 
-def lines_of(slices):
+def lines_of(slices: list[Slice]) -> list[str]:
     """The lines of a drawing in the terminal. A crossing has three lines: the strand from the upper left goes down in its middle, and
     the one from the upper right goes through there from side to side."""
     events, right_of = events_of(slices)

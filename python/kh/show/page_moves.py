@@ -6,7 +6,7 @@ or on two pieces. `edit` then says which of them are.
 import itertools
 import re
 from collections import Counter
-from typing import NamedTuple
+from typing import Any, NamedTuple
 
 from ..commands import Unreadable
 from ..programs import ANSWERED, MOVE_REFUSED
@@ -144,7 +144,7 @@ def answers_of(kh, code, lines):
     return [it.partition(" ")[2] for it in answer.wrote.splitlines()]
 
 
-def accepted(kh, sheet):
+def accepted(kh: Any, sheet: Any) -> list[Any]:
     """The moves that `edit` makes, with the codes that they lead to: all are tried in a row, each taken back; one that is refused ends the
     script, which goes on behind it."""
     left, found = candidates(sheet), []

@@ -11,6 +11,7 @@ import select
 import subprocess
 import time
 from collections import deque
+from collections.abc import Iterable
 
 from ..programs import FIRST, HEAD, PART, begun, end
 from ..tables import FIELDS
@@ -31,7 +32,7 @@ def of_one_run(task):
     return [task._replace(fields=(field,)) for field in task.fields]
 
 
-def in_runs(tasks):
+def in_runs(tasks: Iterable[Task]) -> list[Task]:
     """Tasks in those that one process can take, those over the same fields together."""
     return sorted((it for task in tasks for it in of_one_run(task)), key=lambda it: it.fields)
 
@@ -179,7 +180,7 @@ class Stream:
 class Scans:
     """The processes."""
 
-    def __init__(self, path, jobs, seconds):
+    def __init__(self, path: str, jobs: int, seconds: float | None) -> None:
         self.path, self.seconds = path, seconds
         self.streams = [Stream(path, seconds) for _ in range(jobs)]
 
