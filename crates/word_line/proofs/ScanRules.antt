@@ -2,21 +2,21 @@
 -- required, and one for `--field`. Another long name finds nothing.
 use Rattle.std.proofs.lemmas.Bool.Decides.{nat_tests}
 use Rattle.std.proofs.Common.{arith}
-use Rattle.std.proofs.Common.{◌≡◌, Bool, true, false, List, [], ◌∷◌, map, Option, Some, None, refl, sym, ap, subst, cond, ◌∙◌, ◌||◌}
+use Rattle.std.proofs.Common.{◌≡◌, ℕ, Bool, true, false, List, [], ◌∷◌, map, Option, Some, None, refl, sym, ap, subst, cond, ◌∙◌, ◌||◌}
 use Rattle.std.proofs.lemmas.Option.{none-some}
 use Rattle.std.proofs.lemmas.Slice.Eq.{bytes_eq-Decides}
+use Rattle.std.specs.List.{fold}
 use Rattle.std.specs.Option.{option_map}
 use Rattle.std.specs.Prelude.{if◌then◌else◌, codes}
 use Rattle.std.specs.Str.{bytes_eq}
-use Rattle.clap.specs.Walk.{Row, Text, arg_by_id, arg_by_index, arg_by_long}
+use Rattle.clap.specs.Walk.{Row, Text, arg_by_id, arg_by_index, arg_by_long, arg_by_short, with_default}
 use Rattle.clap.specs.Simple.{Shape, built, is_simple}
-use Rattle.clap.specs.Faults.{check_fault, is_simple_and_free}
+use Rattle.clap.specs.Faults.{check_fault, defaults_fault, is_simple_and_free, stray_fault}
 use Rattle.clap.specs.declared.error.kind.ErrorKind.TheVariants as kind
 use Rattle.clap.proofs.OnLiterals.{clap_on_literals}
 use Rattle.word_line.specs.ScanLine.{scan_line}
 use Rattle.word_line.specs.Pieces.{Key, field, key_name}
-use Rattle.word_line.proofs.Rules.{IsSlot, Line, Slot, id_of, rule_at}
-use Rattle.word_line.proofs.KhRules.{by_short, by_index_second, no_override, stray, finishes, defaults}
+use Rattle.word_line.proofs.Rules.{IsSlot, Line, Slot, id_of, no_defaults, rule_at, with_defaults}
 
 abbrev slots : List Slot
 slots = None ∷ Some field ∷ []
@@ -83,6 +83,7 @@ pub is_plain : is_simple scan_line ≡ true
 unfolding clap_on_literals
 is_plain = refl
 
+pub by_short : (x : ℕ) → arg_by_short shape.rules x ≡ None
 unfolding clap_on_literals shape
 by_short x = refl
 
@@ -90,14 +91,23 @@ pub by_index_first : arg_by_index shape.rules 1 ≡ Some (rule_at false None)
 unfolding clap_on_literals shape
 by_index_first = refl
 
+pub by_index_second : arg_by_index shape.rules 2 ≡ None
 unfolding clap_on_literals shape
 by_index_second = refl
 
+pub no_override : shape.args_override_self ≡ false
 unfolding clap_on_literals shape
 no_override = refl
 
+pub stray : stray_fault shape ≡ kind.UnknownArgument ∷ []
 unfolding clap_on_literals shape
 stray = refl
+
+pub finishes : (rows : List Row) → fold with_default rows shape.rules ≡ rows
+finishes rows = rw shape_rules (with_defaults false slots rows)
+
+pub defaults : (rows : List Row) → defaults_fault rows shape.rules ≡ []
+defaults rows = rw shape_rules (no_defaults false slots rows)
 
 -- nothing is required
 pub checks : (rows : List Row) → check_fault shape rows false ≡ []
