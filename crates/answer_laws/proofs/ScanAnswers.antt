@@ -28,9 +28,6 @@ use Rattle.kh_work.specs.Orders.{order_for}
 use Rattle.kh_work.specs.declared.order.CodeOrder.TheVariants.{Homology}
 use Rattle.kh_work.proofs.CertifyReplies.{accepted-faultless}
 
-unfolding accepted
-accepted-faultless code none = subst (λ (fault : Option CodeFault). IsTrue (is_none fault)) (sym none) refl
-
 reply-table : (field : ℕ) (code : Code) → generator_count code ≤ GENERATORS → homology_reply field code ≡ reply_of Done (homology_text field code)
 reply-table field code few =
     let short : nat_lt GENERATORS (generator_count code) ≡ false = grind (arith, common_steps) in
