@@ -2,7 +2,6 @@
 
 ghost use Rattle.std.specs.Prelude.{◌≡◌, IfErr, IfOk, IsErr};
 ghost use Rattle.kh_runs.specs.Told.{seen};
-ghost use Rattle.kh_types.specs.Table.{table};
 ghost use Rattle.kh_work.specs.Runs.{IsProgramRun, KeepsHeadline, KeepsReduced};
 ghost use Rattle.kh_work.specs.TableMakers.{IsTableMaker};
 ghost use Rattle.word_line.specs.Values.{AreWorkers};
@@ -43,9 +42,8 @@ pub fn run<R: Threads + Wait + Sync, S: Source, K: Sink, G: Gate + Sync>(
         (seen (S.left source.old) (S.faults source.old)) (seen (S.left source.new) (S.faults source.new))
         (seen (K.written sink.old) (K.faults sink.old)) (seen (K.written sink.new) (K.faults sink.new)) result }
 {
-    let maker = |field: FieldSize, workers: u32, small: &SmallDiagram| -> Result<Table, NoMemory>
+    let maker = |field: FieldSize, workers: u32, small: &SmallDiagram|
         requires { AreWorkers workers }
-        ensures { IfOk result (λ made. made ≡ table field small.now) }
     { table_by(rt, alloc, field, workers, small, gate) };
     run_with(alloc, words, source, sink, &maker)
 }
@@ -98,9 +96,7 @@ pub fn run_alone<S: Source, K: Sink>(
         (seen (S.left source.old) (S.faults source.old)) (seen (S.left source.new) (S.faults source.new))
         (seen (K.written sink.old) (K.faults sink.old)) (seen (K.written sink.new) (K.faults sink.new)) result }
 {
-    let alone = |field: FieldSize, _: u32, small: &SmallDiagram| -> Result<Table, NoMemory>
-        ensures { IfOk result (λ made. made ≡ table field small.now) }
-    { table_alone(alloc, field, small) };
+    let alone = |field: FieldSize, _: u32, small: &SmallDiagram| table_alone(alloc, field, small);
     run_with(alloc, words, source, sink, &alone)
 }
 
