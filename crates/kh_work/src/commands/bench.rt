@@ -10,6 +10,7 @@ ghost use Rattle.kh_runs.specs.Homology.{jones_line};
 ghost use Rattle.kh_runs.specs.Replies.{reply_of};
 ghost use Rattle.kh_runs.specs.declared.status.Status.{Status};
 
+use crate::tables::table_from;
 use braid_maker::from_number;
 use braid_maker::laws::numbers_give_small_diagrams;
 use circle_smoothing::CountedDiagram;
@@ -54,7 +55,7 @@ pub fn reply_to_bench<M: Fn(FieldSize, u32, &SmallDiagram) -> Result<Table, NoMe
     match from_number(number) {
         Ok(diagram) => {
             let small = SmallDiagram::known(CountedDiagram::of_diagram(&diagram));
-            let table = maker(field, workers, &small)?;
+            let table = table_from(maker, field, workers, &small)?;
             reply_with_dimension(alloc, number, small.counted(), &table)
         }
         Err(limit) => too_large_number(alloc, limit.number),

@@ -1,5 +1,4 @@
-use Rattle.std.proofs.Common.{◌≡◌, ◌∙◌, false, true, refl, rules}
-use Rattle.kh_types.specs.Table.{table}
+use Rattle.std.proofs.Common.{◌≡◌, ◌∙◌, false, true, refl}
 use Rattle.kh_work.proofs.ReplyLemmas.{bench_reply-made, bench_reply-over, generators_of_diagram}
 use Rattle.kh_work.proofs.commands.bench.reply_to_bench.Goals as goal
 
@@ -10,10 +9,9 @@ known-small-requires g c =
 
 pub returns-in_ok-table-in-Ok : goal.returns-in_ok-table-in-Ok
 returns-in_ok-table-in-Ok g c =
-    let made : c.in_ok-table-in-Ok.table ≡ table c.args.field c.known-small.result = search rules in
     bench_reply-made c.reply_with_dimension.result c.args.field c.args.number c.known-small.result c.counted.result.now c.in-Ok.diagram
     c.in_ok-table-in-Ok.table (c.in-Ok.ensures.within.0 refl) (c.known-small.ensures ∙ c.of_diagram.ensures) c.in-Ok.ensures.diagram
-    c.counted.ensures.diagram made c.reply_with_dimension.ensures
+    c.counted.ensures.diagram c.in_ok-table-in-Ok.ensures c.reply_with_dimension.ensures
 
 pub returns-in-Err : goal.returns-in-Err
 returns-in-Err g c =
