@@ -77,14 +77,11 @@ bench_reply-diagram field number code diagram small same is =
     (less-true number NUMBERS small))
 
 -- a number that is none of a diagram is answered by the line of the limit
-pub bench_reply-over : {E : Type 0} (result : Result Reply E) (field number told : ℕ) → (number < NUMBERS → ⊥) → told ≡ number
-    → IfOk result (λ reply. reply ≡ too_large_number told) → IfOk result (λ reply. reply ≡ bench_reply field number)
-bench_reply-over (Ok reply) field number told over same is =
-    is
-    ∙ ap too_large_number same
+pub bench_reply-over : (field number told : ℕ) → (number < NUMBERS → ⊥) → told ≡ number → too_large_number told ≡ bench_reply field number
+bench_reply-over field number told over same =
+    ap too_large_number same
     ∙ sym (cond-false (nat_lt number NUMBERS) (reply_of Done (bench_text field number (code_of_number number))) (too_large_number number)
     (less-false number NUMBERS (omega (arith, over))))
-bench_reply-over (Err stop) field number told over same is = tt
 
 pub generators_of_diagram : (number : ℕ) (code diagram : Code) → code ≡ diagram → diagram ≡ code_of_number number
     → ((n : ℕ) → generator_count (code_of_number n) ≤ GENERATORS) → generator_count code ≤ GENERATORS
@@ -92,16 +89,12 @@ generators_of_diagram number code diagram same is few =
     subst (λ (c : Code). generator_count c ≤ GENERATORS) (sym (same ∙ is)) (few number)
 
 -- the reply with the table that was made
-pub bench_reply-made : {E : Type 0} (result : Result Reply E) (field number : ℕ) (code counted diagram : Code) (made : Table)
-    → number < NUMBERS → code ≡ diagram → diagram ≡ code_of_number number → counted ≡ code → made ≡ table field code
-    → IfOk result (λ reply. reply ≡ reply_of Done (bench_lines (bench_counts number counted (total_of made)) ++ jones_line counted))
-    → IfOk result (λ reply. reply ≡ bench_reply field number)
+pub bench_reply-made : (reply : Reply) (field number : ℕ) (code counted : Code) (made : Table) → counted ≡ code → made ≡ table field code
+    → reply ≡ reply_of Done (bench_lines (bench_counts number counted (total_of made)) ++ jones_line counted)
+    → reply ≡ reply_of Done (bench_text field number code)
 unfolding bench_text
-bench_reply-made (Ok reply) field number code counted diagram made small same is_diagram is_counted is_made is =
-    is
-    ∙ ap₂ (λ (c : Code) (t : Table). reply_of Done (bench_lines (bench_counts number c (total_of t)) ++ jones_line c)) is_counted is_made
-    ∙ bench_reply-diagram field number code diagram small same is_diagram
-bench_reply-made (Err stop) field number code counted diagram made small same is_diagram is_counted is_made is = tt
+bench_reply-made reply field number code counted made is_counted is_made is =
+    is ∙ ap₂ (λ (c : Code) (t : Table). reply_of Done (bench_lines (bench_counts number c (total_of t)) ++ jones_line c)) is_counted is_made
 
 schedule-status : (field : ℕ) (code : Code) (script : List (ℕ × ScheduleLine)) → IsReplyStatus (schedule_reply field code script).status
 schedule-status field code script = go (nat_lt GENERATORS (generator_count code))

@@ -4,13 +4,12 @@
 ghost use Rattle.std.specs.Prelude.{◌≡◌, ◌++◌, IfOk, string_bytes};
 ghost use Rattle.word_line.specs.Values.{AreWorkers};
 ghost use Rattle.homology_tables.specs.Tables.{total_of};
-ghost use Rattle.kh_work.specs.Bench.{bench_counts, bench_lines, bench_reply};
+ghost use Rattle.kh_work.specs.Bench.{bench_counts, bench_lines, bench_reply, bench_text};
 ghost use Rattle.kh_work.specs.TableMakers.{IsTableMaker};
 ghost use Rattle.kh_runs.specs.Homology.{jones_line};
 ghost use Rattle.kh_runs.specs.Replies.{reply_of};
 ghost use Rattle.kh_runs.specs.declared.status.Status.{Status};
 
-use crate::tables::table_from;
 use braid_maker::from_number;
 use braid_maker::laws::numbers_give_small_diagrams;
 use circle_smoothing::CountedDiagram;
@@ -55,11 +54,27 @@ pub fn reply_to_bench<M: Fn(FieldSize, u32, &SmallDiagram) -> Result<Table, NoMe
     match from_number(number) {
         Ok(diagram) => {
             let small = SmallDiagram::known(CountedDiagram::of_diagram(&diagram));
-            let table = table_from(maker, field, workers, &small)?;
-            reply_with_dimension(alloc, number, small.counted(), &table)
+            Ok(reply_to_small(alloc, field, workers, number, &small, maker)?)
         }
-        Err(limit) => too_large_number(alloc, limit.number),
+        Err(limit) => Ok(too_large_number(alloc, limit.number)?),
     }
+}
+
+/// The reply to a number whose diagram this is.
+fn reply_to_small<M: Fn(FieldSize, u32, &SmallDiagram) -> Result<Table, NoMemory>>(
+    alloc: Global,
+    field: FieldSize,
+    workers: u32,
+    number: u32,
+    small: &SmallDiagram,
+    maker: &M,
+) -> Result<Reply, NoMemory>
+    requires maker { IsTableMaker M.Fn maker.now }
+    requires workers { AreWorkers workers }
+    ensures { IfOk result (λ reply. reply ≡ reply_of Status.Done (bench_text field number small.now)) }
+{
+    let table = maker(field, workers, small)?;
+    Ok(reply_with_dimension(alloc, number, small.counted(), &table)?)
 }
 
 /// The lines of the counts and of the sum of all dimensions of the homology table, and the Jones
