@@ -47,8 +47,6 @@ use Rattle.kh_work.specs.declared.order.Order.{Order}
 use Rattle.kh_work.specs.declared.order.Order.TheVariants.{Bench}
 use Rattle.kh_work.specs.Orders.{order_for, order_of}
 use Rattle.kh_work.specs.Answer.{IsAnswer, IsBlindReply, IsInputReply, IsOrderReply, ReadsUpTo}
-use Rattle.kh_work.specs.declared.draft.Draft.{Draft}
-use Rattle.kh_work.specs.Drafts.{reply_in}
 use Rattle.kh_work.specs.Runs.{IsBlindAnswer}
 use Rattle.kh_work.specs.Told.{AnswersOrder, AnswersWords}
 use Rattle.kh_runs.specs.Told.{IsReadOut}
@@ -74,26 +72,25 @@ pub IsBlindAnswer-usage : (words : List (List ℕ)) (reply : Reply) → IsUsage 
 unfolding IsAnswer
 IsBlindAnswer-usage words reply none is bytes = inr (none, is)
 
-pub AnswersWords-command : {E : Type 0} (result : Result Draft E) (left : Option (List ℕ)) (words : List (List ℕ)) (command : Command)
-    (order : Order) → IsCommand words command → order ≡ order_of command → IfOk result (λ draft. AnswersOrder order left (reply_in draft))
-    → IfOk result (λ draft. AnswersWords words left (reply_in draft))
-AnswersWords-command (Ok draft) left words command order is_command is told =
-    AnswersSource-other (IsInputReply order) (IsAnswer words) left (reply_in draft)
-    (λ bytes. answer-command words bytes command order (reply_in draft) is_command is) told
+pub AnswersWords-command : {E : Type 0} (result : Result Reply E) (left : Option (List ℕ)) (words : List (List ℕ)) (command : Command)
+    (order : Order) → IsCommand words command → order ≡ order_of command → IfOk result (AnswersOrder order left)
+    → IfOk result (AnswersWords words left)
+AnswersWords-command (Ok reply) left words command order is_command is told =
+    AnswersSource-other (IsInputReply order) (IsAnswer words) left reply
+    (λ bytes. answer-command words bytes command order reply is_command is) told
 AnswersWords-command (Err stop) left words command order is_command is told = tt
 
-pub IsBlindAnswer-command : {E : Type 0} (result : Result Draft E) (words : List (List ℕ)) (command : Command) (order : Order)
-    → IsCommand words command → order ≡ order_of command → IfOk result (λ draft. IsBlindReply order (reply_in draft))
-    → IfOk result (λ draft. IsBlindAnswer words (reply_in draft))
-IsBlindAnswer-command (Ok draft) words command order is_command is replied =
-    λ bytes. answer-command words bytes command order (reply_in draft) is_command is (replied bytes)
+pub IsBlindAnswer-command : {E : Type 0} (result : Result Reply E) (words : List (List ℕ)) (command : Command) (order : Order)
+    → IsCommand words command → order ≡ order_of command → IfOk result (IsBlindReply order) → IfOk result (IsBlindAnswer words)
+IsBlindAnswer-command (Ok reply) words command order is_command is replied =
+    λ bytes. answer-command words bytes command order reply is_command is (replied bytes)
 IsBlindAnswer-command (Err stop) words command order is_command is replied = tt
 
 -- words that read up to a limit
 pub usage_reads_nothing : {P : Type 0} (words : List (List ℕ)) (limit : ℕ) → IsUsage words → ReadsUpTo words limit → P
 usage_reads_nothing words limit none reads = absurd (none reads.command reads.meant)
 
-pub IsReadOut-command : {E : Type 0} (result : Result Draft E) (words : List (List ℕ)) (command : Command) (order : Order)
+pub IsReadOut-command : {E : Type 0} (result : Result Reply E) (words : List (List ℕ)) (command : Command) (order : Order)
     (before after : Option (List ℕ)) → IsCommand words command → order ≡ order_of command
     → ((limit : ℕ) → byte_limit order ≡ Some limit → OnOk result (IsReadOut limit before after))
     → (limit : ℕ) → ReadsUpTo words limit → OnOk result (IsReadOut limit before after)

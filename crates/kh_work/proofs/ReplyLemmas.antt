@@ -36,11 +36,10 @@ use Rattle.kh_runs.specs.LimitedReplies.{IsLimitedReply}
 use Rattle.kh_work.specs.Answer.{IsInputReply, IsOrderReply, IsScriptedReply}
 
 -- a diagram that is read is answered, and a refusal is its own answer
-pub IsDiagramReply-read : {X E : Type 0} (result : Result X E) (reply_from : X → Reply) (Answers : Code → Reply → Type 0) (text : List ℕ)
-    (code : Code) → IsDiagramRead text (Ok code) → IfOk result (λ made. Answers code (reply_from made))
-    → IfOk result (λ made. IsDiagramReply Answers text (reply_from made))
-IsDiagramReply-read (Ok made) reply_from Answers text code read replied = record { outcome = Ok code; read = read; answered = replied }
-IsDiagramReply-read (Err stop) reply_from Answers text code read replied = tt
+pub IsDiagramReply-read : {E : Type 0} (result : Result Reply E) (Answers : Code → Reply → Type 0) (text : List ℕ) (code : Code)
+    → IsDiagramRead text (Ok code) → IfOk result (Answers code) → IfOk result (IsDiagramReply Answers text)
+IsDiagramReply-read (Ok reply) Answers text code read replied = record { outcome = Ok code; read = read; answered = replied }
+IsDiagramReply-read (Err stop) Answers text code read replied = tt
 
 pub IsDiagramReply-refused : (Answers : Code → Reply → Type 0) (text : List ℕ) (reply : Reply) → IsDiagramRead text (Err reply)
     → IsDiagramReply Answers text reply
@@ -83,15 +82,12 @@ generators_of_diagram number code diagram same is few =
     subst (λ (c : Code). generator_count c ≤ GENERATORS) (sym (same ∙ is)) (few number)
 
 -- the reply with the table that was made
-pub bench_reply-made : {E : Type 0} (result : Result Reply E) (field number : ℕ) (code counted : Code) (made : Table) → counted ≡ code
-    → made ≡ table field code
-    → IfOk result (λ reply. reply ≡ reply_of Done (bench_lines (bench_counts number counted (total_of made)) ++ jones_line counted))
-    → IfOk result (λ reply. reply ≡ reply_of Done (bench_text field number code))
+pub bench_reply-made : (reply : Reply) (field number : ℕ) (code counted : Code) (made : Table) → counted ≡ code → made ≡ table field code
+    → reply ≡ reply_of Done (bench_lines (bench_counts number counted (total_of made)) ++ jones_line counted)
+    → reply ≡ reply_of Done (bench_text field number code)
 unfolding bench_text
-bench_reply-made (Ok reply) field number code counted made is_counted is_made is =
-    is
-    ∙ ap₂ (λ (c : Code) (t : Table). reply_of Done (bench_lines (bench_counts number c (total_of t)) ++ jones_line c)) is_counted is_made
-bench_reply-made (Err stop) field number code counted made is_counted is_made is = tt
+bench_reply-made reply field number code counted made is_counted is_made is =
+    is ∙ ap₂ (λ (c : Code) (t : Table). reply_of Done (bench_lines (bench_counts number c (total_of t)) ++ jones_line c)) is_counted is_made
 
 schedule-status : (field : ℕ) (code : Code) (script : List (ℕ × ScheduleLine)) → IsReplyStatus (schedule_reply field code script).status
 schedule-status field code script = go (nat_lt GENERATORS (generator_count code))
@@ -128,6 +124,8 @@ scripted_reply-status Edit script code reply is = edited-status code is.reading 
 scripted_reply-status (Schedule field) script code reply is = script-status field code is.reading reply is.answered
 
 -- what answers a code and a script has a status of a reply
-pub scripted-status : (order : ScriptOrder) (text script : List ℕ) (reply : Reply)
-    → IsDiagramReply (IsScriptedReply order script) text reply → IsReplyStatus reply.status
-scripted-status order text script = diagram_reply-status (IsScriptedReply order script) (scripted_reply-status order script) text
+pub scripted-status : {E : Type 0} (result : Result Reply E) (order : ScriptOrder) (text script : List ℕ)
+    → IfOk result (IsDiagramReply (IsScriptedReply order script) text) → IfOk result (λ reply. IsReplyStatus reply.status)
+scripted-status (Ok reply) order text script =
+    diagram_reply-status (IsScriptedReply order script) (scripted_reply-status order script) text reply
+scripted-status (Err stop) order text script is = tt

@@ -9,7 +9,7 @@ pub mod ByteLimits
 pub mod Certify
 pub mod Verify
 pub mod Answer
-pub mod Drafts
+pub mod TableMakers
 pub mod Told
 pub mod Runs
 pub mod Circles

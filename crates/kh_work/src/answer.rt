@@ -1,4 +1,4 @@
-//! From words and the bytes of a source to a draft of the reply.
+//! From words and the bytes of a source to the reply.
 
 ghost use Rattle.std.specs.Prelude.{◌≡◌, ◌≢◌, ◌≤◌, ℕ, length, IfOk, None, OnOk, Some, Err};
 ghost use Rattle.kh_io.specs.Faults.{Rose};
@@ -8,20 +8,21 @@ ghost use Rattle.kh_runs.specs.Told.{IsReadOut, IsTaken};
 ghost use Rattle.kh_work.specs.Union.{IsUnionReply};
 ghost use Rattle.kh_work.specs.Answer.{IsBlindReply, IsCodeReply, IsInputReply, IsScriptedReply, ReadsNothing, ReadsUpTo};
 ghost use Rattle.kh_work.specs.ByteLimits.{AreWithin, byte_limit};
-ghost use Rattle.kh_work.specs.Drafts.{AwaitsWorkers, reply_in};
 ghost use Rattle.kh_work.specs.Orders.{HasWorkers};
 ghost use Rattle.kh_work.specs.Runs.{IsBlindAnswer};
+ghost use Rattle.kh_work.specs.TableMakers.{IsTableMaker};
 ghost use Rattle.kh_work.specs.Told.{AnswersOrder, AnswersWords};
 ghost use Rattle.kh_types.specs.declared.limits.TheConstants.{INPUT_BYTES, LOOPS};
 ghost use Rattle.word_line.specs.Commands.{IsUsage};
 
 use crate::byte_limits::byte_limit;
 use crate::commands::{
-    draft_of_bench, draft_of_homology, reply_to_certify, reply_to_edit, reply_to_reduced,
+    reply_to_bench, reply_to_certify, reply_to_edit, reply_to_homology, reply_to_reduced,
     reply_to_schedule, reply_to_union, reply_to_verify,
 };
-use crate::draft::Draft;
 use crate::order::{CodeOrder, Order, ScriptOrder, order_of};
+use cube_signs::SmallDiagram;
+use homology_tables::Table;
 use kh_inputs::{InputStop, code_part, part_behind, read_diagram};
 use kh_io::Source;
 use kh_replies::{
@@ -30,20 +31,23 @@ use kh_replies::{
 };
 use kh_runs::{Input, Reply, ReplyStop, Status, read_input, usage};
 use kh_types::{Diagram, NoMemory, Words};
+use prime_field::FieldSize;
 use std::alloc::Global;
 use word_line::{WordStop, read_words};
 
-/// A draft of the reply to words and a source, which is read where the words mean a command that
-/// reads.
-pub fn draft_to<S: Source>(alloc: Global, words: &Words, source: &mut S) -> Result<Draft, ReplyStop>
-    ensures answered { IfOk result (λ draft.
-        AnswersWords words.now (S.left source.old) (reply_in draft)) }
-    ensures blind { ReadsNothing words.now
-        → IfOk result (λ draft. IsBlindAnswer words.now (reply_in draft)) }
-    ensures workers { IfOk result AwaitsWorkers }
-    ensures whole { IfOk result (λ draft. IsWhole (reply_in draft).status) }
-    ensures usage_only { IfOk result (λ draft.
-        (reply_in draft).status ≡ Status.Usage → IsUsage words.now) }
+/// The reply to words and a source, which is read where the words mean a command that reads; the
+/// maker makes the homology table of `homology` and of `bench`.
+pub fn reply_to<S: Source, M: Fn(FieldSize, u32, &SmallDiagram) -> Result<Table, NoMemory>>(
+    alloc: Global,
+    words: &Words,
+    source: &mut S,
+    maker: &M,
+) -> Result<Reply, ReplyStop>
+    requires { IsTableMaker M.Fn maker.now }
+    ensures answered { IfOk result (AnswersWords words.now (S.left source.old)) }
+    ensures blind { ReadsNothing words.now → IfOk result (IsBlindAnswer words.now) }
+    ensures whole { IfOk result (λ reply. IsWhole reply.status) }
+    ensures usage_only { IfOk result (λ reply. reply.status ≡ Status.Usage → IsUsage words.now) }
     ensures unread { ReadsNothing words.now → source.new ≡ source.old }
     ensures taken { IsTaken (S.left source.old) (S.left source.new) }
     ensures read_out { (limit : ℕ) → ReadsUpTo words.now limit
@@ -54,25 +58,24 @@ pub fn draft_to<S: Source>(alloc: Global, words: &Words, source: &mut S) -> Resu
         → S.faults source.new ≡ S.faults source.old }
 {
     match read_words(alloc, words) {
-        Ok(command) => draft_to_order(alloc, order_of(command), source),
-        Err(WordStop::Usage) => Ok(Draft::Made(usage(alloc)?)),
+        Ok(command) => reply_to_order(alloc, order_of(command), source, maker),
+        Err(WordStop::Usage) => Ok(usage(alloc)?),
         Err(WordStop::NoMemory) => Err(ReplyStop::NoMemory),
     }
 }
 
-/// A draft of the reply of an order to a source, which is read where the order reads.
-fn draft_to_order<S: Source>(
+/// The reply of an order to a source, which is read where the order reads.
+fn reply_to_order<S: Source, M: Fn(FieldSize, u32, &SmallDiagram) -> Result<Table, NoMemory>>(
     alloc: Global,
     order: Order,
     source: &mut S,
-) -> Result<Draft, ReplyStop>
+    maker: &M,
+) -> Result<Reply, ReplyStop>
+    requires maker { IsTableMaker M.Fn maker.now }
     requires workers { HasWorkers order }
-    ensures answered { IfOk result (λ draft.
-        AnswersOrder order (S.left source.old) (reply_in draft)) }
-    ensures blind { byte_limit order ≡ None
-        → IfOk result (λ draft. IsBlindReply order (reply_in draft)) }
-    ensures workers { IfOk result AwaitsWorkers }
-    ensures status { IfOk result (λ draft. IsReplyStatus (reply_in draft).status) }
+    ensures answered { IfOk result (AnswersOrder order (S.left source.old)) }
+    ensures blind { byte_limit order ≡ None → IfOk result (IsBlindReply order) }
+    ensures status { IfOk result (λ reply. IsReplyStatus reply.status) }
     ensures unread { byte_limit order ≡ None → source.new ≡ source.old }
     ensures taken { IsTaken (S.left source.old) (S.left source.new) }
     ensures read_out { (limit : ℕ) → byte_limit order ≡ Some limit
@@ -83,81 +86,84 @@ fn draft_to_order<S: Source>(
         → S.faults source.new ≡ S.faults source.old }
 {
     match byte_limit(order) {
-        None => Ok(draft_to_bytes(alloc, order, &[])?),
+        None => Ok(reply_to_bytes(alloc, order, &[], maker)?),
         Some(limit) => match read_input(alloc, source, limit)? {
-            Input::Bytes(bytes) => Ok(draft_to_bytes(alloc, order, &bytes)?),
-            Input::Refused(reply) => Ok(Draft::Made(reply)),
+            Input::Bytes(bytes) => Ok(reply_to_bytes(alloc, order, &bytes, maker)?),
+            Input::Refused(reply) => Ok(reply),
         },
     }
 }
 
-/// A draft of the reply of an order to the bytes of an input, which do not matter where it reads
-/// nothing.
-fn draft_to_bytes(alloc: Global, order: Order, bytes: &[u8]) -> Result<Draft, NoMemory>
+/// The reply of an order to the bytes of an input, which do not matter where it reads nothing.
+fn reply_to_bytes<M: Fn(FieldSize, u32, &SmallDiagram) -> Result<Table, NoMemory>>(
+    alloc: Global,
+    order: Order,
+    bytes: &[u8],
+    maker: &M,
+) -> Result<Reply, NoMemory>
+    requires maker { IsTableMaker M.Fn maker.now }
     requires few { AreWithin (byte_limit order) bytes.now }
     requires workers { HasWorkers order }
-    ensures reply { IfOk result (λ draft. IsInputReply order bytes.now (reply_in draft)) }
-    ensures blind { byte_limit order ≡ None
-        → IfOk result (λ draft. IsBlindReply order (reply_in draft)) }
-    ensures workers { IfOk result AwaitsWorkers }
-    ensures status { IfOk result (λ draft. IsReplyStatus (reply_in draft).status) }
+    ensures reply { IfOk result (IsInputReply order bytes.now) }
+    ensures blind { byte_limit order ≡ None → IfOk result (IsBlindReply order) }
+    ensures status { IfOk result (λ reply. IsReplyStatus reply.status) }
 {
     match order {
-        Order::Code(order) => draft_to_code(alloc, order, bytes),
-        Order::Script(order) => Ok(Draft::Made(reply_to_texts(
-            alloc,
-            order,
-            code_part(bytes),
-            part_behind(bytes),
-        )?)),
-        Order::Pair => Ok(Draft::Made(reply_to_pair(alloc, code_part(bytes), part_behind(bytes))?)),
-        Order::Log => Ok(Draft::Made(reply_to_verify(alloc, bytes)?)),
+        Order::Code(order) => reply_to_code(alloc, order, bytes, maker),
+        Order::Script(order) => reply_to_texts(alloc, order, code_part(bytes), part_behind(bytes)),
+        Order::Pair => reply_to_pair(alloc, code_part(bytes), part_behind(bytes)),
+        Order::Log => reply_to_verify(alloc, bytes),
         Order::Bench {
             field,
             workers,
             number,
-        } => draft_of_bench(alloc, field, workers, number),
+        } => reply_to_bench(alloc, field, workers, number, maker),
     }
 }
 
-/// A draft of the reply of an order to the text of a code.
-fn draft_to_code(alloc: Global, order: CodeOrder, text: &[u8]) -> Result<Draft, NoMemory>
+/// The reply of an order to the text of a code.
+fn reply_to_code<M: Fn(FieldSize, u32, &SmallDiagram) -> Result<Table, NoMemory>>(
+    alloc: Global,
+    order: CodeOrder,
+    text: &[u8],
+    maker: &M,
+) -> Result<Reply, NoMemory>
+    requires maker { IsTableMaker M.Fn maker.now }
     requires few { length text.now ≤ INPUT_BYTES }
     requires workers { HasWorkers (Order.Code order) }
-    ensures reply { IfOk result (λ draft.
-        IsDiagramReply (IsCodeReply order) text.now (reply_in draft)) }
-    ensures workers { IfOk result AwaitsWorkers }
+    ensures { IfOk result (IsDiagramReply (IsCodeReply order) text.now) }
 {
     match read_diagram(alloc, text) {
-        Ok(diagram) => draft_to_diagram(alloc, order, &diagram),
-        Err(InputStop::Refused(reply)) => Ok(Draft::Made(reply)),
+        Ok(diagram) => reply_to_diagram(alloc, order, &diagram, maker),
+        Err(InputStop::Refused(reply)) => Ok(reply),
         Err(InputStop::NoMemory) => Err(NoMemory),
     }
 }
 
-/// A draft of the reply of an order to a diagram.
-fn draft_to_diagram(alloc: Global, order: CodeOrder, diagram: &Diagram) -> Result<Draft, NoMemory>
+/// The reply of an order to a diagram.
+fn reply_to_diagram<M: Fn(FieldSize, u32, &SmallDiagram) -> Result<Table, NoMemory>>(
+    alloc: Global,
+    order: CodeOrder,
+    diagram: &Diagram,
+    maker: &M,
+) -> Result<Reply, NoMemory>
+    requires maker { IsTableMaker M.Fn maker.now }
     requires loops { diagram.now.loops ≤ LOOPS }
     requires workers { HasWorkers (Order.Code order) }
-    ensures reply { IfOk result (λ draft. IsCodeReply order diagram.now (reply_in draft)) }
-    ensures workers { IfOk result AwaitsWorkers }
+    ensures { IfOk result (IsCodeReply order diagram.now) }
 {
     match order {
         CodeOrder::Homology { field, workers } => {
-            draft_of_homology(alloc, field, workers, diagram)
+            reply_to_homology(alloc, field, workers, diagram, maker)
         }
-        CodeOrder::Jones => Ok(Draft::Made(reply_to_jones(alloc, diagram)?)),
-        CodeOrder::Check => Ok(Draft::Made(reply_to_check(alloc, diagram)?)),
-        CodeOrder::Convert { to } => Ok(Draft::Made(reply_to_convert(alloc, to, diagram)?)),
-        CodeOrder::Draw => Ok(Draft::Made(reply_to_draw(alloc, diagram)?)),
-        CodeOrder::Certify { field } => {
-            Ok(Draft::Made(reply_to_certify(alloc, field, diagram)?))
-        }
-        CodeOrder::Reduced { field, mark } => {
-            Ok(Draft::Made(reply_to_reduced(alloc, field, mark, diagram)?))
-        }
-        CodeOrder::Mirror => Ok(Draft::Made(reply_to_mirror(alloc, diagram)?)),
-        CodeOrder::Reverse => Ok(Draft::Made(reply_to_reverse(alloc, diagram)?)),
+        CodeOrder::Jones => reply_to_jones(alloc, diagram),
+        CodeOrder::Check => reply_to_check(alloc, diagram),
+        CodeOrder::Convert { to } => reply_to_convert(alloc, to, diagram),
+        CodeOrder::Draw => reply_to_draw(alloc, diagram),
+        CodeOrder::Certify { field } => { reply_to_certify(alloc, field, diagram) }
+        CodeOrder::Reduced { field, mark } => { reply_to_reduced(alloc, field, mark, diagram) }
+        CodeOrder::Mirror => reply_to_mirror(alloc, diagram),
+        CodeOrder::Reverse => reply_to_reverse(alloc, diagram),
     }
 }
 

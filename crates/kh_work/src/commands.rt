@@ -10,10 +10,10 @@ mod schedule;
 mod union;
 mod verify;
 
-pub use bench::{draft_of_bench, reply_with_dimension};
+pub use bench::reply_to_bench;
 pub use certify::reply_to_certify;
 pub use edit::reply_to_edit;
-pub use homology::{draft_of_homology, reply_with_table, text_with_table};
+pub use homology::{reply_to_homology, text_with_table};
 pub use reduced::reply_to_reduced;
 pub use schedule::reply_to_schedule;
 pub use union::reply_to_union;

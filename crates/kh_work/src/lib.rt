@@ -6,8 +6,6 @@ mod answer;
 mod byte_limits;
 mod circles;
 mod commands;
-mod completion;
-mod draft;
 pub mod laws;
 mod order;
 mod tables;

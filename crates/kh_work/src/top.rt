@@ -1,15 +1,19 @@
 //! The top calls: they read, answer and write.
 
 ghost use Rattle.std.specs.Prelude.{◌≡◌, IfErr, IfOk, IsErr};
-ghost use Rattle.kh_runs.specs.Runs.{IsReplied};
 ghost use Rattle.kh_runs.specs.Told.{seen};
-ghost use Rattle.kh_work.specs.Runs.{IsProgramRun, KeepsHeadline, KeepsReduced, request_of};
+ghost use Rattle.kh_work.specs.Runs.{IsProgramRun, KeepsHeadline, KeepsReduced};
+ghost use Rattle.kh_work.specs.TableMakers.{IsTableMaker};
+ghost use Rattle.word_line.specs.Values.{AreWorkers};
 
-use crate::answer::draft_to;
-use crate::completion::{completed_alone, completed_by};
+use crate::answer::reply_to;
+use crate::tables::{table_alone, table_by};
+use cube_signs::SmallDiagram;
+use homology_tables::Table;
 use kh_io::{Sink, Source};
-use kh_runs::{Reply, ReplyStop, Status, written};
-use kh_types::Words;
+use kh_runs::{Status, written};
+use kh_types::{NoMemory, Words};
+use prime_field::FieldSize;
 use std::alloc::Global;
 use std::sync::Wait;
 use std::thread::Threads;
@@ -38,8 +42,10 @@ pub fn run<R: Threads + Wait + Sync, S: Source, K: Sink, G: Gate + Sync>(
         (seen (S.left source.old) (S.faults source.old)) (seen (S.left source.new) (S.faults source.new))
         (seen (K.written sink.old) (K.faults sink.old)) (seen (K.written sink.new) (K.faults sink.new)) result }
 {
-    let made = reply_by(rt, alloc, words, source, gate);
-    written(sink, made)
+    let maker = |field: FieldSize, workers: u32, small: &SmallDiagram|
+        requires { AreWorkers workers }
+    { table_by(rt, alloc, field, workers, small, gate) };
+    run_with(alloc, words, source, sink, &maker)
 }
 
 /// Does the same with the words that a system has given; where it has given none, ends with the
@@ -90,32 +96,30 @@ pub fn run_alone<S: Source, K: Sink>(
         (seen (S.left source.old) (S.faults source.old)) (seen (S.left source.new) (S.faults source.new))
         (seen (K.written sink.old) (K.faults sink.old)) (seen (K.written sink.new) (K.faults sink.new)) result }
 {
-    let alone = reply_alone(alloc, words, source);
-    written(sink, alone)
+    let alone = |field: FieldSize, _: u32, small: &SmallDiagram| table_alone(alloc, field, small);
+    run_with(alloc, words, source, sink, &alone)
 }
 
-/// The reply to words and a source, made with workers.
-fn reply_by<R: Threads + Wait + Sync, S: Source, G: Gate + Sync>(
-    rt: &R,
+/// Does the same with the homology tables that a maker makes.
+fn run_with<S: Source, K: Sink, M: Fn(FieldSize, u32, &SmallDiagram) -> Result<Table, NoMemory>>(
     alloc: Global,
     words: &Words,
     source: &mut S,
-    gate: &G,
-) -> Result<Reply, ReplyStop>
-    ensures { IsReplied (request_of words.now)
+    sink: &mut K,
+    maker: &M,
+) -> Status
+    requires { IsTableMaker M.Fn maker.now }
+    ensures run { IsProgramRun words.now
         (seen (S.left source.old) (S.faults source.old)) (seen (S.left source.new) (S.faults source.new))
-        (source.new ≡ source.old) result }
-{
-    let draft = draft_to(alloc, words, source)?;
-    Ok(completed_by(rt, alloc, draft, gate)?)
-}
-
-/// The reply to words and a source, made with no other thread.
-fn reply_alone<S: Source>(alloc: Global, words: &Words, source: &mut S) -> Result<Reply, ReplyStop>
-    ensures { IsReplied (request_of words.now)
+        (seen (K.written sink.old) (K.faults sink.old)) (seen (K.written sink.new) (K.faults sink.new))
+        (source.new ≡ source.old) (sink.new ≡ sink.old) result }
+    ensures headline { KeepsHeadline words.now
         (seen (S.left source.old) (S.faults source.old)) (seen (S.left source.new) (S.faults source.new))
-        (source.new ≡ source.old) result }
+        (seen (K.written sink.old) (K.faults sink.old)) (seen (K.written sink.new) (K.faults sink.new)) result }
+    ensures reduced { KeepsReduced words.now
+        (seen (S.left source.old) (S.faults source.old)) (seen (S.left source.new) (S.faults source.new))
+        (seen (K.written sink.old) (K.faults sink.old)) (seen (K.written sink.new) (K.faults sink.new)) result }
 {
-    let draft = draft_to(alloc, words, source)?;
-    Ok(completed_alone(alloc, draft)?)
+    let made = reply_to(alloc, words, source, maker);
+    written(sink, made)
 }

@@ -4,13 +4,12 @@
 ghost use Rattle.std.specs.Prelude.{◌≡◌, ◌++◌, IfOk, string_bytes};
 ghost use Rattle.word_line.specs.Values.{AreWorkers};
 ghost use Rattle.homology_tables.specs.Tables.{total_of};
-ghost use Rattle.kh_work.specs.Bench.{bench_counts, bench_lines, bench_reply};
-ghost use Rattle.kh_work.specs.Drafts.{AwaitsWorkers, reply_in};
+ghost use Rattle.kh_work.specs.Bench.{bench_counts, bench_lines, bench_reply, bench_text};
+ghost use Rattle.kh_work.specs.TableMakers.{IsTableMaker};
 ghost use Rattle.kh_runs.specs.Homology.{jones_line};
 ghost use Rattle.kh_runs.specs.Replies.{reply_of};
 ghost use Rattle.kh_runs.specs.declared.status.Status.{Status};
 
-use crate::draft::Draft;
 use braid_maker::from_number;
 use braid_maker::laws::numbers_give_small_diagrams;
 use circle_smoothing::CountedDiagram;
@@ -38,32 +37,49 @@ pub struct BenchCounts {
     pub dimension: u64,
 }
 
-/// The reply to a number, whose homology table is still to be made where a diagram has the number.
-pub fn draft_of_bench(
+/// The reply to a number, where a diagram has it: the maker makes the homology table of that, by so
+/// many workers.
+pub fn reply_to_bench<M: Fn(FieldSize, u32, &SmallDiagram) -> Result<Table, NoMemory>>(
     alloc: Global,
     field: FieldSize,
     workers: u32,
     number: u32,
-) -> Result<Draft, NoMemory>
+    maker: &M,
+) -> Result<Reply, NoMemory>
+    requires maker { IsTableMaker M.Fn maker.now }
     requires workers { AreWorkers workers }
-    ensures reply { IfOk result (λ draft. reply_in draft ≡ bench_reply field number) }
-    ensures workers { IfOk result AwaitsWorkers }
+    ensures { IfOk result (λ reply. reply ≡ bench_reply field number) }
 {
     numbers_give_small_diagrams();
     match from_number(number) {
-        Ok(diagram) => Ok(Draft::Bench {
-            field,
-            workers,
-            number,
-            small: SmallDiagram::known(CountedDiagram::of_diagram(&diagram)),
-        }),
-        Err(limit) => Ok(Draft::Made(too_large_number(alloc, limit.number)?)),
+        Ok(diagram) => {
+            let small = SmallDiagram::known(CountedDiagram::of_diagram(&diagram));
+            Ok(reply_to_small(alloc, field, workers, number, &small, maker)?)
+        }
+        Err(limit) => Ok(too_large_number(alloc, limit.number)?),
     }
+}
+
+/// The reply to a number whose diagram this is.
+fn reply_to_small<M: Fn(FieldSize, u32, &SmallDiagram) -> Result<Table, NoMemory>>(
+    alloc: Global,
+    field: FieldSize,
+    workers: u32,
+    number: u32,
+    small: &SmallDiagram,
+    maker: &M,
+) -> Result<Reply, NoMemory>
+    requires maker { IsTableMaker M.Fn maker.now }
+    requires workers { AreWorkers workers }
+    ensures { IfOk result (λ reply. reply ≡ reply_of Status.Done (bench_text field number small.now)) }
+{
+    let table = maker(field, workers, small)?;
+    Ok(reply_with_dimension(alloc, number, small.counted(), &table)?)
 }
 
 /// The lines of the counts and of the sum of all dimensions of the homology table, and the Jones
 /// line, which is read from the counts of the diagram's states.
-pub fn reply_with_dimension(
+fn reply_with_dimension(
     alloc: Global,
     number: u32,
     counted: &CountedDiagram,

@@ -7,7 +7,7 @@ use Rattle.kh_work.proofs.answer.reply_to_pair.Goals as goal
 
 pub returns-in-Ok : goal.returns-in-Ok
 returns-in-Ok c =
-    IsDiagramReply-read c.reply_to_union.result (λ reply. reply) (λ code. IsUnionReply code c.args.second.now) c.args.text.now
+    IsDiagramReply-read c.reply_to_union.result (λ code. IsUnionReply code c.args.second.now) c.args.text.now
     c.in-Ok.diagram c.in-Ok.ensures.diagram c.reply_to_union.ensures
 
 pub returns-in-Err-Refused : goal.returns-in-Err-Refused

@@ -7,7 +7,7 @@ use Rattle.kh_work.proofs.answer.reply_to_texts.Goals as goal
 
 pub returns-in-Ok : goal.returns-in-Ok
 returns-in-Ok c =
-    IsDiagramReply-read c.reply_to_script.result (λ reply. reply) (IsScriptedReply c.args.order c.args.script.now) c.args.text.now
+    IsDiagramReply-read c.reply_to_script.result (IsScriptedReply c.args.order c.args.script.now) c.args.text.now
     c.in-Ok.diagram c.in-Ok.ensures.diagram c.reply_to_script.ensures
 
 pub returns-in-Err-Refused : goal.returns-in-Err-Refused

@@ -2,11 +2,11 @@ use Rattle.std.proofs.Common.{sym}
 use Rattle.kh_runs.proofs.SourceAnswers.{AnswersSource-blind}
 use Rattle.kh_work.specs.Answer.{IsInputReply}
 use Rattle.kh_work.proofs.AnswerLemmas.{AnswersOrder-long}
-use Rattle.kh_work.proofs.answer.draft_to_order.Goals as goal
+use Rattle.kh_work.proofs.answer.reply_to_order.Goals as goal
 
-pub returns-in_ok-draft_to_bytes-in-None-clause-answered : goal.returns-in_ok-draft_to_bytes-in-None-clause-answered
-returns-in_ok-draft_to_bytes-in-None-clause-answered g c =
-    AnswersSource-blind (IsInputReply c.args.order) (g.S.Source.left c.args.source.now) _ (c.in_ok-draft_to_bytes-in-None.ensures.blind (sym c.in-None.ensures))
+pub returns-in_ok-reply_to_bytes-in-None-clause-answered : goal.returns-in_ok-reply_to_bytes-in-None-clause-answered
+returns-in_ok-reply_to_bytes-in-None-clause-answered g c =
+    AnswersSource-blind (IsInputReply c.args.order) (g.S.Source.left c.args.source.now) _ (c.in_ok-reply_to_bytes-in-None.ensures.blind (sym c.in-None.ensures))
 
 pub returns-in-Refused-clause-answered : goal.returns-in-Refused-clause-answered
 returns-in-Refused-clause-answered g c =
