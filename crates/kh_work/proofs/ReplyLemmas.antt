@@ -126,6 +126,6 @@ scripted_reply-status (Schedule field) script code reply is = script-status fiel
 -- what answers a code and a script has a status of a reply
 pub scripted-status : {E : Type 0} (result : Result Reply E) (order : ScriptOrder) (text script : List ℕ)
     → IfOk result (IsDiagramReply (IsScriptedReply order script) text) → IfOk result (λ reply. IsReplyStatus reply.status)
-scripted-status (Ok reply) order text script =
-    diagram_reply-status (IsScriptedReply order script) (scripted_reply-status order script) text reply
+scripted-status (Ok reply) order text script is =
+    diagram_reply-status (IsScriptedReply order script) (scripted_reply-status order script) text reply is
 scripted-status (Err stop) order text script is = tt

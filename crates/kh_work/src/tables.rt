@@ -2,6 +2,7 @@
 
 ghost use Rattle.std.specs.Prelude.{◌≡◌, ◌<◌, IfOk, length};
 ghost use Rattle.kh_types.specs.Table.{table};
+ghost use Rattle.kh_work.specs.TableMakers.{IsTableMaker};
 ghost use Rattle.union_laws.specs.Loops.{with_loops};
 ghost use Rattle.word_line.specs.Values.{AreWorkers};
 
@@ -63,6 +64,20 @@ fn reduced_alone<F: PrimeField>(alloc: Global, small: &SmallDiagram) -> Result<T
         // (the first arc is a mark, and the generators are few)
         Err(ReducedStop::Mark { .. } | ReducedStop::SizeLimit { .. }) => unreachable!(),
     }
+}
+
+/// The same, as a maker makes it, by so many workers.
+pub fn table_from<M: Fn(FieldSize, u32, &SmallDiagram) -> Result<Table, NoMemory>>(
+    maker: &M,
+    field: FieldSize,
+    workers: u32,
+    small: &SmallDiagram,
+) -> Result<Table, NoMemory>
+    requires maker { IsTableMaker M.Fn maker.now }
+    requires workers { AreWorkers workers }
+    ensures { IfOk result (λ made. made ≡ table field small.now) }
+{
+    maker(field, workers, small)
 }
 
 /// The same, made by so many workers. They call a gate in each of their turns, and one worker works

@@ -10,6 +10,7 @@ ghost use Rattle.kh_runs.specs.Homology.{jones_line};
 ghost use Rattle.kh_runs.specs.Replies.{reply_of};
 ghost use Rattle.kh_runs.specs.declared.status.Status.{Status};
 
+use crate::tables::table_from;
 use braid_maker::from_number;
 use braid_maker::laws::numbers_give_small_diagrams;
 use circle_smoothing::CountedDiagram;
@@ -73,7 +74,7 @@ fn reply_to_small<M: Fn(FieldSize, u32, &SmallDiagram) -> Result<Table, NoMemory
     requires workers { AreWorkers workers }
     ensures { IfOk result (λ reply. reply ≡ reply_of Status.Done (bench_text field number small.now)) }
 {
-    let table = maker(field, workers, small)?;
+    let table = table_from(maker, field, workers, small)?;
     Ok(reply_with_dimension(alloc, number, small.counted(), &table)?)
 }
 

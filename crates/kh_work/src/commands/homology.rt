@@ -7,6 +7,7 @@ ghost use Rattle.kh_work.specs.Homology.{homology_reply};
 ghost use Rattle.kh_work.specs.TableMakers.{IsTableMaker};
 ghost use Rattle.kh_runs.specs.Homology.{jones_line};
 
+use crate::tables::table_from;
 use circle_smoothing::CountedDiagram;
 use cube_signs::SmallDiagram;
 use homology_tables::Table;
@@ -33,7 +34,7 @@ pub fn reply_to_homology<M: Fn(FieldSize, u32, &SmallDiagram) -> Result<Table, N
 {
     match SmallDiagram::try_new(CountedDiagram::of_diagram(diagram)) {
         Ok(small) => {
-            let table = maker(field, workers, &small)?;
+            let table = table_from(maker, field, workers, &small)?;
             let text = text_with_table(alloc, small.counted(), &table)?;
             Ok(reply_made(Status::Done, text))
         }
