@@ -1,4 +1,5 @@
-//! What slices join, and drawings of known diagrams read back. Texts are rows of `tests/program`.
+//! What slices join, and drawings of known diagrams read back. Rows of `tests/program` compare the
+//! texts of drawings.
 
 use crate::moves::TWENTY_CURLS;
 use kh_types::dart_at;

@@ -7,8 +7,8 @@ use Rattle.kh_types.specs.Table.{Table, table}
 use Rattle.kh_types.specs.declared.memory.NoMemory.{NoMemory}
 use Rattle.word_line.specs.Values.{AreWorkers}
 
--- a maker may be called with a field, from 1 to WORKERS workers and a small diagram, and whatever table it makes is the homology table
--- of the diagram over the field
+-- a maker may be called with a field, from 1 to WORKERS workers and a small diagram (that the number is one of a field, and the diagram
+-- small, its argument types say), and whatever table it makes is the homology table of the diagram over the field
 pub record IsTableMaker {M : Type 0} (calls : Shared M (ℕ × (ℕ × (Bor Code × Unit {0}))) (Result Table NoMemory)) (maker : M) : Type 0 where
   pub may_be_called : (field workers : ℕ) (small : Bor Code) → AreWorkers workers → calls.pre maker (field, (workers, (small, tt)))
   pub makes : (field workers : ℕ) (small : Bor Code) (made : Result Table NoMemory) → AreWorkers workers

@@ -1,4 +1,4 @@
-//! The commands that need the cube, the editor or a second code, each from a diagram to its reply.
+//! The commands that need the cube, the editor, a log or a second code, each to its reply.
 
 mod bench;
 mod certify;

@@ -1,5 +1,6 @@
-//! What a command orders, the replies that need a cube or the editor, and the one call that does
-//! all that the program does: from words and bytes to a status and the bytes to write.
+//! What a command orders, the replies that need a cube, the editor, a log or a second code, and the
+//! top calls, which do all that the program does: from words and bytes to a status and the bytes to
+//! write.
 #![tactic(auto)]
 
 mod answer;

@@ -66,7 +66,8 @@ fn reduced_alone<F: PrimeField>(alloc: Global, small: &SmallDiagram) -> Result<T
     }
 }
 
-/// The same, as a maker makes it, by so many workers.
+/// The homology table of a diagram over the field of so many elements, as a maker makes it, by so
+/// many workers.
 pub fn table_from<M: Fn(FieldSize, u32, &SmallDiagram) -> Result<Table, NoMemory>>(
     maker: &M,
     field: FieldSize,
@@ -80,9 +81,9 @@ pub fn table_from<M: Fn(FieldSize, u32, &SmallDiagram) -> Result<Table, NoMemory
     maker(field, workers, small)
 }
 
-/// The same, made by so many workers. They call a gate in each of their turns, and one worker works
-/// on the caller's thread, without a gate. Several share the blocks of the whole cube, over two
-/// elements too, since such blocks are all that they share. Source: Bar-Natan 2002, section 3.
+/// The same table, made by so many workers. They call a gate in each of their turns, and one worker
+/// works on the caller's thread, without a gate. Several share the blocks of the whole cube, over
+/// two elements too, since such blocks are all that they share. Source: Bar-Natan 2002, section 3.
 pub fn table_by<R: Threads + Wait + Sync, G: Gate + Sync>(
     rt: &R,
     alloc: Global,

@@ -38,8 +38,8 @@ pub struct BenchCounts {
     pub dimension: u64,
 }
 
-/// The reply to a number, where a diagram has it: the maker makes the homology table of that, by so
-/// many workers.
+/// The reply to a number: where a diagram has it, from the homology table of that, which the maker
+/// makes by so many workers; else the line of the limit.
 pub fn reply_to_bench<M: Fn(FieldSize, u32, &SmallDiagram) -> Result<Table, NoMemory>>(
     alloc: Global,
     field: FieldSize,

@@ -1,4 +1,5 @@
-//! Turns of one label v- to v+.
+//! Turns of one label v- to v+. Modulo 2 the sum of all commutes with the differential, and taken
+//! twice it is 0.
 
 ghost use Rattle.std.specs.Prelude.{ℕ, ◌*◌, IsTrue};
 ghost use Rattle.std.specs.List.{Contains, sum_by};
