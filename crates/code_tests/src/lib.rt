@@ -1,5 +1,5 @@
-//! Tests of codes and their texts: what no clause says of readers, printers, acceptance, components,
-//! faces, moves, edits, scripts, braids, drawings, tables and words.
+//! Tests of codes and their texts: what no clause says of readers, printers, acceptance,
+//! components, faces, moves, edits, scripts, braids, drawings, tables and words.
 #![tactic(auto)]
 
 #[cfg(test)]
