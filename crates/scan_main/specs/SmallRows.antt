@@ -1,4 +1,5 @@
--- Rows whose signed dimensions can be summed.
+-- Rows whose signed dimensions can be summed: those of 2 ^ 16 such rows sum to a number of less than 128 bits. Tables of accepted diagrams
+-- have such rows alone, and fewer.
 use Rattle.std.specs.Prelude.{◌≤◌, ◌^◌}
 use Rattle.kh_types.specs.Table.{IsWithin, Row}
 use Rattle.kh_types.specs.declared.limits.TheConstants.{EXPONENT}

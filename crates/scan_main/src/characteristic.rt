@@ -9,8 +9,8 @@ ghost use Rattle.scan_main.specs.SmallRows.{IsSmallRow};
 use jones_sum::{COEFFICIENTS, Laurent, place_of};
 use tangle_scan::{ScanRow, ScanTable};
 
-/// The graded Euler characteristic of a table: the sum over its rows of (-1)^i dim q^j.
-/// Source: Bar-Natan 2002, section 3.
+/// The graded Euler characteristic of a table: the sum over its rows of (-1)^i dim q^j. As many
+/// rows as these, of such dimensions, sum within 128 bits. Source: Bar-Natan 2002, section 3.
 pub fn euler(table: &ScanTable) -> Laurent
     requires small { All IsSmallRow table.now.rows }
     requires few { length table.now.rows ≤ 2 ^ 16 }
