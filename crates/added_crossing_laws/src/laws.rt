@@ -1,5 +1,5 @@
-//! One crossing more: what becomes of pairings and circles, and how the number of a surface is a sum
-//! over the dots on the discs of the new pairings.
+//! One crossing more: what becomes of pairings and circles, and how the number of a surface is a
+//! sum over the dots on the discs of the new pairings.
 
 ghost use Rattle.std.specs.Prelude.{◌≡◌, ◌↔◌, ℕ, ◌+◌, ◌*◌, ◌^◌, ◌<◌, ◌≤◌, List, ◌++◌, length, Bool, IsTrue};
 ghost use Rattle.std.specs.List.{sum_by, Contains};
@@ -36,8 +36,8 @@ pub fn crossings_add_up()
         ≡ value (sheet_at code k state m n dots label other_label) }
 {}
 
-/// The saddle at the crossing, from its 0-smoothing to its 1-smoothing: its surface is the sum, over
-/// the dots on the discs of the new pairings, of what it adds times the surface outside.
+/// The saddle at the crossing, from its 0-smoothing to its 1-smoothing: its surface is the sum,
+/// over the dots on the discs of the new pairings, of what it adds times the surface outside.
 pub fn saddles_add_up()
     ensures { (code : Code) (k state : ℕ) (m : List (ℕ × ℕ)) (label other_label : ℕ → ℕ)
         → IsLabelled code k state m label other_label
@@ -49,7 +49,8 @@ pub fn saddles_add_up()
 {}
 
 /// Where two circles become one, or one becomes two, the number of the saddle's surface is the
-/// coefficient of the cube's edge at the crossing, without its sign; so that is the sum over the dots.
+/// coefficient of the cube's edge at the crossing, without its sign; so that is the sum over the
+/// dots.
 pub fn saddles_are_edges()
     ensures number { (code : Code) (k state : ℕ) (m : List (ℕ × ℕ)) (label other_label : ℕ → ℕ) → IsPairedAt code k m
         → AreBits label other_label → MergesOrSplitsAt code k state m
@@ -76,8 +77,8 @@ pub fn pairings_stay_pairings()
         → IsNewPairing (step_at code k) (m ++ smoothing_at code k smoothing) (pairing_behind code k smoothing m) }
 {}
 
-/// The circles of a pairing at a state are those of the new pairing and the closed ones: they are as
-/// many, and sums over them are the same. Arcs that stay alive are together where they were.
+/// The circles of a pairing at a state are those of the new pairing and the closed ones: they are
+/// as many, and sums over them are the same. Arcs that stay alive are together where they were.
 pub fn circles_stay_circles()
     ensures count { (code : Code) (k smoothing state : ℕ) (m : List (ℕ × ℕ)) → HasArcsTwice code.crossings
         → k < length code.crossings → AreAmong (points_at code k).opened m
@@ -105,8 +106,9 @@ pub fn states_make_pairings()
         ↔ (circle_of (circles_of code state) x ≡ circle_of (circles_of code state) y) }
 {}
 
-/// Labels as numbers and as functions of arcs are the same: a number's bits are the values of a function
-/// that has one value on each circle, and the values of a function are the bits of a number.
+/// Labels as numbers and as functions of arcs are the same: a number's bits are the values of a
+/// function that has one value on each circle, and the values of a function are the bits of a
+/// number.
 pub fn labels_are_functions()
     ensures marked { (count number : ℕ) (test : ℕ → Bool) (joins : List (ℕ × ℕ))
         → marked number (least_points (count + 1) (those count test) joins)
@@ -154,8 +156,8 @@ pub fn entries_add_up()
         (label_behind code k 0 state m label) (label_behind code k 1 state m other)) }
 {}
 
-/// The labels of the circles before a crossing are split into those of the closed circles and those of
-/// the circles after it: both are labels of as many circles.
+/// The labels of the circles before a crossing are split into those of the closed circles and those
+/// of the circles after it: both are labels of as many circles.
 pub fn labels_split()
     ensures { (code : Code) (k smoothing state number : ℕ) (m : List (ℕ × ℕ))
         → (closed_label code k smoothing state m number < 2 ^ length (closed_at code k smoothing m))

@@ -21,8 +21,8 @@ pub fn open_arcs()
 {}
 
 /// The Hopf link's first crossing pairs four arcs in two ways and closes nothing. Both pairings
-/// together make one disc, and the saddle is this disc without a dot: a sphere by its two half strips
-/// at the crossing, and by those that the open arcs take back.
+/// together make one disc, and the saddle is this disc without a dot: a sphere by its two half
+/// strips at the crossing, and by those that the open arcs take back.
 pub fn first_crossing()
     ensures zero { pairing_behind hopf_link 0 0 [] ≡ zero_pairs }
     ensures one { pairing_behind hopf_link 0 1 [] ≡ one_pairs }
@@ -34,8 +34,8 @@ pub fn first_crossing()
 {}
 
 /// At the second crossing the 0-smoothing closes two circles of the first pairing, and the
-/// 1-smoothing one: the saddle's numbers are the merge table, and so are the edge's coefficients. With
-/// its five faces and three strips the saddle is a sphere.
+/// 1-smoothing one: the saddle's numbers are the merge table, and so are the edge's coefficients.
+/// With its five faces and three strips the saddle is a sphere.
 pub fn second_crossing_merges()
     ensures two { closed_at hopf_link 1 0 zero_pairs ≡ 1 ∷ 2 ∷ [] }
     ensures one { closed_at hopf_link 1 1 zero_pairs ≡ 1 ∷ [] }

@@ -23,8 +23,8 @@ pub fn mirror_of_the_hopf_link_turns_its_table()
 {}
 
 /// An edit may leave more crossingless loops than a text may have: the text of a curl beside eight
-/// loops is read, and where its kink is dropped, nine loops are left, of which no text is. So `edit`
-/// writes a diagram that no command reads.
+/// loops is read, and where its kink is dropped, nine loops are left, of which no text is. So
+/// `edit` writes a diagram that no command reads.
 pub fn edits_may_leave_too_many_loops()
     ensures read { IsDiagramText (pd_text (record curl { loops = 8 })) (record curl { loops = 8 }) }
     ensures after { diagram_after (Change (KinkDrop 1) ∷ []) (record curl { loops = 8 }) 1

@@ -1,8 +1,8 @@
 //! Column reduction of a whole complex: of each degree the columns in order, and of each column the
-//! last entry. Degrees are reduced from the least up, so that a row that is the last of a column
-//! is dead when its own column's turn comes; most columns that would be reduced to nothing are
-//! passed over so (clearing; Chen and Kerber 2011). Pivots are listed from the greatest degree down.
-//! That searches find them in this order tests show, and no clause says.
+//! last entry. Degrees are reduced from the least up, so that a row that is the last of a column is
+//! dead when its own column's turn comes; most columns that would be reduced to nothing are passed
+//! over so (clearing; Chen and Kerber 2011). Pivots are listed from the greatest degree down. That
+//! searches find them in this order tests show, and no clause says.
 
 ghost use Rattle.std.specs.Prelude.{◌≡◌, ◌<◌, ◌^◌, [], ◌∷◌, ◌++◌, true, pos, ◌+ℤ◌, ◌≤ℤ◌, IfOk, OnOk};
 ghost use Rattle.std.specs.Prelude.{slice_index_or};

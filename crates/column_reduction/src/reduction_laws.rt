@@ -1,6 +1,6 @@
 //! What column reduction finds: the pivots of the reduced columns are a legal history, which leaves
-//! no entry. What is left of the next column ends at an entry that the column then has, its last one,
-//! and that is the next pivot.
+//! no entry. What is left of the next column ends at an entry that the column then has, its last
+//! one, and that is the next pivot.
 
 ghost use Rattle.std.specs.Prelude.{◌≡◌, ◌≢◌, ℕ, ◌+◌, ◌*◌, ◌<◌, ℤ, pos, ◌+ℤ◌, ◌-ℤ◌, ◌<ℤ◌};
 ghost use Rattle.std.specs.Prelude.{List, [], ◌∷◌, ◌++◌, length, get_or, false, true};

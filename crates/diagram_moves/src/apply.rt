@@ -12,6 +12,7 @@ use crate::finger_add::{Finger, add_finger, is_left};
 use crate::kink_add::{Kink, add_kink};
 use crate::slide::slide;
 use crate::triangles::Corners;
+use kh_types::laws::diagrams::diagram_laws;
 use kh_types::Diagram;
 
 /// The diagram after a Reidemeister move, or the least numbered fault. The state sum stays, and so
@@ -28,7 +29,7 @@ pub fn apply_move(diagram: &Diagram, change: Move) -> Result<Diagram, MoveFault>
     ensures pieces { JoinsPieces diagram.now change
         → (faces wanted : ℕ) → ¬ (result ≡ Err (Genus faces wanted)) }
 {
-    let _crossings = diagram.crossings();
+    diagram_laws(diagram);
     moved(diagram, change)
 }
 

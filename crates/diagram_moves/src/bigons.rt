@@ -5,6 +5,7 @@ ghost use Rattle.std.specs.List.{list_any, range_with_len};
 ghost use Rattle.kink_and_finger_laws.specs.Drops.{after, is_bigon, is_bigon_at};
 
 use crate::pair::Pair;
+use kh_types::laws::diagrams::diagram_laws;
 use kh_types::Diagram;
 
 /// Whether two crossings meet in a bigon.
@@ -46,7 +47,7 @@ fn is_bigon_at(diagram: &Diagram, pair: Pair, p: u8, q: u8) -> bool
     requires second_slot { q < 4 }
     ensures { result ≡ is_bigon_at diagram.now.crossings pair.first pair.second p q }
 {
-    let _count = diagram.count();
+    diagram_laws(diagram);
     let first_end = diagram.partner_at(4 * pair.first + p);
     let second_end = diagram.partner_at(4 * pair.second + q);
     let first_meets = first_end == 4 * pair.second + after(q);

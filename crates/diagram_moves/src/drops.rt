@@ -18,6 +18,7 @@ use crate::faults::{finger_drop_fault, kink_drop_fault};
 use crate::kink_add::sign_there;
 use crate::pair::Pair;
 use arrayvec::ArrayVec;
+use kh_types::laws::diagrams::diagram_laws;
 use kh_types::{ARCS, CLASS_MEMBERS, CROSSINGS, Crossing, Diagram, class_of, classes_of, is_least};
 use orient_arcs::Parts;
 
@@ -47,7 +48,7 @@ fn without_kink(diagram: &Diagram, crossing: u8) -> Diagram
     requires { kink_drop_fault diagram.now crossing ≡ None }
     ensures { result ≡ renumber (without_kink diagram.now (place_of crossing)) }
 {
-    let _crossings = diagram.crossings();
+    diagram_laws(diagram);
     let place = crossing.saturating_sub(1);
     let gone = Pair {
         first: place,
@@ -60,7 +61,7 @@ fn without_finger(diagram: &Diagram, first: u8, second: u8) -> Diagram
     requires { finger_drop_fault diagram.now first second ≡ None }
     ensures { result ≡ renumber (without_finger diagram.now (place_of first) (place_of second)) }
 {
-    let _crossings = diagram.crossings();
+    diagram_laws(diagram);
     let gone = Pair {
         first: first.saturating_sub(1),
         second: second.saturating_sub(1),

@@ -17,6 +17,7 @@ use crate::fault::MoveFault;
 use crate::faults::{finger_place_fault, wrong_genus};
 use crate::kink_add::{enters, sign_there};
 use arrayvec::ArrayVec;
+use kh_types::laws::diagrams::diagram_laws;
 use kh_types::{ARCS, CROSSINGS, Crossing, Dart, Diagram, RawCode};
 
 /// A finger of an arc over another, through the face at a side of each.
@@ -61,7 +62,7 @@ fn with_finger(diagram: &Diagram, finger: Finger) -> Result<Diagram, MoveFault>
         finger.under finger.under_left).crossings)
         (with_finger diagram.now finger.over finger.over_left finger.under finger.under_left) }
 {
-    let _crossings = diagram.crossings();
+    diagram_laws(diagram);
     let code = code_with_finger(diagram, finger);
     match wrong_genus(&code) {
         Some(fault) => Err(fault),
@@ -138,7 +139,7 @@ fn moved_arc(diagram: &Diagram, finger: Finger, dart: Dart, positive: bool) -> u
     requires sign { positive ≡ is_positive diagram.now.crossings dart.crossing }
     ensures { result ≡ moved_arc diagram.now.crossings finger.over finger.under dart }
 {
-    let _count = diagram.count();
+    diagram_laws(diagram);
     let arc = diagram.arc_at(dart);
     if enters(positive, dart.slot) {
         head_number(finger, arc)

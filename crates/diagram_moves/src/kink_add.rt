@@ -17,6 +17,7 @@ use crate::accepted::accepted;
 use crate::fault::MoveFault;
 use crate::faults::kink_add_fault;
 use arrayvec::ArrayVec;
+use kh_types::laws::diagrams::diagram_laws;
 use kh_types::{ARCS, CROSSINGS, Crossing, Dart, Diagram, RawCode};
 
 /// A kink on an arc: whether its first pass is over, and whether its crossing is positive.
@@ -44,7 +45,7 @@ fn with_kink(diagram: &Diagram, kink: Kink) -> Diagram
     requires { IsTakenArc diagram.now kink.arc }
     ensures { result ≡ with_kink kink.is_over kink.is_positive kink.arc diagram.now }
 {
-    let _crossings = diagram.crossings();
+    diagram_laws(diagram);
     accepted(&code_with_kink(diagram, kink))
 }
 
@@ -101,7 +102,7 @@ pub(crate) fn sign_there(signs: &[bool], diagram: &Diagram, place: u8) -> bool
     requires place { place < length diagram.now.crossings }
     ensures { result ≡ positive_at diagram.now.crossings place }
 {
-    let _count = diagram.count();
+    diagram_laws(diagram);
     signs[usize::from(place)]
 }
 

@@ -14,7 +14,8 @@ ghost use Rattle.diagram_moves.specs.declared.change.Move.TheVariants.{FingerDro
 ghost use Rattle.diagram_moves.specs.declared.fault.MoveFault.TheVariants.{NoBigon, NoCrossing, NoKink};
 
 /// The drop of a kink is refused exactly where there is no such crossing, or where neither of its
-/// two passes leaves on the arc on which the other enters. What it leaves is the rule's, renumbered.
+/// two passes leaves on the arc on which the other enters. What it leaves is the rule's,
+/// renumbered.
 pub fn kinks_are_dropped_by_the_rule()
     ensures no_crossing { (code : Code) (crossing : ℕ)
         → (moved code (KinkDrop crossing) ≡ Err (NoCrossing crossing))

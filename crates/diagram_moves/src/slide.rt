@@ -18,6 +18,7 @@ use crate::fault::MoveFault;
 use crate::faults::slide_fault;
 use crate::triangles::{Corners, dart_at_slot, step, taken_slot};
 use arrayvec::ArrayVec;
+use kh_types::laws::diagrams::diagram_laws;
 use kh_types::{CROSSINGS, Crossing, Dart, Diagram};
 use orient_arcs::Parts;
 
@@ -35,7 +36,7 @@ pub(crate) fn slide(diagram: &Diagram, corners: Corners) -> Result<Diagram, Move
         ≡ answered (slide_fault diagram.now corners.first corners.second corners.third)
         (slid_at diagram.now corners.first corners.second corners.third) }
 {
-    let _crossings = diagram.crossings();
+    diagram_laws(diagram);
     match slide_fault(diagram, corners) {
         Some(fault) => Err(fault),
         None => Ok(slid_at(diagram, corners)),
@@ -109,7 +110,7 @@ fn slid_arc(diagram: &Diagram, triangle: Triangle, place: u8, slot: u8) -> u8
     ensures { result
         ≡ slid_arc diagram.now.crossings triangle.x triangle.y triangle.z place slot }
 {
-    let _count = diagram.count();
+    diagram_laws(diagram);
     arc_of_dart(diagram, source(triangle, 4 * place + slot))
 }
 

@@ -5,6 +5,7 @@ ghost use Rattle.kh_types.specs.Code.{IsCrossing};
 ghost use Rattle.kh_types.specs.Darts.{dart_count};
 ghost use Rattle.slide_laws.specs.Triangles.{dart_at_slot, has_heights, has_triangle, is_at_crossing, is_slidable_at, is_triangle, slide_slot, step};
 
+use kh_types::laws::diagrams::diagram_laws;
 use kh_types::{Diagram, turned};
 
 /// Three crossings by their numbers.
@@ -143,7 +144,7 @@ pub(crate) fn dart_at_slot(diagram: &Diagram, crossing: u8, slot: u8) -> u8
     ensures dart { result ≡ dart_at_slot crossing slot }
     ensures below { result < dart_count diagram.now.crossings }
 {
-    let _count = diagram.count();
+    diagram_laws(diagram);
     4 * (crossing - 1) + slot
 }
 
@@ -153,7 +154,7 @@ pub(crate) fn step(diagram: &Diagram, dart: u8) -> u8
     ensures step { result ≡ step diagram.now.crossings dart }
     ensures below { result < dart_count diagram.now.crossings }
 {
-    let _count = diagram.count();
+    diagram_laws(diagram);
     turned(diagram.partner_at(dart))
 }
 

@@ -76,8 +76,8 @@ pub fn compositions_have_parts()
         ≡ product_over (part_at points m n o dots others kept) (components points m n o) }
 {}
 
-/// Before the first crossing the circles of the empty pairing, in any state, are the state's circles
-/// in their order, so that labels are those of the cube's generators; there are no discs.
+/// Before the first crossing the circles of the empty pairing, in any state, are the state's
+/// circles in their order, so that labels are those of the cube's generators; there are no discs.
 pub fn nothing_is_opened_at_first()
     ensures circles { (code : Code) (state : ℕ) → circles (whole code) [] (smoothings_of code.crossings state) ≡ circle_names code state }
     ensures discs { (code : Code) → discs (whole code) [] [] ≡ [] }

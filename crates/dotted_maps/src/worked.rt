@@ -14,8 +14,8 @@ pub fn saddles_compose()
     ensures listed { listed four_arcs across along across identity identity ≡ times_dots 1 1 ∷ times_dots 1 2 ∷ [] }
 {}
 
-/// Three pairings, each drawn without crossings, that make a torus, by one disc of each two of them:
-/// twice the dotted disc.
+/// Three pairings, each drawn without crossings, that make a torus, by one disc of each two of
+/// them: twice the dotted disc.
 pub fn tori_count_twice()
     ensures discs { map (discs six_arcs beside_12) (beside_23 ∷ beside_34 ∷ []) ≡ (1 ∷ []) ∷ (1 ∷ []) ∷ [] }
     ensures last_discs { discs six_arcs beside_23 beside_34 ≡ 1 ∷ [] }

@@ -110,8 +110,8 @@ pub fn circles_are_glued()
 {}
 
 /// Before the first crossing no arc is open, and no pairs are its pairing; after the last crossing
-/// no arc is open either. (Nothing stands on this law: it shows what `ends_there` and `starts_there`
-/// say where a cut is before or after all crossings.)
+/// no arc is open either. (Nothing stands on this law: it shows what `ends_there` and
+/// `starts_there` say where a cut is before or after all crossings.)
 pub fn nothing_is_open_at_either_end()
     ensures first { (crossings : List (List ℕ)) (choice n : ℕ)
         → Lead n (ends_there crossings choice 0) (starts_there crossings choice 0) [] }

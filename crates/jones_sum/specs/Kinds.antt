@@ -1,14 +1,8 @@
 -- The sum over states as a sum over their kinds: states that have equally many ones and equally many circles have the same term.
 use Rattle.std.specs.Prelude.{ℕ, ℤ, pos, ◌*ℤ◌, List, map}
-use Rattle.std.specs.List.{enumerate_from, range_with_len}
-use Rattle.kh_types.specs.Code.{Code}
+use Rattle.std.specs.List.{enumerate_from}
 use Rattle.kh_types.specs.StateSum.{int_sum, term_of}
-use Rattle.circle_smoothing.specs.Kinds.{kind_circles, kind_count, kind_ones}
-use Rattle.circle_smoothing.specs.declared.kinds.TheConstants.{KINDS}
-
--- the number of states of each kind
-abbrev pub kind_counts : Code → List ℕ
-kind_counts code = map (λ kind. kind_count code (kind_ones kind) (kind_circles kind)) (range_with_len 0 KINDS)
+use Rattle.circle_smoothing.specs.Kinds.{kind_circles, kind_ones}
 
 -- the sum of a value of each kind, taken as often as the kind is counted
 abbrev pub counted_sum : (ℕ → ℤ) → List ℕ → ℤ

@@ -1,7 +1,7 @@
 //! Readers and writers of std as sources and sinks: the edge of the program. Their bytes are known
 //! where std tells those of the reader or the writer: of slices, queues, vectors, cursors that are
-//! read, and what is buffered or borrowed over these. Of a locked standard input (`LockedStdin`), of
-//! what prints (`io::writer`) and of files it tells none: what these give and take is trusted.
+//! read, and what is buffered or borrowed over these. Of a locked standard input (`LockedStdin`),
+//! of what prints (`io::writer`) and of files it tells none: what these give and take is trusted.
 
 ghost use Rattle.std.specs.Prelude.{◌≡◌, ◌<◌, ◌≤◌, ◌+◌, length, take, IfOk};
 ghost use Rattle.std.specs.Io.{ReadsAtMost, WritesAtMost};

@@ -130,13 +130,6 @@ IsRun-written request source_before source_after sink_before sink_after same_sou
 IsRun-written request source_before source_after sink_before sink_after same_source same_sink (Err stops.NoMemory) status replied (is, same, nothing, quiet) =
     run_unmade request source_before source_after sink_before sink_after same_source same_sink status replied is same nothing quiet
 
--- a reply that is the one of which all is known
-pub IsReplied-completed : (request : Request) (source_before source_after : Seen) (same_source : Type 0) (this reply : Reply)
-    → reply ≡ this → IsReplied request source_before source_after same_source (Ok this)
-    → IsReplied request source_before source_after same_source (Ok reply)
-IsReplied-completed request source_before source_after same_source this reply same replied =
-    subst (λ (r : Reply). IsReplied request source_before source_after same_source (Ok r)) (sym same) replied
-
 -- a run that nothing disturbed has written its answer whole
 pub whole-undisturbed : (request : Request) (source_before source_after sink_before sink_after : Seen)
     (same_source same_sink : Type 0) (status : Status)

@@ -60,8 +60,8 @@ ghost use Rattle.undo_stack.specs.declared.schedule.ScheduleLine.{ScheduleLine};
 
 use reduced_cube::laws::{known_marks, reduced_euler_characteristic};
 
-/// To all words and all bytes there is an answer, and one alone, unless the words mean `certify` and
-/// it is done: so refusals and limits are one, and so is the status.
+/// To all words and all bytes there is an answer, and one alone, unless the words mean `certify`
+/// and it is done: so refusals and limits are one, and so is the status.
 pub fn one_answer()
     ensures some { (words : List (List ℕ)) (bytes : List ℕ) → (reply : Reply) × IsAnswer words bytes reply }
     ensures one { (words : List (List ℕ)) (bytes : List ℕ) (reply other : Reply) → HaveOneReply words

@@ -24,4 +24,5 @@ pub use laws::{
     jones_line_is_the_euler_characteristic, logs_are_answered_by_their_table,
     numbers_are_answered_by_their_table, one_answer, workers_do_not_change_answers,
 };
+pub use laws::printed::printed_diagrams_are_read_back;
 pub use top::{run, run_alone, run_given};

@@ -20,8 +20,8 @@ pub enum Order {
     /// A log of cancellations is read; write the homology table that it proves, or the first line
     /// that fails.
     Log,
-    /// Nothing is read; write the counts, the dimension and the Jones polynomial of the diagram of a
-    /// number.
+    /// Nothing is read; write the counts, the dimension and the Jones polynomial of the diagram of
+    /// a number.
     Bench {
         field: FieldSize,
         workers: u32,

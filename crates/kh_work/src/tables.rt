@@ -39,8 +39,8 @@ fn table_alone_over<F: PrimeField>(alloc: Global, small: &SmallDiagram) -> Resul
     beside_loops::<F>(alloc, bare, diagram)
 }
 
-/// The same from one cube, in which loops are circles like all others. Over two elements the reduced
-/// cube does, at any mark: it has half of the generators.
+/// The same from one cube, in which loops are circles like all others. Over two elements the
+/// reduced cube does, at any mark: it has half of the generators.
 fn cubed_alone<F: PrimeField>(alloc: Global, small: &SmallDiagram) -> Result<Table, NoMemory>
     ensures { IfOk result (λ made. made ≡ table F.P small.now) }
 {

@@ -1,4 +1,5 @@
-//! What a kink keeps.
+//! What stays and what changes where a kink is added: components, faces, signs, and that a code is
+//! accepted.
 
 ghost use Rattle.std.specs.Prelude.{◌≡◌, ◌≢◌, ℕ, ◌+◌, ℤ, Bool, IsTrue, length};
 ghost use Rattle.kh_types.specs.Code.{Code, IsArc, IsCrossing, slots_of};
@@ -11,7 +12,7 @@ ghost use Rattle.kh_types.specs.Accepted.{IsDirected};
 ghost use Rattle.kh_types.specs.Directions.{head_of, is_positive as sign, minus_count, plus_count, tail_of};
 ghost use Rattle.kh_types.specs.StateSum.{state_sum};
 ghost use Rattle.kink_and_finger_laws.specs.KinkAdds.{kink_crossing, raised, with_kink};
-ghost use Rattle.kink_and_finger_laws.specs.KinkCodes.{IsWithKink, one_where};
+ghost use Rattle.kink_and_finger_laws.specs.KinkCodes.{one_where};
 
 /// A kink of any kind on an arc of an accepted code: the code that results is directed, has as many
 /// components and one crossing more, has n + 2k faces, and is accepted.

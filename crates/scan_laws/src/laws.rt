@@ -73,9 +73,9 @@ pub fn scans_begin_with_the_cube()
 {}
 
 /// One crossing more gives the generators of E other names, and changes no coefficient: each
-/// generator becomes one, the first bit of its state the smoothing of the new object, and the labels
-/// of the circles that this closes a part of it; the other bits and labels stay. This is one to one,
-/// keeps both degrees, and from any generator to any other the coefficient stays the same.
+/// generator becomes one, the first bit of its state the smoothing of the new object, and the
+/// labels of the circles that this closes a part of it; the other bits and labels stay. This is one
+/// to one, keeps both degrees, and from any generator to any other the coefficient stays the same.
 pub fn crossings_change_no_coefficient()
     ensures one_to_one { (p plus minus : ℕ) (code : Code) (scan next : Scan)
         → (added : IsAdded p code scan next)
@@ -97,10 +97,10 @@ pub fn crossings_change_no_coefficient()
         ≡ (complex_of p code plus minus scan).coefficient x y }
 {}
 
-/// A cancelled entry is one cancelled pair of generators of E for each state and each labelling: from
-/// tail to head of each pair the coefficient is c, and to any other pair's head it is 0. The other
-/// generators are those of the next E, with their degrees; and the coefficients there are the old
-/// ones less the ways back through these pairs.
+/// A cancelled entry is one cancelled pair of generators of E for each state and each labelling:
+/// from tail to head of each pair the coefficient is c, and to any other pair's head it is 0. The
+/// other generators are those of the next E, with their degrees; and the coefficients there are the
+/// old ones less the ways back through these pairs.
 pub fn eliminations_cancel_in_each_state()
     ensures pivots { (p : ℕ) (code : Code) (plus minus : ℕ) (scan next : Scan)
         → (out : IsEliminated p code plus minus scan next)

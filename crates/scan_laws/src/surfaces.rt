@@ -27,8 +27,8 @@ pub fn pairings_stay_led()
         → IsLedAt code choice (k + 1) (pairing_behind code k smoothing m) }
 {}
 
-/// Two pairings that lead from ends to starts, with the crossings still to come in any state, make a
-/// closed surface, whatever is marked on it; and three such pairings make one inside.
+/// Two pairings that lead from ends to starts, with the crossings still to come in any state, make
+/// a closed surface, whatever is marked on it; and three such pairings make one inside.
 pub fn cut_codes_are_closed()
     ensures glued { (code : Code) (choice k state : ℕ) (m n : List (ℕ × ℕ)) → IsTrue (accepted code)
         → IsColoured code.crossings choice → k ≤ length code.crossings → IsLedAt code choice k m → IsLedAt code choice k n
@@ -41,8 +41,9 @@ pub fn cut_codes_are_closed()
         → IsLedAt code choice k n → IsClosed (entry_sheet code k state m n dots label other) }
 {}
 
-/// With one crossing more both parts of what the sum over the dots is cut in are closed: the surface
-/// outside, between the new pairings, and what the crossing adds; whatever is marked on them.
+/// With one crossing more both parts of what the sum over the dots is cut in are closed: the
+/// surface outside, between the new pairings, and what the crossing adds; whatever is marked on
+/// them.
 pub fn added_crossings_are_closed()
     ensures entries { (code : Code) (choice k state smoothing : ℕ) (m n : List (ℕ × ℕ)) (dots label other closed other_closed : ℕ)
         → IsTrue (accepted code) → IsColoured code.crossings choice → k < length code.crossings → IsLedAt code choice k m
@@ -97,8 +98,8 @@ pub fn led_crossings_add_up()
         (label_behind code k (bit state k) state m label) (label_behind code k (bit state k) state n other)) }
 {}
 
-/// The coefficient of an edge at the next crossing is the saddle's number, and it is the sum over the
-/// dot sets.
+/// The coefficient of an edge at the next crossing is the saddle's number, and it is the sum over
+/// the dot sets.
 pub fn led_saddles_add_up()
     ensures number { (code : Code) (choice k state : ℕ) (m : List (ℕ × ℕ)) (label other_label : ℕ → ℕ) → IsTrue (accepted code)
         → IsColoured code.crossings choice → k < length code.crossings → IsLedAt code choice k m → AreBits label other_label

@@ -27,8 +27,9 @@ pub fn cuts_add_up()
         → IsClosed (capped surface circles label) → sum_over_labels surface circles ≡ value (glued surface circles) }
 {}
 
-/// The same for two surfaces that are glued along circles between them: the sum is that of products,
-/// with the discs of the first sides on the one and those of the second sides on the other.
+/// The same for two surfaces that are glued along circles between them: the sum is that of
+/// products, with the discs of the first sides on the one and those of the second sides on the
+/// other.
 pub fn products_add_up()
     ensures closed { (first second : Surface) (circles : List (ℕ × ℕ)) (label : ℕ) → IsPlaced first → IsPlaced second
         → AreBetween first second circles → IsClosed (with_faces first (first_caps circles label))
@@ -40,8 +41,8 @@ pub fn products_add_up()
 {}
 
 /// Surfaces with the same components under other names, and the same counts on them, are closed
-/// together, and have one number. The counts are the same where faces and strips lie on the components
-/// of theirs, or even at their places, in any order.
+/// together, and have one number. The counts are the same where faces and strips lie on the
+/// components of theirs, or even at their places, in any order.
 pub fn names_do_not_matter()
     ensures closed { (f : ℕ → ℕ) (old new : Surface) → Corresponds f old new → IsClosed old → IsClosed new }
     ensures back { (f : ℕ → ℕ) (old new : Surface) → Corresponds f old new → IsClosed new → IsClosed old }

@@ -27,8 +27,8 @@ pub fn cancel<F: PrimeField>(entry: &mut Terms, way: &Way<'_>, pivot: F) -> Resu
     add_composition(entry, way, minus_inverse(pivot))
 }
 
-/// The same where the first map is a number times the identity: what is taken is the second map, times
-/// a number.
+/// The same where the first map is a number times the identity: what is taken is the second map,
+/// times a number.
 pub fn cancel_multiple<F: PrimeField>(
     entry: &mut Terms,
     way: &Way<'_>,

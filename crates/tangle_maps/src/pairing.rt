@@ -19,8 +19,8 @@ pub const ALONE: Names = [
     26, 27, 28, 29, 30, 31, 32, 33, 34, 35, 36, 37, 38, 39, 40, 41, 42, 43, 44, 45, 46, 47,
 ];
 
-/// A pairing of open arcs: each has another for its partner, and an arc that is not open is its own.
-/// `partners` has the partner of each number below POINTS, and `==` compares these.
+/// A pairing of open arcs: each has another for its partner, and an arc that is not open is its
+/// own. `partners` has the partner of each number below POINTS, and `==` compares these.
 #[derive(Clone, Copy, Debug, PartialEq, Eq)]
 pub struct Pairing {
     pub partners: Names,

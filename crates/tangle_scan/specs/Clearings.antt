@@ -20,12 +20,12 @@ pub record CanEliminate (p : ℕ) (front : Front) (rowed : Rowed) (pivot : Pivot
   pub pivot_is : IsPivot rowed.complex pivot.tail pivot.head pivot.number
 
 -- a pivot was cancelled: by a step of the theorem, and what is left is a complex there, with its rows
-pub record IsEliminated (p : ℕ) (front : Front) (old new : Rowed) : Type 0 where
+pub record HasEliminated (p : ℕ) (front : Front) (old new : Rowed) : Type 0 where
   pub step : IsEliminating p front.diagram (scan_at front old.complex) (scan_at front new.complex)
   pub rowed_is : IsRowed p front new
 
 -- columns can be cleared in a turn: there is one for each of its objects, and all are noted
-pub record CanClear (p : ℕ) (turn : Turn) (columns : List (Vec Entry)) (rows : List (Vec ℕ)) : Type 0 where
+pub record CanClearColumns (p : ℕ) (turn : Turn) (columns : List (Vec Entry)) (rows : List (Vec ℕ)) : Type 0 where
   pub turn_is : IsTurn p turn
   pub columns_are : AreColumns p turn.objects.now columns rows
 

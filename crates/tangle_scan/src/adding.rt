@@ -1,5 +1,5 @@
-//! Adding a crossing to a complex: its new objects, and what the two smoothings make of each old one.
-//! The maps between them are made in the folder, by entries and columns, over bridges.
+//! Adding a crossing to a complex: its new objects, and what the two smoothings make of each old
+//! one. The maps between them are made in the folder, by entries and columns, over bridges.
 
 ghost use Rattle.std.specs.Prelude.{◌≡◌, ◌+◌, ◌^◌, ◌<◌, ◌≤◌, pos, ◌+ℤ◌, ◌≤ℤ◌, ◌++◌, length, true, false, IfOk, OnOk};
 ghost use Rattle.scan_laws.specs.Adding.{IsAdding};

@@ -1,6 +1,6 @@
-//! Clearing a complex of isomorphisms: maps that are a number times the identity are cancelled until
-//! none is left. A few passes go over the objects. What they leave, since a cancellation makes new
-//! numbers in columns that were passed, is searched for from the first object on.
+//! Clearing a complex of isomorphisms: maps that are a number times the identity are cancelled
+//! until none is left. A few passes go over the objects. What they leave, since a cancellation
+//! makes new numbers in columns that were passed, is searched for from the first object on.
 
 ghost use Rattle.std.specs.Prelude.{◌≡◌, ◌<◌, length, true, IfOk};
 ghost use Rattle.scan_laws.specs.Steps.{LeadsTo};
@@ -20,16 +20,16 @@ use kh_types::NoMemory;
 use prime_field::PrimeField;
 use std::alloc::Global;
 
-/// A pass over the objects with a smoothing of the crossing that was added last, which cancels a pivot
-/// out of each, if it has one through which at most so many ways lead.
+/// A pass over the objects with a smoothing of the crossing that was added last, which cancels a
+/// pivot out of each, if it has one through which at most so many ways lead.
 #[derive(Clone, Copy)]
 struct Pass {
     smoothing: u8,
     most_ways: usize,
 }
 
-/// First what changes no other map, then the rest. Objects with the 0-smoothing come first, since most
-/// pivots are saddles out of them; in another order there are several times as many ways.
+/// First what changes no other map, then the rest. Objects with the 0-smoothing come first, since
+/// most pivots are saddles out of them; in another order there are several times as many ways.
 const PASSES: [Pass; 4] = [
     Pass {
         smoothing: 0,
@@ -49,8 +49,8 @@ const PASSES: [Pass; 4] = [
     },
 ];
 
-/// Cancels maps that are a number times the identity until none is left. Which comes first no clause
-/// says: it goes pass by pass, and takes in each column the entry whose row is the shortest.
+/// Cancels maps that are a number times the identity until none is left. Which comes first no
+/// clause says: it goes pass by pass, and takes in each column the entry whose row is the shortest.
 /// Source: Bar-Natan 2007.
 pub fn eliminate_all<F: PrimeField>(
     alloc: Global,

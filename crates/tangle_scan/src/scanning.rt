@@ -23,8 +23,8 @@ use std::alloc::Global;
 use union_laws::laws::pieces::pieces_multiply_tables;
 
 /// The homology table of a diagram over a field: its connected pieces are scanned apart, each
-/// crossing by crossing, and their tables multiplied. Source: Bar-Natan 2007; the table is Bar-Natan
-/// 2002, section 3; that tables multiply is Khovanov 2000.
+/// crossing by crossing, and their tables multiplied. Source: Bar-Natan 2007; the table is
+/// Bar-Natan 2002, section 3; that tables multiply is Khovanov 2000.
 pub fn scan_table<F: PrimeField>(alloc: Global, diagram: &Diagram) -> Result<ScanTable, NoMemory>
     ensures { IfOk result (λ made. made ≡ table F.P diagram.now) }
 {
@@ -61,8 +61,8 @@ pub fn scan_table_by<F: PrimeField>(
     table_of_finished(alloc, diagram, &scan)
 }
 
-/// The table of a diagram, by that of its first piece and that of the others. (Diagrams of one piece
-/// are not to have its stack.)
+/// The table of a diagram, by that of its first piece and that of the others. (Diagrams of one
+/// piece are not to have its stack.)
 #[inline(never)]
 fn multiplied<F: PrimeField>(
     alloc: Global,

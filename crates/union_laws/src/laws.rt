@@ -1,4 +1,4 @@
-//! Disjoint unions.
+//! Disjoint unions, and diagrams as the unions of their pieces.
 
 pub mod pieces;
 pub mod unions;

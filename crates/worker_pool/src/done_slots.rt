@@ -17,8 +17,8 @@ use std::alloc::Global;
 /// A slot for the block of each quantum degree, once it is cancelled to zero.
 pub(crate) type DoneSlots<F> = Vec<Option<DoneBlock<F>>>;
 
-/// Puts a block into the slot at a place, where that is the place of its degree; else the slots stay
-/// as they are.
+/// Puts a block into the slot at a place, where that is the place of its degree; else the slots
+/// stay as they are.
 pub(crate) fn put<F: PrimeField>(
     slots: &mut DoneSlots<F>,
     degrees: &[i16],
@@ -40,8 +40,8 @@ pub(crate) fn put<F: PrimeField>(
     }
 }
 
-/// The blocks in the order of their degrees: what is in the slots, and where a slot is empty a block
-/// that the caller makes.
+/// The blocks in the order of their degrees: what is in the slots, and where a slot is empty a
+/// block that the caller makes.
 pub(crate) fn in_order<F: PrimeField>(
     alloc: Global,
     cube: &Cube,

@@ -17,8 +17,8 @@ pub struct Cancelled<F: PrimeField> {
     /// The blocks, one for each quantum degree that has a generator, ascending, each cancelled to
     /// zero by the history that it has.
     pub blocks: Vec<SharedBlock<F>>,
-    /// For each block how many of its pivots, the first ones, workers committed; no clause says more
-    /// of a count than that the block has as many pivots, and that one worker commits none.
+    /// For each block how many of its pivots, the first ones, workers committed; no clause says
+    /// more of a count than that the block has as many pivots, and that one worker commits none.
     pub committed: Vec<u64>,
 }
 

@@ -10,8 +10,8 @@ use std::process::Abort;
 use std::test::Fail;
 use worker_pool::Free;
 
-/// How often a source is read that gives the 38 bytes of the trefoil one by one: the last read finds
-/// its end.
+/// How often a source is read that gives the 38 bytes of the trefoil one by one: the last read
+/// finds its end.
 const READS: u64 = 39;
 
 /// How often a sink is written to that takes the 145 bytes of the table one by one.

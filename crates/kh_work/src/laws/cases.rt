@@ -79,9 +79,9 @@ pub fn refused_codes_are_answered_by_their_refusal()
         → IsAnswer words bytes refusal }
 {}
 
-/// Words that mean `schedule` or `edit`, and bytes with the code of an accepted diagram and a script
-/// that is refused, are answered by the number of its first line that is none, or by the limit on
-/// lines, however many generators there are.
+/// Words that mean `schedule` or `edit`, and bytes with the code of an accepted diagram and a
+/// script that is refused, are answered by the number of its first line that is none, or by the
+/// limit on lines, however many generators there are.
 pub fn refused_scripts_are_answered_by_their_line()
     ensures schedule { (words : List (List ℕ)) (bytes : List ℕ) (command : Command) (code : Code) (line : ℕ)
         → IsCommand words command → command.task ≡ Task.Schedule

@@ -7,8 +7,8 @@ ghost use Rattle.kh_types.specs.Directions.{is_positive_by_order, plus_count, mi
 ghost use Rattle.kh_types.specs.Table.{table, table_text};
 ghost use Rattle.kh_types.specs.WorkedCodes.{slots_with, without_loops, hopf_link};
 
-/// The right-handed trefoil, whose component has six arcs, and Solomon's link with two components of
-/// four arcs each, all of whose crossings are positive; the Hopf link and a negative curl.
+/// The right-handed trefoil, whose component has six arcs, and Solomon's link with two components
+/// of four arcs each, all of whose crossings are positive; the Hopf link and a negative curl.
 pub fn worked_link_signs()
     ensures plus_count_six_arcs { plus_count
         (slots_with 4 2 5 1 ∷ slots_with 6 4 1 3 ∷ slots_with 2 6 3 5 ∷ []) ≡ 3 }

@@ -127,8 +127,8 @@ fn push_columns_of<'a, F: PrimeField>(
     Ok(())
 }
 
-/// The column of a new object, with what comes from maps out of the old one, and with its saddles. It
-/// has room for few entries more than it has.
+/// The column of a new object, with what comes from maps out of the old one, and with its saddles.
+/// It has room for few entries more than it has.
 fn column_from<'a, F: PrimeField>(
     links: &'a Links<'a>,
     bridges: &mut Bridges,

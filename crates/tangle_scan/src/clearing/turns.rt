@@ -1,11 +1,11 @@
 //! A turn: a pivot is taken out of a complex, and each column is cleared of its head. The ways from
-//! the column's object to that head, by the inverse of the pivot's number back to its tail, and on to
-//! each object there are taken off the column.
+//! the column's object to that head, by the inverse of the pivot's number back to its tail, and on
+//! to each object there are taken off the column.
 
 ghost use Rattle.std.specs.Prelude.{◌≡◌, ◌≢◌, ℕ, ◌<◌, [], length, IfOk, IfSome, None, OnOk};
-ghost use Rattle.tangle_scan.specs.Clearings.{CanClear, CanClearColumn, CanEliminate, CanTakeWays};
+ghost use Rattle.tangle_scan.specs.Clearings.{CanClearColumns, CanClearColumn, CanEliminate, CanTakeWays};
 ghost use Rattle.tangle_scan.specs.Clearings.{HasCleared, HasClearedAt, HasTakenWays};
-ghost use Rattle.tangle_scan.specs.Clearings.{IsClearedColumn, IsEliminated};
+ghost use Rattle.tangle_scan.specs.Clearings.{IsClearedColumn, HasEliminated};
 ghost use Rattle.tangle_scan.specs.Eliminations.{IsKilled, IsMultipleAt, IsTakenOut, IsTurnOf, column_in};
 
 use crate::clearing::pivots::{Pivot, have_one_pairing};
@@ -19,8 +19,8 @@ use std::alloc::Global;
 use std::mem;
 use tangle_maps::number_of;
 
-/// A pivot that is being cancelled: the opened arcs, the objects, of which its tail and its head are
-/// not there any more, and the column that was taken out at its tail.
+/// A pivot that is being cancelled: the opened arcs, the objects, of which its tail and its head
+/// are not there any more, and the column that was taken out at its tail.
 #[derive(Clone, Copy)]
 pub(crate) struct Turn<'a> {
     pub(crate) opened: &'a [u8],
@@ -29,8 +29,8 @@ pub(crate) struct Turn<'a> {
     pub(crate) column: &'a [Entry],
 }
 
-/// The first map of a way: from the object at a place to the pivot's head; and the number that it is
-/// times the identity, if it is one.
+/// The first map of a way: from the object at a place to the pivot's head; and the number that it
+/// is times the identity, if it is one.
 #[derive(Clone, Copy)]
 pub(crate) struct Start<'a> {
     pub(crate) place: usize,
@@ -54,7 +54,7 @@ pub(crate) fn eliminate<F: PrimeField>(
     pivot: Pivot,
 ) -> Result<Rowed, NoMemory>
     requires { CanEliminate F.P front.now rowed pivot }
-    ensures { IfOk result (IsEliminated F.P front.now rowed) }
+    ensures { IfOk result (HasEliminated F.P front.now rowed) }
 {
     let mut rowed = rowed;
     let taken = take_out(alloc, &mut rowed, pivot);
@@ -64,8 +64,8 @@ pub(crate) fn eliminate<F: PrimeField>(
     Ok(rowed)
 }
 
-/// Marks that the objects of a pivot are not there any more, and takes the column of its tail and the
-/// names in the row of its head out.
+/// Marks that the objects of a pivot are not there any more, and takes the column of its tail and
+/// the names in the row of its head out.
 fn take_out(alloc: Global, rowed: &mut Rowed, pivot: Pivot) -> Taken
     requires tail { pivot.tail < length rowed.old.complex.objects.items }
     requires head { pivot.head < length rowed.old.complex.objects.items }
@@ -125,7 +125,7 @@ fn clear_all<F: PrimeField>(
     turn: &Turn<'_>,
     named: &[usize],
 ) -> Result<(), NoMemory>
-    requires { CanClear F.P turn.now columns.old.items rows.old.items }
+    requires { CanClearColumns F.P turn.now columns.old.items rows.old.items }
     ensures { OnOk result
         (HasCleared F.P turn.now named.now columns.old.items columns.new.items rows.new.items) }
 {
@@ -142,7 +142,7 @@ fn clear_at<F: PrimeField>(
     turn: &Turn<'_>,
     place: usize,
 ) -> Result<(), NoMemory>
-    requires { CanClear F.P turn.now columns.old.items rows.old.items }
+    requires { CanClearColumns F.P turn.now columns.old.items rows.old.items }
     ensures { OnOk result
         (HasClearedAt F.P turn.now place columns.old.items columns.new.items rows.new.items) }
 {

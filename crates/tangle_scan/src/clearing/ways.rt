@@ -19,8 +19,8 @@ use prime_field::laws::element_laws;
 use smallvec::SmallVec;
 use tangle_maps::{Pairing, Terms, Way, cancel, cancel_multiple, is_zero};
 
-/// Takes the way over an entry of the pivot's column off a column, if its head is there, and notes the
-/// column if it leads to a new head.
+/// Takes the way over an entry of the pivot's column off a column, if its head is there, and notes
+/// the column if it leads to a new head.
 pub(crate) fn take_if_alive<F: PrimeField>(
     column: &mut Column,
     rows: &mut Rows,

@@ -20,8 +20,8 @@ pub struct Tally {
     pub count: u64,
 }
 
-/// The objects of a complex, counted by degree and shift, and what a table reads of its diagram: its
-/// numbers of loops, of crossings, and of positive and negative ones.
+/// The objects of a complex, counted by degree and shift, and what a table reads of its diagram:
+/// its numbers of loops, of crossings, and of positive and negative ones.
 #[derive(Drop)]
 pub struct Counted {
     pub tallies: Vec<Tally>,

@@ -74,8 +74,8 @@ pub(crate) trait Dimensions {
     /// The dimensions.
     ghost dims: { Self → ℤ → ℤ → ℕ };
 
-    /// The dimension at two degrees. The triangle says how many labels of circles have a degree; it is
-    /// handed on, and kept by none, since it takes much of a stack.
+    /// The dimension at two degrees. The triangle says how many labels of circles have a degree; it
+    /// is handed on, and kept by none, since it takes much of a stack.
     fn dimension(&self, triangle: &Triangle, i: i16, j: i16) -> u128
         ensures { result ≡ dims self.now i j };
 }

@@ -1,5 +1,6 @@
-//! An order of crossings that is mostly fast, and a diagram with its crossings in another order. Any
-//! order is right, so contracts say no more than that it is one; which one is this project's rule.
+//! An order of crossings that is mostly fast, and a diagram with its crossings in another order.
+//! Any order is right, so contracts say no more than that it is one; which one is this project's
+//! rule.
 
 ghost use Rattle.std.specs.Prelude.{◌≡◌, ◌⊎◌, ◌<◌, ◌≤◌, length};
 ghost use Rattle.order_laws.specs.Orders.{IsReordered, listed_by};
@@ -24,9 +25,9 @@ struct Order {
     work: u64,
 }
 
-/// The crossings of a diagram, in an order where each next one leaves the fewest arcs open: of those
-/// equal one that touches most open arcs, else the first. Each crossing is tried as the first of
-/// all, and the order taken that may be least work.
+/// The crossings of a diagram, in an order where each next one leaves the fewest arcs open: of
+/// those equal one that touches most open arcs, else the first. Each crossing is tried as the first
+/// of all, and the order taken that may be least work.
 pub fn ordered(diagram: &Diagram) -> ArrayVec<Crossing, CROSSINGS>
     ensures { IsReordered diagram.now.crossings result.items }
 {

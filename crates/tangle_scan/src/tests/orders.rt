@@ -1,4 +1,5 @@
-//! Scans of diagrams in orders of the crossings that nobody would choose: they have the same tables.
+//! Scans of diagrams in orders of the crossings that nobody would choose: they have the same
+//! tables.
 
 ghost use Rattle.order_laws.specs.Orders.{IsReordered};
 

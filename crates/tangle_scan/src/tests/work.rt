@@ -1,6 +1,6 @@
 //! How much a scan holds behind each crossing, and how many isomorphisms were taken off there. No
-//! clause says how few these are: a scan that takes the crossings as they are given, or clears late,
-//! counts the same table. The figures are this program's, and no machine changes them.
+//! clause says how few these are: a scan that takes the crossings as they are given, or clears
+//! late, counts the same table. The figures are this program's, and no machine changes them.
 
 use crate::complex::{Column, Object};
 use crate::scan::Scan;

@@ -1,5 +1,5 @@
 use Rattle.undo_stack.proofs.HistoryLemmas.{edited-short}
-use Rattle.undo_stack.proofs.history_laws.histories_are_bounded.Goals as goal
+use Rattle.undo_stack.proofs.undo_laws.histories_are_bounded.Goals as goal
 
 pub returns : goal.returns
 returns c = edited-short

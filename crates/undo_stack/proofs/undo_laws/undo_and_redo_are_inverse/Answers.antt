@@ -1,5 +1,5 @@
 use Rattle.undo_stack.proofs.HistorySteps.{redone-undone, undone-changed, undone-redone}
-use Rattle.undo_stack.proofs.history_laws.undo_and_redo_are_inverse.Goals as goal
+use Rattle.undo_stack.proofs.undo_laws.undo_and_redo_are_inverse.Goals as goal
 
 pub returns-clause-again : goal.returns-clause-again
 returns-clause-again c = redone-undone
