@@ -54,8 +54,8 @@ impl<F: PrimeField> Core<F> {
         ensures { IfOk result (λ made. IsCoreRun F.P self.old events.now made.items self.new) }
     {
         let mut answers = Vec::with_capacity(alloc, events.len())?;
-        'events: for k in 0..events.len() {
-            answers.push(self.step(alloc, events[k])?)?;
+        'events: for event in events {
+            answers.push(self.step(alloc, *event)?)?;
         }
         Ok(answers)
     }

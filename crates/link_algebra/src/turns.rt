@@ -86,8 +86,8 @@ fn opposite(signs: &[bool]) -> ArrayVec<bool, CROSSINGS>
     ensures { result.items ≡ map not signs.now }
 {
     let mut opposite = ArrayVec::new();
-    'places: for place in 0..signs.len() {
-        opposite.push(!signs[place]);
+    'signs: for sign in signs {
+        opposite.push(!*sign);
     }
     opposite
 }

@@ -23,8 +23,8 @@ fn all_are_paired(passes: &[Pass]) -> bool
     ensures { result ≡ all_are_paired passes.now }
 {
     let mut are_paired = true;
-    'passes: for at in 0..passes.len() {
-        are_paired &= is_paired_at(passes, passes[at]);
+    'passes: for pass in passes {
+        are_paired &= is_paired_at(passes, *pass);
     }
     are_paired
 }

@@ -38,8 +38,8 @@ fn crossings_in(parts: &Parts, order: &[u8]) -> ArrayVec<Crossing, CROSSINGS>
     ensures { result.items ≡ map (renamed_crossing (number_in order.now)) parts.now.crossings }
 {
     let mut crossings = ArrayVec::new();
-    'crossings: for at in 0..parts.crossings.len() {
-        crossings.push(renamed(order, parts.crossings[at]));
+    'crossings: for crossing in &parts.crossings {
+        crossings.push(renamed(order, *crossing));
     }
     crossings
 }
@@ -106,8 +106,8 @@ fn bound_of(passes: &[Pass]) -> usize
     ensures few { result ≤ 256 }
 {
     let mut bound = 0;
-    'passes: for at in 0..passes.len() {
-        bound = raised(bound, passes[at]);
+    'passes: for pass in passes {
+        bound = raised(bound, *pass);
     }
     bound
 }
