@@ -12,8 +12,8 @@ use crate::finger_add::{Finger, add_finger, is_left};
 use crate::kink_add::{Kink, add_kink};
 use crate::slide::slide;
 use crate::triangles::Corners;
-use kh_types::laws::diagrams::diagram_laws;
 use kh_types::Diagram;
+use kh_types::laws::diagrams::diagram_laws;
 
 /// The diagram after a Reidemeister move, or the least numbered fault. The state sum stays, and so
 /// does homology over each field (the law `moves_keep_homology` of the crate `link_laws`). Only a

@@ -5,8 +5,8 @@ ghost use Rattle.std.specs.List.{list_any, range_with_len};
 ghost use Rattle.kink_and_finger_laws.specs.Drops.{after, is_bigon, is_bigon_at};
 
 use crate::pair::Pair;
-use kh_types::laws::diagrams::diagram_laws;
 use kh_types::Diagram;
+use kh_types::laws::diagrams::diagram_laws;
 
 /// Whether two crossings meet in a bigon.
 #[tactic(auto, using(crate::proofs::Fours::list_any_four))]

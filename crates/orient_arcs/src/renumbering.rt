@@ -38,7 +38,8 @@ fn crossings_in(parts: &Parts, order: &[u8]) -> ArrayVec<Crossing, CROSSINGS>
     ensures { result.items ≡ map (renamed_crossing (number_in order.now)) parts.now.crossings }
 {
     let mut crossings = ArrayVec::new();
-    'crossings: for crossing in &parts.crossings {
+    let old = parts.crossings.as_slice();
+    'crossings: for crossing in old {
         crossings.push(renamed(order, *crossing));
     }
     crossings

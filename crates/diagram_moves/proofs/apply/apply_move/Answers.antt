@@ -5,4 +5,4 @@ use Rattle.diagram_moves.proofs.apply.apply_move.Goals as goal
 
 pub returns-clause-sum : goal.returns-clause-sum
 returns-clause-sum c =
-    grind (arith, nat_tests, moves_keep_the_state_sum c.args.diagram.now c.args.change c.crossings-crossings.ensures.accepted)
+    grind (arith, nat_tests, moves_keep_the_state_sum c.args.diagram.now c.args.change c.diagram_laws.ensures.accepted)

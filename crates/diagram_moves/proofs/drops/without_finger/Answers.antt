@@ -10,7 +10,7 @@ renumbered-requires c =
     let made = c.dropped.ensures
     ∙ ap₂ (λ (p q : ℕ). (without_finger c.args.diagram.now p q)) c.saturating_sub.ensures c.saturating_sub-2.ensures in
     subst AreReady (sym made)
-    (fingers_are_ready c.args.diagram.now c.args.first c.args.second c.crossings-crossings.ensures.accepted c.requires)
+    (fingers_are_ready c.args.diagram.now c.args.first c.args.second c.diagram_laws.ensures.accepted c.requires)
 
 pub returns : goal.returns
 returns c =

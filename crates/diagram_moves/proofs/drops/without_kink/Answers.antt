@@ -10,7 +10,7 @@ use Rattle.diagram_moves.proofs.drops.without_kink.Goals as goal
 pub renumbered-requires : goal.renumbered-requires
 renumbered-requires c =
     let made = c.dropped.ensures ∙ ap (λ (p : ℕ). (without_finger c.args.diagram.now p p)) c.saturating_sub-place.ensures in
-    subst AreReady (sym made) (kinks_are_ready c.args.diagram.now c.args.crossing c.crossings-crossings.ensures.accepted c.requires)
+    subst AreReady (sym made) (kinks_are_ready c.args.diagram.now c.args.crossing c.diagram_laws.ensures.accepted c.requires)
 
 pub returns : goal.returns
 returns c =

@@ -7,5 +7,5 @@ use Rattle.orient_arcs.proofs.pairing.all_are_paired.Goals as goal
 pub passes-preserved : goal.passes-preserved
 passes-preserved c =
     let passes = c.args.passes.now in
-    ap₂ (λ a b. a && b) c.passes.invariant (c.is_paired_at-are_paired.ensures ∙ ap (is_paired_at passes) c.index-passes-at.is)
-    ∙ sym (list_all_more (is_paired_at passes) passes c.passes.at c.index-passes-at.result c.passes-test.true)
+    ap₂ (λ a b. a && b) c.passes.invariant (c.is_paired_at-are_paired.ensures ∙ ap (is_paired_at passes) c.pass-item.is)
+    ∙ sym (list_all_more (is_paired_at passes) passes c.passes.pass-index c.pass-item.result c.passes-test.true)
