@@ -135,7 +135,7 @@ fn with_table<F: PrimeField>(
 fn legal_histories<F: PrimeField>(blocks: &[SharedBlock<F>])
     ensures { All (HasLegalHistory F.P) blocks.now }
 {
-    'blocks: for block in blocks {
-        block_laws(block);
+    'places: for k in 0..blocks.len() {
+        block_laws(&blocks[k]);
     }
 }
