@@ -37,8 +37,8 @@ fn reply_to_lines(
 {
     let mut editor = Editor::new(alloc, *diagram)?;
     let mut text = Vec::new(alloc);
-    'lines: for line in script {
-        let done = push_outcome(alloc, &mut text, &mut editor, *line)?;
+    'lines: for at in 0..script.len() {
+        let done = push_outcome(alloc, &mut text, &mut editor, script[at])?;
         if !done {
             return Ok(reply_made(Status::MoveRefused, text));
         }
