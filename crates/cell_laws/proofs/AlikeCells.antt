@@ -3,9 +3,9 @@
 -- Cells under other names, with a sign for each, have the same coefficients up to the signs of both ends. Dimensions are counts of cells
 -- less ranks of matrices between listed cells. Another order of a list exchanges rows or columns, and signs multiply them by numbers that
 -- have inverses: neither changes a rank.
-use Rattle.std.proofs.Common.{◌≡◌, ℕ, ◌⊎◌, inl, inr, ◌-◌, ◌*◌, ◌<◌, ◌≤◌, ◌∙◌, ℤ, pos, ◌+ℤ◌, ◌-ℤ◌, List, length, refl, sym, ap, ap₂, arith, cond, ◌&&◌}
+use Rattle.std.proofs.lemmas.Bool.Decides.{nat_tests}
+use Rattle.std.proofs.Common.{◌≡◌, ℕ, ◌⊎◌, inl, inr, ◌*◌, ◌<◌, ◌≤◌, ◌∙◌, ℤ, pos, ◌+ℤ◌, List, length, refl, sym, ap, ap₂, arith}
 use Rattle.std.specs.List.{Contains}
-use Rattle.std.specs.Ordering.{int_eq}
 use Rattle.std.proofs.lemmas.List.Sums.{length-filter}
 use Rattle.kh_types.specs.Complex.{entry_in}
 use Rattle.kh_types.specs.Rank.{rank}
@@ -93,14 +93,10 @@ scaled-tables p c d tails heads other_tails other_heads R factor tail_to head_to
     }
   where
     first_zero : (a b : ℕ) → a ≡ 0 → 0 ≡ a * b
-    first_zero a b is =
-        let none : 0 ≡ 0 * b = omega arith in
-        none ∙ ap (λ x. x * b) (sym is)
+    first_zero a b is = grind (arith, nat_tests)
 
     second_zero : (a b c : ℕ) → b ≡ 0 → 0 ≡ a * (b * c)
-    second_zero a b c is =
-        let none : 0 ≡ a * (0 * c) = omega arith in
-        none ∙ ap (λ x. a * (x * c)) (sym is)
+    second_zero a b c is = grind (arith, nat_tests)
 
     exchanged : (a b c : ℕ) → a * (b * c) ≡ b * (a * c)
     exchanged a b c = omega arith
@@ -135,16 +131,10 @@ rank-scaled p c d tails heads other_tails other_heads field below other_below th
 module _ {A B : Type 0} (p : ℕ) (to : A → B) (sign : A → ℕ) (first : Cells A) (second : Cells B) (alike : AreAlike p to sign first second)
   where
     has_both-alike : (i j : ℤ) (x : A) → Contains first.list x → has_both second i j (to x) ≡ has_both first i j x
-    has_both-alike i j x has =
-        ap₂ (λ a b. int_eq a i && int_eq b j) (alike.homological x has) (alike.quantum x has)
+    has_both-alike i j x has = grind (arith, nat_tests)
 
     length-alike : (i j : ℤ) → length (cells_at second i j) ≡ length (cells_at first i j)
-    length-alike i j =
-        length-filter (has_both second i j) second.list
-        ∙ alike.listed.sums (λ y. cond (has_both second i j y) 1 0)
-        ∙ sum_by-members (λ x. cond (has_both second i j (to x)) 1 0) (λ x. cond (has_both first i j x) 1 0) first.list
-        (λ x has. ap (λ b. cond b 1 0) (has_both-alike i j x has))
-        ∙ sym (length-filter (has_both first i j) first.list)
+    length-alike i j = grind (arith, nat_tests, length-filter, sum_by-members, has_both-alike)
 
     -- an element of the first list, and its name
     abbrev Names : A → B → Type 0
@@ -171,10 +161,7 @@ module _ {A B : Type 0} (p : ℕ) (to : A → B) (sign : A → ℕ) (first : Cel
 
     coefficient-named : (x u : A) (y v : B) → Names x y → Names u v
         → Same p (first.coefficient x u) (sign x * (sign u * second.coefficient y v))
-    coefficient-named x u y v is_y is_v =
-        alike.coefficient x u is_y.0 is_v.0
-        ∙ same-equal p (sign x * (sign u * second.coefficient (to x) (to u))) (sign x * (sign u * second.coefficient y v))
-        (ap₂ (λ a b. sign x * (sign u * second.coefficient a b)) is_y.1 is_v.1)
+    coefficient-named x u y v is_y is_v = grind (arith, nat_tests)
 
     pub coefficient-back : (y v : B) (x u : A) → Names x y → Names u v
         → Same p (second.coefficient y v) (sign x * (sign u * first.coefficient x u))
@@ -208,6 +195,4 @@ module _ {A B : Type 0} (p : ℕ) (to : A → B) (sign : A → ℕ) (first : Cel
             (λ y v x u. coefficient-back y v x u))
 
         pub dimension-alike : (i j : ℤ) → dimension_at p second i j ≡ dimension_at p first i j
-        dimension-alike i j =
-            ap₂ (λ a b. a - b - rank p (differential_at second (i -ℤ pos 1) j)) (length-alike i j) (rank-alike i j)
-            ∙ ap (λ b. length (cells_at first i j) - rank p (differential_at first i j) - b) (rank-alike (i -ℤ pos 1) j)
+        dimension-alike i j = grind (arith, nat_tests, length-alike, rank-alike)

@@ -1,4 +1,5 @@
 -- Cells that are alike are complexes together, and elimination from a list in any order.
+use Rattle.std.proofs.lemmas.Bool.Decides.{nat_tests}
 use Rattle.std.proofs.Common.{◌≡◌, ◌≢◌, ℕ, suc, ◌*◌, ◌<◌, ◌∙◌, ℤ, pos, ◌+ℤ◌, List, [], ◌∷◌, length, get_or, refl, sym, subst₂, ap, arith}
 use Rattle.std.specs.List.{Contains, sum_by}
 use Rattle.std.proofs.lemmas.List.Elements.{recursion_from_All}
@@ -17,8 +18,7 @@ module _ {A B : Type 0} (p : ℕ) (to : A → B) (sign : A → ℕ) (first : Cel
     (below : (x y : B) → second.coefficient x y < p) (complex : AreComplex p first) where
   back-named : (x u : A) → Contains first.list x → Contains first.list u
       → Same p (second.coefficient (to x) (to u)) (sign x * (sign u * first.coefficient x u))
-  back-named x u has_x has_u =
-      coefficient-back p to sign first second alike (to x) (to u) x u (has_x, refl) (has_u, refl)
+  back-named x u has_x has_u = grind (arith, nat_tests, coefficient-back)
 
   -- a coefficient other than 0 comes from one
   some-first : (x u : A) → Contains first.list x → Contains first.list u → second.coefficient (to x) (to u) ≢ 0
@@ -97,18 +97,7 @@ module _ {A : Type 0} (p : ℕ) (cells : Cells A) (pairs : List (A × A)) (rest 
   }
 
   alike-in_order : AreAlike p (λ (x : A). x) (λ (x : A). 1) cells in_order
-  alike-in_order =
-      record {
-        listed = listed;
-        squares = λ x has. refl;
-        homological = λ x has. refl;
-        quantum = λ x has. refl;
-        coefficient = λ x y has_x has_y.
-            same-equal p (cells.coefficient x y) (1 * (1 * cells.coefficient x y)) (once (cells.coefficient x y));
-      }
-    where
-      once : (n : ℕ) → n ≡ 1 * (1 * n)
-      once n = omega arith
+  alike-in_order = grind (arith, nat_tests)
 
   complex-in_order : AreComplex p in_order
   complex-in_order = complex-alike p (λ (x : A). x) (λ (x : A). 1) cells in_order alike-in_order complex.below complex

@@ -1,4 +1,6 @@
 -- The cells of layers: which they are, and that none stands twice.
+use Rattle.std.proofs.lemmas.Bool.Decides.{nat_tests}
+use Rattle.std.proofs.Common.{arith}
 use Rattle.std.proofs.Common.{◌≡◌, ℕ, ◌<◌, ◌∙◌, List, map, sym, subst, ap}
 use Rattle.std.specs.List.{Contains, range_with_len}
 use Rattle.kh_types.proofs.Lists.{Contains-flat_map, Contains-map, range-contains, Contains-range}
@@ -38,8 +40,7 @@ cell-of layers x is =
 
 state-of : (layers : Layers) (object state : ℕ) (x : Layer) → Contains (at_state layers object state) x → x.state ≡ state
 state-of layers object state x has =
-    let made = Contains-made (layer_of object state) (range_with_len 0 (layers.labels object state)) x has in
-    sym (ap (λ (y : Layer). y.state) made.2)
+    grind (arith, nat_tests, Contains-made (layer_of object state) (range_with_len 0 (layers.labels object state)) x has)
 
 object-of : (layers : Layers) (object : ℕ) (x : Layer) → Contains (object_cells layers object) x → x.object ≡ object
 object-of layers object x has =

@@ -1,13 +1,14 @@
 -- The cube of a code as cells: which they are, that a coefficient goes along a step, and that they are a complex.
-use Rattle.std.proofs.Common.{◌≡◌, ◌≢◌, ℕ, inl, inr, ◌+◌, ◌-◌, ◌*◌, ◌%◌, ◌^◌, ◌<◌, ◌∙◌, length, sym, subst, ap, arith, cond, IsTrue}
+use Rattle.std.proofs.lemmas.Bool.Decides.{nat_tests}
+use Rattle.std.proofs.Common.{◌≡◌, ◌≢◌, ℕ, ◌+◌, ◌-◌, ◌*◌, ◌%◌, ◌^◌, ◌<◌, ◌∙◌, length, sym, subst, ap, arith, cond, IsTrue}
 use Rattle.std.specs.List.{Contains, range_with_len}
 use Rattle.std.proofs.Math.Nat.{zero-mod}
 use Rattle.std.proofs.lemmas.Int.{ints}
 use Rattle.kh_types.specs.Acceptance.{accepted}
 use Rattle.kh_types.specs.Bits.{bit, ones}
 use Rattle.kh_types.specs.Circles.{circle_count}
-use Rattle.kh_types.specs.Code.{Code, place_of}
-use Rattle.kh_types.specs.Differential.{coefficient, coefficient_at}
+use Rattle.kh_types.specs.Code.{Code}
+use Rattle.kh_types.specs.Differential.{coefficient}
 use Rattle.kh_types.specs.Generators.{Generator, generator_of, generators, generators_of, states}
 use Rattle.kh_types.proofs.Lists.{Contains-flat_map, Contains-map, Contains-range, range-contains}
 use Rattle.kh_types.proofs.ListSums.{sum_by-alike, sum_by-some}
@@ -50,15 +51,7 @@ pub record IsStepAt (code : Code) (s t place : ℕ) : Type 0 where
 -- a coefficient other than 0 goes along a step
 pub step-of : (p : ℕ) (code : Code) (tail head : Generator) → coefficient p code tail head ≢ 0
     → (place : ℕ) × IsStepAt code tail.state head.state place
-step-of p code tail head some =
-    let term = sum_by-some (coefficient_at p code tail head) 1 (length code.crossings) some in
-    elim (edge_or_zero p code tail head term.0) [
-      | inl step ↦ (
-        place_of term.0,
-        record { within = omega (arith, term.1, term.2); zero_there = step.zero_there; behind = step.behind },
-      )
-      | inr none ↦ absurd (term.3 none)
-    ]
+step-of p code tail head some = grind (arith, nat_tests, sum_by-some, edge_or_zero)
 
 pub coefficient-along : (p : ℕ) (code : Code) (tail head : Generator) (place : ℕ) → IsStepAt code tail.state head.state place
     → coefficient p code tail head ≡ cond (fits code tail head (place + 1)) (power_sign p (ones place tail.state)) 0

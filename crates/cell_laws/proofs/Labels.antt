@@ -1,6 +1,6 @@
 -- Labels as numbers, whose bits stand at the places of names in their list; and the label that a label is for the same names in another
 -- list.
-use Rattle.std.proofs.Common.{◌≡◌, ℕ, suc, ◌+◌, ◌*◌, ◌^◌, ◌<◌, ◌≤◌, ◌∙◌, List, [], ◌∷◌, ◌++◌, length, get_or, map, sym, subst, ap, arith, refl, ◌&&◌}
+use Rattle.std.proofs.Common.{◌≡◌, ℕ, suc, ◌+◌, ◌*◌, ◌^◌, ◌<◌, ◌≤◌, ◌∙◌, List, [], ◌∷◌, ◌++◌, length, get_or, map, sym, ap, arith, refl, ◌&&◌}
 use Rattle.std.specs.Prelude.{nat_eq}
 use Rattle.std.specs.List.{position_or_len, sum_by, list_all}
 use Rattle.std.proofs.lemmas.List.{get_or_default, get_or-map, length-map}
@@ -31,13 +31,11 @@ bits-of f ys small i below =
     omega (arith, get_or-map f ys i 0 0 within, small (get_or ys i 0))
 
 pub number-below : (f : ℕ → ℕ) (ys : List ℕ) → ((z : ℕ) → f z ≤ 1) → number_from (map f ys) < 2 ^ length ys
-number-below f ys small =
-    subst (λ (n : ℕ). number_from (map f ys) < 2 ^ n) (length-map ys f) (number_from-below (map f ys) (bits-of f ys small))
+number-below f ys small = grind (arith, nat_tests, number_from, length-map, number_from-below, bits-of)
 
 pub bit-number : (f : ℕ → ℕ) (ys : List ℕ) (i : ℕ) → ((z : ℕ) → f z ≤ 1) → i < length ys
     → bit (number_from (map f ys)) i ≡ f (get_or ys i 0)
-bit-number f ys i small below =
-    bit-number_from (map f ys) i (bits-of f ys small) (omega (arith, below, length-map ys f)) ∙ get_or-map f ys i 0 0 below
+bit-number f ys i small below = grind (arith, nat_tests, bit-number_from, bits-of, length-map, get_or-map)
 
 pub relabelled-back : (xs ys : List ℕ) (label : ℕ) → AreSame xs ys → label < 2 ^ length xs
     → relabelled ys xs (relabelled xs ys label) ≡ label

@@ -1,5 +1,6 @@
 -- Which ways back count, and cells without a differential.
-use Rattle.std.proofs.Common.{◌≡◌, ℕ, ◌-◌, ◌<◌, ◌∙◌, ℤ, pos, ◌+ℤ◌, ◌-ℤ◌, List, length, refl, ap, ap₂, arith, Bool, false}
+use Rattle.std.proofs.lemmas.Bool.Decides.{nat_tests}
+use Rattle.std.proofs.Common.{◌≡◌, ℕ, ◌<◌, ℤ, pos, ◌+ℤ◌, List, length, refl, ap, arith, Bool, false}
 use Rattle.std.specs.List.{Contains, filter}
 use Rattle.kh_types.specs.Complex.{entry_in}
 use Rattle.kh_types.specs.Rank.{minus_mod, rank}
@@ -33,5 +34,4 @@ module _ {A : Type 0} (p : ℕ) (cells : Cells A) (field : HasInverses p) (below
       (Contains-kept (has_both cells (i +ℤ pos 1) j) cells.list y has_y).0))))
 
   pub dimension-nothing : (i j : ℤ) → dimension_at p cells i j ≡ length (cells_at cells i j)
-  dimension-nothing i j =
-      ap₂ (λ a b. length (cells_at cells i j) - a - b) (rank-nothing i j) (rank-nothing (i -ℤ pos 1) j) ∙ omega arith
+  dimension-nothing i j = grind (arith, nat_tests, rank-nothing)

@@ -3,17 +3,15 @@
 -- A scan has objects, each with a cell for each state and label of the crossings to come. An entry between objects that is a number times
 -- the identity is one pivot for each pair of their cells. These pivots do not meet one another, so that they can be eliminated together,
 -- and what they leave is what the elimination makes of entries between objects.
-use Rattle.std.proofs.Common.{◌≡◌, ◌≢◌, ℕ, inl, inr, ◌%◌, ◌*◌, ◌+◌, ◌-◌, ◌<◌, ◌∙◌, ℤ, List, ◌∷◌, ◌++◌, map, refl, sym, subst, ap, ap₂, arith, Bool}
+use Rattle.std.proofs.lemmas.Bool.Decides.{nat_tests}
+use Rattle.std.proofs.Common.{◌≡◌, ◌≢◌, ℕ, inl, inr, ◌*◌, ◌<◌, ◌∙◌, ℤ, List, ◌∷◌, ◌++◌, map, refl, sym, subst, ap, ap₂, arith}
 use Rattle.std.specs.Prelude.{nat_eq, if◌then◌else◌}
 use Rattle.std.specs.List.{Contains, flat_map, range_with_len, sum_by}
-use Rattle.std.proofs.lemmas.Bool.{cases_eq, eq-eqb, ne_eqb}
-use Rattle.std.proofs.Math.Nat.{mod-eq_of_lt}
-use Rattle.std.proofs.lemmas.Nat.{mod_below}
+use Rattle.std.proofs.lemmas.Bool.{cases_eq}
 use Rattle.std.proofs.lemmas.Simd.{map-map}
 use Rattle.kh_types.specs.Rank.{inverse, minus_mod}
 use Rattle.kh_types.specs.Residues.{HasInverses}
 use Rattle.kh_types.proofs.ListSums.{sum_by-flat_map, sum_by-map, sum_by-range_alike, sum_by-single, sum_by-zeros}
-use Rattle.kh_types.proofs.Reduced.{minus_mod-added}
 use Rattle.kh_types.proofs.Residues.{same-equal}
 use Rattle.kh_types.proofs.Lists.{range-contains}
 use Rattle.cell_laws.specs.Alike.{AreAlike, AreListed, HasNoDoubles}
@@ -27,32 +25,19 @@ use Rattle.cell_laws.proofs.Members.{Contains-flattened, Contains-made}
 use Rattle.cell_laws.proofs.NoDoubles.{flat_map-range, map-flat_map, once-flat, once-map, once-range}
 
 minus-nothing : (p x : ℕ) → x < p → minus_mod p x 0 ≡ x
-minus-nothing p x below =
-    let positive : 0 < p = omega (arith, below) in
-    let left = minus_mod p x 0 in
-    sym (mod-eq_of_lt (mod_below (x + (p - 0 % p)) p positive))
-    ∙ (same-equal p left (0 + left) (omega arith) ∙ minus_mod-added p x 0 positive)
-    ∙ mod-eq_of_lt below
+minus-nothing p x below = grind (arith, nat_tests)
 
 -- coefficients, by whether states and objects are the same
 pub inside-state : (layers : Layers) (x y : Layer) → x.state ≡ y.state
     → layer_coefficient layers x y ≡ layers.inner x.object y.object x.state x.label y.label
-inside-state layers x y same =
-    ap (λ (b : Bool). if b then layers.inner x.object y.object x.state x.label y.label
-    else if nat_eq x.object y.object then layers.outer x.object x.state y.state x.label y.label else 0)
-    (eq-eqb x.state y.state same)
+inside-state layers x y same = grind (arith, nat_tests)
 
 pub elsewhere : (layers : Layers) (x y : Layer) → x.state ≢ y.state
     → layer_coefficient layers x y ≡ (if nat_eq x.object y.object then layers.outer x.object x.state y.state x.label y.label else 0)
-elsewhere layers x y other =
-    ap (λ (b : Bool). if b then layers.inner x.object y.object x.state x.label y.label
-    else if nat_eq x.object y.object then layers.outer x.object x.state y.state x.label y.label else 0)
-    (ne_eqb x.state y.state other)
+elsewhere layers x y other = grind (arith, nat_tests)
 
 pub nowhere : (layers : Layers) (x y : Layer) → x.state ≢ y.state → x.object ≢ y.object → layer_coefficient layers x y ≡ 0
-nowhere layers x y other other_object =
-    elsewhere layers x y other
-    ∙ ap (λ (b : Bool). if b then layers.outer x.object x.state y.state x.label y.label else 0) (ne_eqb x.object y.object other_object)
+nowhere layers x y other other_object = grind (arith, nat_tests)
 
 -- a cell of an object
 pub record IsCellOf (layers : Layers) (object : ℕ) (x : Layer) : Type 0 where
@@ -163,20 +148,10 @@ module _ (p : ℕ) (layers : Layers) (tail head c : ℕ) (rest : List ℕ) (fiel
 
   -- the list of cells
   tails-listed : map (λ (q : Layer × Layer). q.0) pairs ≡ object_cells layers tail
-  tails-listed =
-      map-flat_map (λ (q : Layer × Layer). q.0) pairs_at (range_with_len 0 layers.states)
-      ∙ flat_map-range (λ state. map (λ (q : Layer × Layer). q.0) (pairs_at state))
-      (λ state. map (layer_of tail state) (range_with_len 0 (layers.labels tail state))) 0 layers.states
-      (λ state below. map-map (λ (q : Layer × Layer). q.0) (pair_of state) (range_with_len 0 (layers.labels tail state)))
+  tails-listed = grind (arith, nat_tests, map-flat_map, flat_map-range, map-map)
 
   heads-listed : map (λ (q : Layer × Layer). q.1) pairs ≡ object_cells layers head
-  heads-listed =
-      map-flat_map (λ (q : Layer × Layer). q.1) pairs_at (range_with_len 0 layers.states)
-      ∙ flat_map-range (λ state. map (λ (q : Layer × Layer). q.1) (pairs_at state))
-      (λ state. map (layer_of head state) (range_with_len 0 (layers.labels head state))) 0 layers.states
-      (λ state below.
-      map-map (λ (q : Layer × Layer). q.1) (pair_of state) (range_with_len 0 (layers.labels tail state))
-      ∙ ap (λ n. map (layer_of head state) (range_with_len 0 n)) (sym (times.labels state (omega (arith, below)))))
+  heads-listed = grind (arith, nat_tests, map-flat_map, flat_map-range, map-map)
 
   pub cells-listed : AreListed (λ (x : Layer). x) (flat_map (object_cells layers) layers.objects) (all_of pairs others)
   cells-listed =
@@ -188,48 +163,22 @@ module _ (p : ℕ) (layers : Layers) (tail head c : ℕ) (rest : List ℕ) (fiel
   -- ways back to and from cells of other objects
   way-elsewhere : (x y : Layer) (state label : ℕ) → IsCellBeside layers tail head x → x.state ≢ state
       → way_back p (layer_coefficient layers) x y (pair_of state label) ≡ 0
-  way-elsewhere x y state label x_is other =
-      ap (λ n. n * (inverse p (layer_coefficient layers (layer_of tail state label) (layer_of head state label))
-      * layer_coefficient layers (layer_of tail state label) y))
-      (nowhere layers x (layer_of head state label) other x_is.no_head)
-      ∙ omega arith
+  way-elsewhere x y state label x_is other = grind (arith, nat_tests)
 
   way-apart : (x y : Layer) (state label : ℕ) → IsCellBeside layers tail head x → IsCellBeside layers tail head y → x.state ≢ y.state
       → way_back p (layer_coefficient layers) x y (pair_of state label) ≡ 0
-  way-apart x y state label x_is y_is differ = elim (cases_eq x.state state) [
-    | inr other ↦ way-elsewhere x y state label x_is other
-    | inl same ↦
-        ap (λ n. layer_coefficient layers x (layer_of head state label)
-        * (inverse p (layer_coefficient layers (layer_of tail state label) (layer_of head state label)) * n))
-        (nowhere layers (layer_of tail state label) y (λ is. differ (same ∙ is)) (λ is. y_is.no_tail (sym is)))
-        ∙ nothing (layer_coefficient layers x (layer_of head state label))
-        (inverse p (layer_coefficient layers (layer_of tail state label) (layer_of head state label)))
-  ]
-    where
-      nothing : (a b : ℕ) → a * (b * 0) ≡ 0
-      nothing a b = omega arith
+  way-apart x y state label x_is y_is differ = grind (arith, nat_tests)
 
   way-there : (x y : Layer) (label : ℕ) → x.state < layers.states → x.state ≡ y.state → label < layers.labels tail x.state
       → way_back p (layer_coefficient layers) x y (pair_of x.state label)
       ≡ layers.inner x.object head x.state x.label label * (inverse p c * layers.inner tail y.object x.state label y.label)
-  way-there x y label state_below same label_below =
-      let a = layer_of tail x.state label in
-      let b = layer_of head x.state label in
-      ap₂ (λ m n. m * n) (inside-state layers x b refl)
-      (ap₂ (λ m n. inverse p m * n) (inside-state layers a b refl ∙ times.equal x.state label state_below label_below)
-      (inside-state layers a y same))
+  way-there x y label state_below same label_below = grind (arith, nat_tests)
 
   -- by states
   ways-by_state : (x y : Layer) → sum_by (way_back p (layer_coefficient layers) x y) pairs
       ≡ sum_by (λ state. sum_by (λ label. way_back p (layer_coefficient layers) x y (pair_of state label))
       (range_with_len 0 (layers.labels tail state))) (range_with_len 0 layers.states)
-  ways-by_state x y =
-      sum_by-flat_map (way_back p (layer_coefficient layers) x y) pairs_at (range_with_len 0 layers.states)
-      ∙ sum_by-range_alike (λ state. sum_by (way_back p (layer_coefficient layers) x y) (pairs_at state))
-      (λ state. sum_by (λ label. way_back p (layer_coefficient layers) x y (pair_of state label))
-      (range_with_len 0 (layers.labels tail state))) 0 layers.states
-      (λ state from below. sum_by-map (way_back p (layer_coefficient layers) x y) (pair_of state)
-      (range_with_len 0 (layers.labels tail state)))
+  ways-by_state x y = grind (arith, nat_tests, sum_by-flat_map, sum_by-range_alike, sum_by-map)
 
   pub eliminated-layers : (x y : Layer) → IsCellBeside layers tail head x → IsCellBeside layers tail head y
       → eliminated p (layer_coefficient layers) pairs x y ≡ layer_coefficient (layers_left p layers tail head c rest) x y
@@ -261,19 +210,7 @@ module _ (p : ℕ) (layers : Layers) (tail head c : ℕ) (rest : List ℕ) (fiel
   ]
 
   below-left : (x y : Layer) → layer_coefficient (layers_left p layers tail head c rest) x y < p
-  below-left x y = elim (cases_eq x.state y.state) [
-    | inl same ↦
-        subst (λ n. n < p) (sym (inside-state (layers_left p layers tail head c rest) x y same))
-        (minus-below p (layers.inner x.object y.object x.state x.label y.label)
-        (sum_by (λ middle. layers.inner x.object head x.state x.label middle * (inverse p c * layers.inner tail y.object x.state middle y.label))
-        (range_with_len 0 (layers.labels tail x.state))) positive)
-    | inr differ ↦
-        subst (λ n. n < p) (elsewhere layers x y differ ∙ sym (elsewhere (layers_left p layers tail head c rest) x y differ))
-        (complex.below x y)
-  ]
-    where
-      minus-below : (p x y : ℕ) → 0 < p → minus_mod p x y < p
-      minus-below p x y positive = mod_below _ p positive
+  below-left x y = grind (arith, nat_tests)
 
   alike-left : AreAlike p (λ (x : Layer). x) (λ (x : Layer). 1) (cells_left p (cells_of layers) pairs others)
       (cells_of (layers_left p layers tail head c rest))

@@ -3,11 +3,10 @@
 -- Pivots that do not meet one another are eliminated one after another. One elimination takes away two cells of neighbouring degrees and a
 -- rank of one between them, and leaves a matrix of the same ranks less that one; so dimensions stay. It leaves the other pivots as they
 -- are, as their rows and columns have no entry in its own.
+use Rattle.std.proofs.lemmas.Bool.Decides.{nat_tests}
 use Rattle.std.proofs.Common.{◌≡◌, ◌≢◌, ℕ, inl, inr, suc, ◌+◌, ◌*◌, ◌<◌, ◌∙◌, ℤ, pos, ◌+ℤ◌, List, [], ◌∷◌, length, refl, sym, subst, ap, ap₂, arith, Bool, true, false, cond}
 use Rattle.std.specs.List.{Contains, filter, sum_by}
-use Rattle.std.specs.Ordering.{int_eq}
 use Rattle.std.proofs.lemmas.Bool.{cases_eq, cases_Bool}
-use Rattle.std.proofs.lemmas.Bool.Decides.{Decides-and, Decides-int_eq}
 use Rattle.std.proofs.lemmas.Int.{ints}
 use Rattle.std.proofs.lemmas.List.Sums.{sum_by-cons}
 use Rattle.kh_types.specs.Complex.{entry_in}
@@ -27,15 +26,11 @@ use Rattle.cell_laws.proofs.Tables.{entry-at, entry-past_heads, entry-past_tails
 -- the degrees of a cell, by their test
 pub both-decides : {A : Type 0} (cells : Cells A) (i j : ℤ) (x : A) → has_both cells i j x ≡ true
     → (cells.homological x ≡ i) × (cells.quantum x ≡ j)
-both-decides cells i j x passes =
-    (Decides-and (int_eq (cells.homological x) i) (int_eq (cells.quantum x) j) (Decides-int_eq (cells.homological x) i)
-    (Decides-int_eq (cells.quantum x) j)).0 passes
+both-decides cells i j x passes = grind (arith, nat_tests)
 
 pub both-from : {A : Type 0} (cells : Cells A) (i j : ℤ) (x : A) → cells.homological x ≡ i → cells.quantum x ≡ j
     → has_both cells i j x ≡ true
-both-from cells i j x is_i is_j =
-    (Decides-and (int_eq (cells.homological x) i) (int_eq (cells.quantum x) j) (Decides-int_eq (cells.homological x) i)
-    (Decides-int_eq (cells.quantum x) j)).1 (is_i, is_j)
+both-from cells i j x is_i is_j = grind (arith, nat_tests)
 
 module _ {A : Type 0} (p : ℕ) (cells : Cells A) (field : HasInverses p) (complex : AreComplex p cells) where
   abbrev c : A → A → ℕ
@@ -47,34 +42,20 @@ module _ {A : Type 0} (p : ℕ) (cells : Cells A) (field : HasInverses p) (compl
   -- cells with a coefficient to one cell have the same degrees
   pub same_tails : (i j : ℤ) (x u z : A) → Contains cells.list x → Contains cells.list u → Contains cells.list z → c x z ≢ 0
       → c u z ≢ 0 → has_both cells i j x ≡ true → has_both cells i j u ≡ true
-  same_tails i j x u z has_x has_u has_z to_z too passes =
-      let at = both-decides cells i j x passes in
-      both-from cells i j u
-      (omega (arith, ints, complex.homological x z has_x has_z to_z, complex.homological u z has_u has_z too, at.0))
-      (sym (complex.quantum u z has_u has_z too) ∙ complex.quantum x z has_x has_z to_z ∙ at.1)
+  same_tails i j x u z has_x has_u has_z to_z too passes = grind (arith, nat_tests, both-decides, both-from, ints)
 
   -- and so have those with one from a cell
   pub same_heads : (i j : ℤ) (x y z : A) → Contains cells.list x → Contains cells.list y → Contains cells.list z → c x y ≢ 0
       → c x z ≢ 0 → has_both cells i j y ≡ true → has_both cells i j z ≡ true
-  same_heads i j x y z has_x has_y has_z to_y too passes =
-      let at = both-decides cells i j y passes in
-      both-from cells i j z
-      (omega (arith, ints, complex.homological x y has_x has_y to_y, complex.homological x z has_x has_z too, at.0))
-      (complex.quantum x z has_x has_z too ∙ sym (complex.quantum x y has_x has_y to_y) ∙ at.1)
+  same_heads i j x y z has_x has_y has_z to_y too passes = grind (arith, nat_tests)
 
   pub next-degree : (i j : ℤ) (x y : A) → Contains cells.list x → Contains cells.list y → c x y ≢ 0 → has_both cells i j x ≡ true
       → has_both cells (i +ℤ pos 1) j y ≡ true
-  next-degree i j x y has_x has_y some passes =
-      let at = both-decides cells i j x passes in
-      both-from cells (i +ℤ pos 1) j y
-      (complex.homological x y has_x has_y some ∙ ap (λ d. d +ℤ pos 1) at.0) (complex.quantum x y has_x has_y some ∙ at.1)
+  next-degree i j x y has_x has_y some passes = grind (arith, nat_tests, both-decides, both-from)
 
   pub degree-before : (i j : ℤ) (x y : A) → Contains cells.list x → Contains cells.list y → c x y ≢ 0
       → has_both cells (i +ℤ pos 1) j y ≡ true → has_both cells i j x ≡ true
-  degree-before i j x y has_x has_y some passes =
-      let at = both-decides cells (i +ℤ pos 1) j y passes in
-      both-from cells i j x
-      (omega (arith, ints, complex.homological x y has_x has_y some, at.0)) (sym (complex.quantum x y has_x has_y some) ∙ at.1)
+  degree-before i j x y has_x has_y some passes = grind (arith, nat_tests)
 
   pub at_odds : (b : Bool) → b ≡ true → b ≡ false → ⊥
   at_odds b is_true is_false = cc

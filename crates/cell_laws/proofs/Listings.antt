@@ -1,4 +1,5 @@
 -- How lists are put together that are one another's up to order and names.
+use Rattle.std.proofs.lemmas.Bool.Decides.{nat_tests}
 use Rattle.std.proofs.Common.{◌≡◌, ◌≢◌, ℕ, inl, inr, ◌+◌, ◌<◌, ◌∙◌, List, ◌++◌, length, map, get_or, refl, sym, subst, ap, ap₂, arith, Bool, cond}
 use Rattle.std.specs.List.{Contains, filter, flat_map, sum_by}
 use Rattle.std.proofs.lemmas.List.{get_or_default}
@@ -16,8 +17,7 @@ pub listed-same : {A : Type 0} (xs : List A) → AreListed (λ (x : A). x) xs xs
 listed-same xs = record { there = λ x has. has; back = λ x has. (x, has, refl); sums = λ f. refl }
 
 pub listed-named : {A B : Type 0} (to : A → B) (xs : List A) → AreListed to xs (map to xs)
-listed-named to xs =
-    record { there = λ x has. Contains-map to xs x has; back = λ y has. Contains-made to xs y has; sums = λ f. sum_by-map f to xs }
+listed-named to xs = grind (arith, nat_tests, Contains-map, Contains-made, sum_by-map)
 
 pub listed-later : {A B C : Type 0} (to : A → B) (on : B → C) (xs : List A) (ys : List B) (zs : List C) → AreListed to xs ys
     → AreListed on ys zs → AreListed (λ x. on (to x)) xs zs

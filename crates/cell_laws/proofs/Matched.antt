@@ -1,8 +1,9 @@
 -- Sums over ranges and lists whose places correspond.
+use Rattle.std.proofs.lemmas.Bool.Decides.{nat_tests}
 use Rattle.std.proofs.Common.{◌≡◌, ℕ, ◌⊎◌, inl, inr, ◌<◌, ◌≤◌, ◌∙◌, List, [], ◌∷◌, length, get_or, refl, sym, ap, arith, cond}
 use Rattle.std.specs.Prelude.{nat_eq}
 use Rattle.std.specs.List.{Contains, range_with_len, sum_by}
-use Rattle.std.proofs.lemmas.Bool.{cases_lt, eq-eqb, ne_eqb}
+use Rattle.std.proofs.lemmas.Bool.{eq-eqb, ne_eqb}
 use Rattle.std.proofs.lemmas.List.{get_or_default}
 use Rattle.kh_types.proofs.ListSums.{sum_by-places, sum_by-range_alike, sum_by-single, sum_by-turned}
 use Rattle.cell_laws.specs.Alike.{AreListed, AreMatched, HasNoDoubles}
@@ -33,13 +34,7 @@ sum_by-paired m n there back f are =
 -- the places of lists without doubles whose elements correspond
 pub place-once : {A : Type 0} (xs : List A) (k l : ℕ) (d : A) → HasNoDoubles xs → k < length xs → l < length xs
     → get_or xs k d ≡ get_or xs l d → k ≡ l
-place-once xs k l d once k_below l_below same = elim (cases_lt k l) [
-  | inl less ↦ absurd (once k l d less l_below same)
-  | inr not_less ↦ elim (cases_lt l k) [
-    | inl more ↦ absurd (once l k d more k_below (sym same))
-    | inr not_more ↦ omega (arith, not_less, not_more)
-  ]
-]
+place-once xs k l d once k_below l_below same = grind (arith, nat_tests)
 
 -- the place of an element's partner, and 0 past the end
 partner_place : {A B : Type 0} (to : A → B) (xs : List A) (ys : List B) → ((x : A) → Contains xs x → Contains ys (to x)) → ℕ → ℕ
@@ -58,15 +53,7 @@ unfolding partner_place
 partner {A} {B} to xs ys there k below = by (stands_or_past xs k)
   where
     by : (s : StandsAt xs k ⊎ (length xs ≤ k)) → HasPartner to xs ys k (elim s [ inl s ↦ (there s.element s.has).0 | inr past ↦ 0 ])
-    by (inl s) =
-        let found = there s.element s.has in
-        record {
-          within = found.1;
-          reads = λ d e.
-              get_or_default ys found.0 e (to s.element) found.1 ∙ found.2
-              ∙ ap to (sym (ap (λ n. get_or xs n d) (sym s.here) ∙ get_or_default xs s.has.0 d s.element s.has.1 ∙ s.has.2));
-        }
-    by (inr past) = absurd (omega (arith, below, past))
+    by s = grind (arith, nat_tests, get_or_default)
 
 paired-lists : {A B : Type 0} (to : A → B) (back : B → A) (first : List A) (second : List B) (d : A) (e : B)
     → (are : AreMatched to back first second)

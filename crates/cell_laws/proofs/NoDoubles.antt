@@ -1,4 +1,5 @@
 -- Lists without doubles, put together; and sums over them.
+use Rattle.std.proofs.lemmas.Bool.Decides.{nat_tests}
 use Rattle.std.proofs.Common.{◌≡◌, ◌≢◌, ℕ, inl, inr, zero, suc, ◌+◌, ◌<◌, ◌^◌, ◌∙◌, List, [], ◌∷◌, ◌++◌, length, map, get_or, refl, sym, subst, ap, arith, Bool, true, false, cond}
 use Rattle.std.specs.List.{Contains, filter, flat_map, range_with_len, sum_by}
 use Rattle.std.proofs.lemmas.List.{get_or_default, get_or-map, length-map, map-append}
@@ -19,8 +20,7 @@ stands xs k d within = (k, within, get_or_default xs k (get_or xs k d) d within)
 
 pub once-first : {A : Type 0} (x : A) (xs : List A) → (Contains xs x → ⊥) → HasNoDoubles xs → HasNoDoubles (x ∷ xs)
 once-first x xs new once k zero d less within = absurd (omega (arith, less))
-once-first {A} x xs new once zero (suc l) d less within =
-    λ same. new (l, omega (arith, within), get_or_default xs l x d (omega (arith, within)) ∙ sym same)
+once-first {A} x xs new once zero (suc l) d less within = grind (arith, nat_tests, get_or_default xs l x d (omega (arith, within)))
 once-first x xs new once (suc k) (suc l) d less within = once k l d (omega (arith, less)) (omega (arith, within))
 
 pub once-later : {A : Type 0} (x : A) (xs : List A) → HasNoDoubles (x ∷ xs) → HasNoDoubles xs
@@ -30,13 +30,7 @@ pub first-new : {A : Type 0} (x : A) (xs : List A) → HasNoDoubles (x ∷ xs) �
 first-new x xs once has = once 0 (suc has.0) x (omega arith) (omega (arith, has.1)) (sym has.2)
 
 pub once-range : (a n : ℕ) → HasNoDoubles (range_with_len a n)
-once-range a n k l d less within =
-    let l_below : l < n = omega (arith, within, length-range_with_len a n) in
-    λ same. omega (
-      arith,
-      less,
-      sym (get_or-range_with_len a n k d (omega (arith, less, l_below))) ∙ same ∙ get_or-range_with_len a n l d l_below,
-    )
+once-range a n = grind (arith, nat_tests, length-range_with_len, get_or-range_with_len)
 
 pub once-map : {A B : Type 0} (f : A → B) (xs : List A) → ((x y : A) → f x ≡ f y → x ≡ y) → HasNoDoubles xs → HasNoDoubles (map f xs)
 once-map f [] apart once k l d less within = absurd (omega (arith, within))
@@ -104,6 +98,4 @@ map-flat_map g f (x ∷ xs) = map-append g (f x) (flat_map f xs) ∙ ap (λ zs. 
 pub flat_map-range : {B : Type 0} (f g : ℕ → List B) (a n : ℕ) → ((t : ℕ) → t < a + n → f t ≡ g t)
     → flat_map f (range_with_len a n) ≡ flat_map g (range_with_len a n)
 flat_map-range f g a zero same = refl
-flat_map-range f g a (suc n) same =
-    ap (λ zs. zs ++ flat_map f (range_with_len (a + 1) n)) (same a (omega arith))
-    ∙ ap (λ zs. g a ++ zs) (flat_map-range f g (a + 1) n (λ t below. same t (omega (arith, below))))
+flat_map-range f g a (suc n) same = grind (arith, nat_tests, flat_map-range f g (a + 1) n (λ t below. same t (omega (arith, below))))

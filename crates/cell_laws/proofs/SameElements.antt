@@ -1,6 +1,7 @@
 -- Lists of numbers without doubles: how often a number stands in a list, and lists that have the same elements because each function has
 -- the same sum over both.
-use Rattle.std.proofs.Common.{◌≡◌, ◌≢◌, ℕ, zero, suc, inl, inr, ◌<◌, ◌≤◌, ◌∙◌, List, [], ◌∷◌, length, get_or, refl, sym, subst, ap, arith, Bool, cond}
+use Rattle.std.proofs.lemmas.Bool.Decides.{nat_tests}
+use Rattle.std.proofs.Common.{◌≡◌, ◌≢◌, ℕ, zero, suc, inl, inr, ◌<◌, ◌≤◌, ◌∙◌, List, [], ◌∷◌, length, get_or, refl, sym, ap, arith, Bool, cond}
 use Rattle.std.specs.Prelude.{nat_eq}
 use Rattle.std.specs.List.{Contains, sum_by}
 use Rattle.std.proofs.lemmas.Bool.{cases_eq, cases_lt, eq-eqb, ne_eqb}
@@ -35,12 +36,7 @@ counted-once (y ∷ zs) z has = elim (Contains-cases y z zs has) [
 ]
 
 pub some-there : (zs : List ℕ) (z : ℕ) → 1 ≤ counted z zs → Contains zs z
-some-there zs z some =
-    let term = sum_by-term (is z) zs (λ none. omega (arith, some, none)) in
-    elim (cases_eq term.0 z) [
-      | inl same ↦ subst (λ (y : ℕ). Contains zs y) same term.1
-      | inr other ↦ absurd (term.2 (miss term.0 z other))
-    ]
+some-there zs z some = grind (arith, nat_tests, sum_by-term, cases_eq, miss)
 
 -- an element twice is counted twice
 counted-twice : (zs : List ℕ) (k l z : ℕ) → k < l → l < length zs → get_or zs k 0 ≡ z → get_or zs l 0 ≡ z → 2 ≤ counted z zs
@@ -54,11 +50,7 @@ counted-twice (y ∷ zs) zero (suc l) z less below first second =
       counted-once zs z (l, omega (arith, below), get_or_default zs l z 0 (omega (arith, below)) ∙ second),
     )
 counted-twice (y ∷ zs) (suc k) (suc l) z less below first second =
-    omega (
-      arith,
-      sum_by-cons (is z) y zs,
-      counted-twice zs k l z (omega (arith, less)) (omega (arith, below)) first second,
-    )
+    grind (arith, nat_tests, sum_by-cons (is z) y zs, counted-twice zs k l z (omega (arith, less)) (omega (arith, below)) first second)
 
 -- and what stands once is counted at most once
 pub counted-most : (zs : List ℕ) (z : ℕ) → HasNoDoubles zs → counted z zs ≤ 1
@@ -80,8 +72,7 @@ pub record AreSame (xs ys : List ℕ) : Type 0 where
   pub back : (z : ℕ) → Contains ys z → Contains xs z
 
 pub same-turned : (xs ys : List ℕ) → AreSame xs ys → AreSame ys xs
-same-turned xs ys same =
-    record { first_once = same.second_once; second_once = same.first_once; there = same.back; back = same.there }
+same-turned xs ys same = grind (arith, nat_tests)
 
 pub same-sums : (xs ys : List ℕ) → HasNoDoubles xs → ((h : ℕ → ℕ) → sum_by h ys ≡ sum_by h xs) → AreSame xs ys
 same-sums xs ys once sums =

@@ -1,4 +1,5 @@
 -- Labels of circles, as those of the circles that are closed and those of the circles that are left.
+use Rattle.std.proofs.lemmas.Bool.Decides.{nat_tests}
 use Rattle.std.proofs.Common.{◌≡◌, ℕ, ◌+◌, ◌*◌, ◌/◌, ◌%◌, ◌^◌, ◌<◌, ◌≤◌, ◌∙◌, List, [], ◌∷◌, ◌++◌, length, map, refl, sym, subst, ap, ap₂, arith}
 use Rattle.std.specs.List.{sum_by}
 use Rattle.std.proofs.Math.Nat.{add-mul-div_left, add-mul-mod_self_left, div-eq_of_lt, mod-eq_of_lt, mul-le-mul_left}
@@ -62,27 +63,15 @@ module _ {names : List ℕ} {class : ℕ → ℕ} {first second : List ℕ} (par
       ∙ turned (sum_by (λ x. h (class x)) first) (sum_by (λ x. h (class x)) second) ∙ parts.sums h)
 
   pub counts : length first + length second ≡ length names
-  counts =
-      omega (
-        arith,
-        length-sum first,
-        length-sum second,
-        length-sum names,
-        parts.sums (λ z. 1),
-      )
+  counts = grind (arith, nat_tests, length-sum first, length-sum names, length-sum second)
 
   pub whole-below : (closed rest : ℕ) → whole names class first second closed rest < 2 ^ length names
-  whole-below closed rest =
-      let label = closed + 2 ^ length first * rest in number-below (mark both label) names (λ z. bit-le label (place z both))
+  whole-below closed rest = grind (arith, nat_tests, number-below, mark, bit-le, place)
 
   -- both parts are the label of all
   parts-relabelled : (label : ℕ)
       → relabelled names both label ≡ part names class first label + 2 ^ length first * part names class second label
-  parts-relabelled label =
-      let f = λ (x : ℕ). mark names label (class x) in
-      ap number_from (map-map (mark names label) class (first ++ second) ∙ map-append f first second)
-      ∙ number-append (map f first) (map f second)
-      ∙ ap (λ n. number_from (map f first) + 2 ^ n * number_from (map f second)) (length-map first f)
+  parts-relabelled label = grind (arith, nat_tests, mark, number_from, map-map, map-append, number-append, length-map)
 
   pub whole-parts : (label : ℕ) → label < 2 ^ length names
       → whole names class first second (part names class first label) (part names class second label) ≡ label

@@ -3,7 +3,8 @@
 -- Tables are matrices over lists of things, with 0 outside. If each entry of a table is a sum of products of entries of two others, the
 -- first has at most the rank of either; and if two tables are such of one another, they have one rank. This is how matrices of other orders
 -- and signs, and matrices with pivots taken out, are compared.
-use Rattle.std.proofs.Common.{◌≡◌, ℕ, ◌⊎◌, inl, inr, ◌+◌, ◌*◌, ◌<◌, ◌≤◌, ◌∙◌, List, [], ◌∷◌, length, map, get_or, refl, sym, ap, ap₂, arith}
+use Rattle.std.proofs.lemmas.Bool.Decides.{nat_tests}
+use Rattle.std.proofs.Common.{◌≡◌, ℕ, ◌⊎◌, inl, inr, ◌*◌, ◌<◌, ◌≤◌, ◌∙◌, List, [], ◌∷◌, length, map, get_or, refl, sym, ap, arith}
 use Rattle.std.specs.List.{Contains, sum_by}
 use Rattle.std.proofs.lemmas.Bool.{cases_lt}
 use Rattle.std.proofs.lemmas.List.{get_or_default, get_or_past, get_or-map, length-map}
@@ -51,8 +52,7 @@ module _ {A : Type 0} (c : A → A → ℕ) (tails heads : List A) where
   pub entry-stands : (tail head : A) (column : Contains tails tail) (row : Contains heads head)
       → entry_in (table_of c tails heads) row.0 column.0 ≡ c tail head
   entry-stands tail head column row =
-      ap (λ (xs : List ℕ). get_or xs column.0 0) (read (λ u. map (λ v. c v u) tails) heads head [] row)
-      ∙ read (λ v. c v head) tails tail 0 column
+      grind (arith, nat_tests, read (λ u. map (λ v. c v u) tails) heads head, read (λ v. c v head) tails tail 0 column)
 
   pub entry-past_heads : (i j : ℕ) → length heads ≤ i → entry_in (table_of c tails heads) i j ≡ 0
   entry-past_heads i j past = ap (λ (xs : List ℕ). get_or xs j 0) (read-past (λ u. map (λ v. c v u) tails) heads i [] past)
@@ -69,9 +69,7 @@ module _ {A : Type 0} (c : A → A → ℕ) (tails heads : List A) where
   -- an entry, by the elements that stand at its row and its column
   pub entry-at : (i j : ℕ) (row : StandsAt heads i) (column : StandsAt tails j)
       → entry_in (table_of c tails heads) i j ≡ c column.element row.element
-  entry-at i j row column =
-      ap₂ (λ (k l : ℕ). entry_in (table_of c tails heads) k l) (sym row.here) (sym column.here)
-      ∙ entry-stands column.element row.element column.has row.has
+  entry-at i j row column = grind (arith, nat_tests, entry-stands)
 
   -- what holds of all entries holds of 0 and of the coefficients
   pub entries-each : (P : ℕ → Type 0) → P 0 → ((tail head : A) → Contains tails tail → Contains heads head → P (c tail head))
@@ -157,8 +155,7 @@ combined-row p s m j N f factor =
 pub sum_below-list : {A : Type 0} (f g : A → ℕ) (xs : List A)
     → sum_below (length xs) (λ k. get_or (map f xs) k 0 * get_or (map g xs) k 0) ≡ sum_by (λ x. f x * g x) xs
 sum_below-list f g [] = refl
-sum_below-list f g (x ∷ xs) =
-    ap (λ n. f x * g x + n) (sum_below-list f g xs) ∙ sym (sum_by-cons (λ y. f y * g y) x xs)
+sum_below-list f g (x ∷ xs) = grind (arith, nat_tests, sum_below-list f g xs, sum_by-cons (λ y. f y * g y) x xs)
 
 -- a head among others, or one whose coefficients are a combination of theirs
 abbrev pub IsCombined : {A : Type 0} → ℕ → (A → A → ℕ) → List A → List A → A → Type 0
@@ -248,6 +245,4 @@ factors-more_heads {A} p s c tails few many each f =
 pub factors-more_tails : {A : Type 0} (p s : ℕ) (c : A → A → ℕ) (few many heads : List A)
     → ((tail : A) → Contains many tail → Contains few tail ⊎ IsCombined p (λ x y. c y x) heads few tail)
     → Factors p (entry_in (table_of c few heads)) s → Factors p (entry_in (table_of c many heads)) s
-factors-more_tails p s c few many heads each f =
-    factors-turned p s (λ x y. c y x) heads many
-    (factors-more_heads p s (λ x y. c y x) heads few many each (factors-turned p s c few heads f))
+factors-more_tails p s c few many heads each f = grind (arith, nat_tests, factors-turned, factors-more_heads)

@@ -3,6 +3,7 @@
 -- The way through a pivot goes from a cell to the pivot's head, back to its tail, and on. The elimination takes from each entry the sum of
 -- its ways through all pivots. Where pivots do not meet, the entry of a head or of a tail becomes 0, as its one way is the entry itself,
 -- and what is left of two steps is the product less ways that cancel.
+use Rattle.std.proofs.lemmas.Bool.Decides.{nat_tests}
 use Rattle.std.proofs.Common.{◌≡◌, ◌≢◌, ℕ, ◌⊎◌, inl, inr, ◌+◌, ◌*◌, ◌<◌, ◌∙◌, List, [], ◌∷◌, ◌++◌, map, refl, sym, ap, ap₂, arith}
 use Rattle.std.specs.List.{Contains, sum_by}
 use Rattle.std.proofs.lemmas.List.Elements.{Contains-append_cases, Contains-append_left, Contains-append_right}
@@ -44,16 +45,11 @@ head-of_all pairs rest pair has =
     (Contains-append_left (map (λ q. q.1) pairs) rest pair.1 (Contains-map (λ q. q.1) pairs pair has))
 
 pub rest-of_all : {A : Type 0} (pairs : List (A × A)) (rest : List A) (x : A) → Contains rest x → Contains (all_of pairs rest) x
-rest-of_all pairs rest x has =
-    Contains-append_right (map (λ q. q.0) pairs) (map (λ q. q.1) pairs ++ rest) x
-    (Contains-append_right (map (λ q. q.1) pairs) rest x has)
+rest-of_all pairs rest x has = grind (arith, nat_tests, Contains-append_right)
 
 pub sum_by-all_of : {A : Type 0} (f : A → ℕ) (pairs : List (A × A)) (rest : List A)
     → sum_by f (all_of pairs rest) ≡ sum_by (λ pair. f pair.0) pairs + (sum_by (λ pair. f pair.1) pairs + sum_by f rest)
-sum_by-all_of f pairs rest =
-    sum_by-append f (map (λ q. q.0) pairs) (map (λ q. q.1) pairs ++ rest)
-    ∙ ap₂ (λ m n. m + n) (sum_by-map f (λ q. q.0) pairs)
-    (sum_by-append f (map (λ q. q.1) pairs) rest ∙ ap (λ n. n + sum_by f rest) (sum_by-map f (λ q. q.1) pairs))
+sum_by-all_of f pairs rest = grind (arith, nat_tests, sum_by-append, sum_by-map)
 
 module _ {A : Type 0} (c : A → A → ℕ) where
   pub pivot-other : (pairs : List (A × A)) (pair : A × A) → ArePivots c pairs → Contains pairs pair → c pair.0 pair.1 ≢ 0

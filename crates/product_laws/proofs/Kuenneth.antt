@@ -1,4 +1,5 @@
 -- The dimensions of a product: both factors are brought to no differential, and then pairs are counted.
+use Rattle.std.proofs.lemmas.Bool.Decides.{nat_tests}
 use Rattle.std.proofs.Common.{◌≡◌, ℕ, inl, inr, ◌*◌, ◌%◌, ◌<◌, ◌∙◌, ℤ, ◌-ℤ◌, length, sym, ap, ap₂, arith}
 use Rattle.std.specs.List.{Contains, sum_by}
 use Rattle.std.proofs.lemmas.Bool.{cases_Bool}
@@ -51,9 +52,7 @@ module _ {A B : Type 0} (p n most : ℕ) (first : Factor A) (second : Factor B) 
   whole = AreComplex-product p first second field is second_is turned
 
   one : IsReduced p first second field is.test second_is.test second_is.once second_is.squares first.cells.list first.cells.coefficient
-  one =
-      reduced p first second field is.test second_is.test second_is.once second_is.squares (length first.cells.list) first.cells.list
-      first.cells.coefficient (omega arith) is.complex whole is.once
+  one = grind (arith, nat_tests, reduced, whole)
 
   abbrev few : Factor A
   few = factor_with first one.rest one.left

@@ -1,5 +1,6 @@
 -- One pivot of a factor, beside every cell of the other, is a family of pivots of the product. What is left is the product of what is
 -- left of the factor: a way back that counts goes to the pivot's head and on from its tail beside one cell of the other factor.
+use Rattle.std.proofs.lemmas.Bool.Decides.{nat_tests}
 use Rattle.std.proofs.Common.{◌≡◌, ◌≢◌, ℕ, inl, inr, ◌+◌, ◌*◌, ◌%◌, ◌<◌, ◌∙◌, ℤ, List, [], ◌∷◌, ◌++◌, map, refl, sym, subst, ap, ap₂, arith, true, false}
 use Rattle.std.specs.List.{Contains, sum_by}
 use Rattle.std.proofs.lemmas.Bool.{cases_Bool}
@@ -35,19 +36,7 @@ pub alike-same : {A : Type 0} (p : ℕ) (first second : Cells A) → AreListed (
     → ((x : A) → second.homological x ≡ first.homological x) → ((x : A) → second.quantum x ≡ first.quantum x)
     → ((x y : A) → Contains first.list x → Contains first.list y → Same p (first.coefficient x y) (second.coefficient x y))
     → AreAlike p (λ (x : A). x) (λ (x : A). 1) first second
-alike-same p first second listed homological quantum same =
-    record {
-      listed = listed;
-      squares = λ x has. refl;
-      homological = λ x has. homological x;
-      quantum = λ x has. quantum x;
-      coefficient = λ x y has_x has_y.
-          same x y has_x has_y
-          ∙ same-equal p (second.coefficient x y) (1 * (1 * second.coefficient x y)) (once (second.coefficient x y));
-    }
-  where
-    once : (n : ℕ) → n ≡ 1 * (1 * n)
-    once n = omega arith
+alike-same p first second listed homological quantum same = grind (arith, nat_tests)
 
 module _ {A B : Type 0} (p : ℕ) (first : Factor A) (second : Factor B) (field : HasInverses p) (test : IsTest first.same)
     (second_test : IsTest second.same) (once : HasNoDoubles second.cells.list)
@@ -127,9 +116,7 @@ module _ {A B : Type 0} (p : ℕ) (first : Factor A) (second : Factor B) (field 
   gone-second v has = test-other first.same x v test (λ is. x_gone (subst (λ (z : A). Contains rest z) (sym is) has))
 
   way-none_first : (u : A) (b : B) (v : A) (e a : B) → Contains rest u → second.same b a ≡ false → way u b v e a ≡ 0
-  way-none_first u b v e a has other =
-      ap (λ n. n * (inverse p (c (x, a) (y, a)) * c (x, a) (v, e))) (by-neither p first second u y b a other (gone-first u has))
-      ∙ omega arith
+  way-none_first u b v e a has other = grind (arith, nat_tests, by-neither, gone-first)
 
   way-none_second : (u : A) (b : B) (v : A) (e a : B) → Contains rest v → second.same a e ≡ false → way u b v e a ≡ 0
   way-none_second u b v e a has other =

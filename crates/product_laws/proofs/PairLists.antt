@@ -1,4 +1,5 @@
 -- Tests, lists of pairs, and lists less two elements.
+use Rattle.std.proofs.lemmas.Bool.Decides.{nat_tests}
 use Rattle.std.proofs.Common.{◌≡◌, ◌≢◌, ℕ, inl, inr, ◌∙◌, List, [], ◌∷◌, length, map, refl, sym, subst, ap, ap₂, arith, Bool, true, false, not, ◌&&◌}
 use Rattle.std.specs.List.{Contains, filter, sum_by}
 use Rattle.std.proofs.lemmas.Bool.{both_ways, cases_Bool}
@@ -14,10 +15,7 @@ use Rattle.product_laws.specs.Products.{IsTest, all_pairs}
 
 -- tests
 pub test-other : {A : Type 0} (same : A → A → Bool) (x y : A) → IsTest same → x ≢ y → same x y ≡ false
-test-other same x y test other = elim (cases_Bool (same x y)) [
-  | inl passes ↦ absurd (other (test.one x y passes))
-  | inr fails ↦ fails
-]
+test-other same x y test other = grind (arith, nat_tests)
 
 pub test-apart : {A : Type 0} (same : A → A → Bool) (x y : A) → IsTest same → same x y ≡ false → x ≢ y
 test-apart same x y test fails is = both_ways (same x y) fails (ap (same x) (sym is) ∙ test.self x)
@@ -38,10 +36,7 @@ module _ {A B : Type 0} where
 
   pub sum_by-pairs : (f : A × B → ℕ) (xs : List A) (ys : List B)
       → sum_by f (all_pairs xs ys) ≡ sum_by (λ x. sum_by (λ y. f (x, y)) ys) xs
-  sum_by-pairs f xs ys =
-      sum_by-flat_map f (λ (x : A). map (λ (y : B). (x, y)) ys) xs
-      ∙ sum_by-alike (λ x. sum_by f (map (λ (y : B). (x, y)) ys)) (λ x. sum_by (λ y. f (x, y)) ys)
-      (λ x. sum_by-map f (λ (y : B). (x, y)) ys) xs
+  sum_by-pairs f xs ys = grind (arith, nat_tests, sum_by-flat_map, sum_by-alike, sum_by-map)
 
   pub pairs-once : (xs : List A) (ys : List B) → HasNoDoubles xs → HasNoDoubles ys → HasNoDoubles (all_pairs xs ys)
   pairs-once xs ys once_x once_y =

@@ -1,4 +1,5 @@
 -- The product of two complexes is one: its square is that of either factor, and the two ways along an edge of each, which cancel.
+use Rattle.std.proofs.lemmas.Bool.Decides.{nat_tests}
 use Rattle.std.proofs.Common.{◌≡◌, ◌≢◌, ℕ, ◌⊎◌, inl, inr, ◌+◌, ◌*◌, ◌%◌, ◌<◌, ◌∙◌, ℤ, pos, ◌+ℤ◌, List, sym, ap, ap₂, arith, Bool, cond}
 use Rattle.std.specs.List.{Contains, sum_by}
 use Rattle.std.proofs.lemmas.Bool.{cases_Bool, cases_eq}
@@ -122,11 +123,7 @@ module _ {A B : Type 0} (p : ℕ) (first : Factor A) (second : Factor B) (field 
     bb u v = D x u * (s x * b y v * (D u z * (s u * b v w)))
 
     parts : (u : A) (v : B) → both x y u v * both u v z w ≡ aa u v + ab u v + (ba u v + bb u v)
-    parts u v = spread (E y v) (t y * a x u) (D x u) (s x * b y v) (E v w) (t v * a u z) (D u z) (s u * b v w)
-      where
-        spread : (e m d n f k g l : ℕ) → (e * m + d * n) * (f * k + g * l)
-            ≡ e * (m * (f * k)) + e * (m * (g * l)) + (f * (d * (n * k)) + d * (n * (g * l)))
-        spread e m d n f k g l = omega arith
+    parts u v = omega arith
 
     first-sum : Same p (sum_by (λ u. sum_by (aa u) ys) xs) 0
     first-sum =
@@ -249,9 +246,7 @@ module _ {A B : Type 0} (p : ℕ) (first : Factor A) (second : Factor B) (field 
 
         four : {X : Type 0} (f g h k : X → ℕ) (zs : List X)
             → sum_by (λ m. f m + g m + (h m + k m)) zs ≡ sum_by f zs + sum_by g zs + (sum_by h zs + sum_by k zs)
-        four f g h k zs =
-            sum_by-plus (λ m. f m + g m) (λ m. h m + k m) zs
-            ∙ ap₂ (λ m n. m + n) (sum_by-plus f g zs) (sum_by-plus h k zs)
+        four f g h k zs = grind (arith, nat_tests, sum_by-plus (λ m. f m + g m) (λ m. h m + k m) zs, sum_by-plus f g zs, sum_by-plus h k zs)
 
   -- a coefficient other than 0 is that of one factor, where the other's cell stays
   some-one : (x : A) (y : B) (u : A) (v : B) → c (x, y) (u, v) ≢ 0

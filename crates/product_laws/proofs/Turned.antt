@@ -1,9 +1,8 @@
 -- The product the other way round.
-use Rattle.std.proofs.Common.{◌≡◌, ℕ, inl, inr, ◌*◌, ◌%◌, ◌<◌, ◌∙◌, ℤ, ◌+ℤ◌, List, refl, sym, ap, arith}
+use Rattle.std.proofs.lemmas.Bool.Decides.{nat_tests}
+use Rattle.std.proofs.Common.{◌≡◌, ℕ, ◌*◌, ◌%◌, ◌<◌, ◌∙◌, ℤ, ◌+ℤ◌, List, refl, sym, arith}
 use Rattle.std.specs.List.{Contains}
-use Rattle.std.proofs.lemmas.Bool.{cases_Bool}
 use Rattle.std.proofs.lemmas.Int.{ints}
-use Rattle.std.proofs.Math.Nat.{zero-mod}
 use Rattle.kh_types.specs.Residues.{HasInverses}
 use Rattle.kh_types.proofs.ListSums.{sum_by-turned}
 use Rattle.kh_types.proofs.Residues.{same-equal}
@@ -12,7 +11,7 @@ use Rattle.cell_laws.specs.Cells.{AreComplex, dimension_at}
 use Rattle.cell_laws.proofs.AlikeCells.{dimension-alike}
 use Rattle.cell_laws.proofs.AlikeComplexes.{complex-alike}
 use Rattle.product_laws.specs.Products.{Factor, IsTest, all_pairs, pair_coefficient, product_complex}
-use Rattle.product_laws.proofs.PairCoefficients.{by-first, by-neither, by-second, pair-below}
+use Rattle.product_laws.proofs.PairCoefficients.{pair-below}
 use Rattle.product_laws.proofs.PairLists.{pairs-contain, pairs-parts, sum_by-pairs}
 
 module _ {A B : Type 0} (p : ℕ) (first : Factor A) (second : Factor B) (field : HasInverses p) (test : IsTest first.same)
@@ -27,30 +26,12 @@ module _ {A B : Type 0} (p : ℕ) (first : Factor A) (second : Factor B) (field 
   swap z = (z.1, z.0)
 
   nothing-times : (s n : ℕ) → n ≡ 0 → s * n % p ≡ 0
-  nothing-times s n none = ap (λ m. s * m % p) none ∙ ap (λ m. m % p) (times_nothing s) ∙ zero-mod p
-    where
-      times_nothing : (s : ℕ) → s * 0 ≡ 0
-      times_nothing s = omega arith
+  nothing-times s n none = grind (arith, nat_tests)
 
   -- where both cells are one, both coefficients are 0
   coefficients : (x u : A) (y v : B) → Contains first.cells.list x → Contains second.cells.list y
       → pair_coefficient p first second (x, y) (u, v) ≡ pair_coefficient p second first (y, x) (v, u)
-  coefficients x u y v has_x has_y = elim (cases_Bool (second.same y v)) [
-    | inr fails ↦ elim (cases_Bool (first.same x u)) [
-      | inr fails_too ↦ by-neither p first second x u y v fails fails_too ∙ sym (by-neither p second first y v x u fails_too fails)
-      | inl passes ↦ by-second p first second x u y v fails passes ∙ sym (by-first p second first y v x u passes)
-    ]
-    | inl passes ↦ elim (cases_Bool (first.same x u)) [
-      | inr fails ↦ by-first p first second x u y v passes ∙ sym (by-second p second first y v x u fails passes)
-      | inl passes_too ↦
-          by-first p first second x u y v passes
-          ∙ nothing-times (second.sign y) (first.cells.coefficient x u)
-          (ap (first.cells.coefficient x) (sym (test.one x u passes_too)) ∙ loops x has_x)
-          ∙ sym (by-first p second first y v x u passes_too
-          ∙ nothing-times (first.sign x) (second.cells.coefficient y v)
-          (ap (second.cells.coefficient y) (sym (second_test.one y v passes)) ∙ second_loops y has_y))
-    ]
-  ]
+  coefficients x u y v has_x has_y = grind (arith, nat_tests)
 
   abbrev xs : List A
   xs = first.cells.list
