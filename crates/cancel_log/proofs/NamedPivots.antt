@@ -3,7 +3,7 @@ use Rattle.std.proofs.Common.{◌≡◌, ◌≢◌, ℕ, zero, suc, ◌+◌, ◌
 use Rattle.std.specs.Prelude.{Some, nat_eq, slice_get}
 use Rattle.std.proofs.lemmas.Bool.{ne_eqb}
 use Rattle.std.proofs.lemmas.Option.{none-some, same_Some}
-use Rattle.std.proofs.lemmas.List.{drop_more, length-take-le, take-append-drop, take_all, take_more}
+use Rattle.std.proofs.lemmas.List.{drop_more, length-take-le, take-append-drop, take_more}
 use Rattle.std.specs.List.{Contains}
 use Rattle.kh_types.specs.Acceptance.{accepted}
 use Rattle.kh_types.specs.Code.{Code}
@@ -61,10 +61,6 @@ pub found-named : (held seen : BlockHistory) (named : ℕ) (pivot : Pivot) → n
 found-named held seen named pivot same found =
     let there = found-there held.history named pivot found in
     named-next held named pivot there.0 there.1 ∙ ap (λ (block : BlockHistory). with_pivot block pivot) same
-
--- where all are named, the block is that in memory
-pub named-all : (held : BlockHistory) (named : ℕ) → length held.history ≤ named → named_of held named ≡ held
-named-all held named all = ap (block_with held.diagram held.degree) (take_all named held.history all)
 
 -- a block that ends at zero is not zero before all are named: histories that end at zero have one length
 pub named-open : (p : ℕ) (held : BlockHistory) (named : ℕ) → IsField p → IsTrue (accepted held.diagram) → HasLegalHistory p held
