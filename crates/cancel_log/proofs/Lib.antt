@@ -22,3 +22,4 @@ pub mod HistorySizes
 pub mod TableSizes
 pub mod LogSizes
 pub mod LogsExist
+pub mod NamedPivots

@@ -6,3 +6,4 @@ pub mod LinesLeft
 pub mod Starts
 pub mod LogTexts
 pub mod Standings
+pub mod LoggedBlocks

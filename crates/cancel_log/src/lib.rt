@@ -8,6 +8,7 @@ pub mod laws;
 mod limits;
 mod line;
 mod lines;
+mod logged_block;
 mod numbers;
 mod reading;
 mod replay;

@@ -37,13 +37,14 @@ pub(crate) fn replayed_rows<F: PrimeField>(
         → IsVerdictBehind F.P diagram.now lines.old.rest (Err stop)) }
 {
     let cube = Cube::new(alloc, diagram)?;
+    let cube = &cube;
     let degrees = cube.block_degrees(alloc)?;
     let mut walk = Walk::<F>::first(alloc);
     let mut scratch = Vec::new(alloc);
     'lines: while let Some(line) = lines.next() {
         let said = said_by(line);
         let closes = is_close(&said);
-        if let Some(cause) = take_line(&mut scratch, &cube, &degrees, &mut walk, said)? {
+        if let Some(cause) = take_line(&mut scratch, cube, &degrees, &mut walk, said)? {
             let line = lines.number() as u32 - 1;
             return Err(LogStop::Line { line, cause });
         }

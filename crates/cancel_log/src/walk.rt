@@ -8,25 +8,25 @@ ghost use Rattle.cube_signs.specs.Blocks.{block_degrees};
 ghost use Rattle.shared_block.specs.BlockHistories.{block_with};
 ghost use Rattle.cancel_log.specs.Standings.{Does, begin_in, cancel_in, close_in, is_closed, rows_and, standing_first, step};
 
+use crate::logged_block::LoggedBlock;
 use crate::{LogCause, LogLine};
 use cube_signs::Cube;
 use homology_tables::Row;
 use kh_types::NoMemory;
 use prime_field::PrimeField;
-use shared_block::{SharedBlock, push_rows};
 use sparse_block::{Entry, Pivot};
 use std::alloc::Global;
 use std::marker::Model;
 
 /// How many blocks have begun, the last of them, and the table's rows of those before it.
 #[derive(Drop)]
-pub(crate) struct Walk<F: PrimeField> {
+pub(crate) struct Walk<'a, F: PrimeField> {
     begun: usize,
-    current: Option<SharedBlock<F>>,
+    current: Option<LoggedBlock<'a, F>>,
     rows: Vec<Row>,
 }
 
-impl<F: PrimeField> Model for Walk<F> {
+impl<'a, F: PrimeField> Model for Walk<'a, F> {
     ghost use Rattle.cancel_log.specs.Standings.{Standing};
 
     ghost Value = { Standing };
@@ -38,9 +38,9 @@ impl<F: PrimeField> Model for Walk<F> {
     } };
 }
 
-impl<F: PrimeField> Walk<F> {
+impl<'a, F: PrimeField> Walk<'a, F> {
     /// Before the first block.
-    pub(crate) fn first(alloc: Global) -> Walk<F>
+    pub(crate) fn first(alloc: Global) -> Walk<'a, F>
         ensures { result ≡ standing_first }
     {
         Walk {
@@ -52,7 +52,7 @@ impl<F: PrimeField> Walk<F> {
 
     /// The rows.
     pub(crate) fn into_rows(self) -> Vec<Row>
-        ensures { result.items ≡ self.rows }
+        ensures { result.items ≡ self.entry.rows }
     {
         self.rows
     }
@@ -92,7 +92,7 @@ impl<F: PrimeField> Walk<F> {
     fn begin(
         &mut self,
         alloc: Global,
-        cube: &Cube,
+        cube: &'a Cube,
         degrees: &[i16],
         j: i16,
     ) -> Result<Option<LogCause>, NoMemory>
@@ -114,14 +114,14 @@ impl<F: PrimeField> Walk<F> {
     }
 
     /// Makes the next block, where none is held. No other call makes one.
-    fn hold(&mut self, alloc: Global, cube: &Cube, j: i16) -> Result<(), NoMemory>
+    fn hold(&mut self, alloc: Global, cube: &'a Cube, j: i16) -> Result<(), NoMemory>
         requires none_held { self.old.current ≡ None }
         requires degree { Contains (block_degrees cube.now) j }
         ensures current { OnOk result (self.new.current ≡ Some (block_with cube.now j [])) }
         ensures rows { self.new.rows ≡ self.old.rows }
         ensures begun { self.new.begun ≡ self.old.begun }
     {
-        self.current = Some(SharedBlock::of_cube(alloc, cube, j)?);
+        self.current = Some(LoggedBlock::begun(alloc, cube, j)?);
         Ok(())
     }
 
@@ -154,7 +154,7 @@ impl<F: PrimeField> Walk<F> {
     {
         match self.current.take() {
             None => Ok(()),
-            Some(held) => push_rows(&mut self.rows, &held),
+            Some(held) => held.push_rows(&mut self.rows),
         }
     }
 }
@@ -176,11 +176,11 @@ fn is_next(degrees: &[i16], begun: usize, j: i16) -> bool
 }
 
 /// What a line of blocks does: the cause, where it fails, and then the walk is as it was.
-pub(crate) fn take_line<F: PrimeField>(
+pub(crate) fn take_line<'a, F: PrimeField>(
     scratch: &mut Vec<Entry>,
-    cube: &Cube,
+    cube: &'a Cube,
     degrees: &[i16],
-    walk: &mut Walk<F>,
+    walk: &mut Walk<'a, F>,
     line: LogLine,
 ) -> Result<Option<LogCause>, NoMemory>
     requires { degrees.now ≡ block_degrees cube.now }

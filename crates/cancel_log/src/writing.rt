@@ -20,6 +20,7 @@ ghost use Rattle.cancel_log.specs.declared.limits.TheConstants.{LOG_BYTES};
 
 use cube_signs::Cube;
 use homology_tables::Table;
+use itoa::Buffer;
 use kh_types::laws::diagrams::diagram_laws;
 use kh_types::{Diagram, NoMemory};
 use pd_code::print_pd;
@@ -131,19 +132,24 @@ fn push_block<F: PrimeField>(
     text.extend_from_slice(line.as_bytes())?;
     let history = held.history();
     'pivots: for k in 0..history.len() {
-        push_pivot(alloc, text, history[k])?;
+        push_pivot(text, history[k])?;
     }
     Ok(())
 }
 
 /// Adds the line that cancels a pivot.
 #[tactic(auto, using(crate::proofs::WrittenLogs::lines))]
-fn push_pivot(alloc: Global, text: &mut Vec<u8>, pivot: Pivot) -> Result<(), NoMemory>
+fn push_pivot(text: &mut Vec<u8>, pivot: Pivot) -> Result<(), NoMemory>
     ensures { OnOk result (text.new.items ≡ text.old.items ++ with_feed (cancel_line pivot)) }
 {
-    let (degree, column, row) = (pivot.degree, pivot.column, pivot.row);
-    let line = format!(in alloc; "cancel {degree} {column} {row}\n")?;
-    text.extend_from_slice(line.as_bytes())?;
+    let mut digits = Buffer::new();
+    text.extend_from_slice(b"cancel ")?;
+    text.extend_from_slice(digits.format(pivot.degree).as_bytes())?;
+    text.push(b' ')?;
+    text.extend_from_slice(digits.format(pivot.column).as_bytes())?;
+    text.push(b' ')?;
+    text.extend_from_slice(digits.format(pivot.row).as_bytes())?;
+    text.push(b'\n')?;
     Ok(())
 }
 

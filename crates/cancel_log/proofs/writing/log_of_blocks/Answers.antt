@@ -1,4 +1,4 @@
-use Rattle.std.proofs.Common.{ap, arith, length, subst, take_all}
+use Rattle.std.proofs.Common.{ap, arith, subst, take_all}
 use Rattle.std.specs.Prelude.{All}
 use Rattle.std.proofs.lemmas.List.Elements.{All-more}
 use Rattle.kh_types.specs.Table.{table_text}

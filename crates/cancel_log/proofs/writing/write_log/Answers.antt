@@ -1,4 +1,4 @@
-use Rattle.std.proofs.Common.{rules, ◌∙◌, ap, arith, length, of_z, to_z, w16}
+use Rattle.std.proofs.Common.{rules, ◌∙◌, ap, arith, of_z, to_z, w16}
 use Rattle.cube_signs.specs.Blocks.{block_degrees}
 use Rattle.kh_types.specs.Table.{table_text}
 use Rattle.cancel_log.proofs.LogSizes.{few-all}
