@@ -241,6 +241,7 @@ module _ (p : ℕ) (front : Front) (start left : Rowed) (taken : Taken) (turn : 
   turn-is = record {
     pairs = pairs-are;
     tail = omega (arith, tail-within, two.size);
+    tail_dead = two.tail_gone;
     dead = two.head_gone;
     some = number-is.some;
     below = number-is.below;
