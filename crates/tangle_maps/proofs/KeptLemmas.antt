@@ -1,7 +1,7 @@
 -- A seam that is kept as that of three pairings is that of a way with these pairings.
-use Rattle.std.proofs.Common.{◌≡◌, ℕ, ◌<◌, ◌∙◌, List, [], ◌∷◌, ◌++◌, get_or, length, arith, subst, subst₂, sym}
+use Rattle.std.proofs.Common.{◌≡◌, ℕ, ◌<◌, ◌∙◌, List, [], ◌∷◌, ◌++◌, get_or, length, set, arith, subst, subst₂, sym}
 use Rattle.std.proofs.lemmas.List.{get_or_default, get_or_push, length_push}
-use Rattle.std.proofs.lemmas.List.Elements.{All-nil, All-push}
+use Rattle.std.proofs.lemmas.List.Elements.{All-nil, All-push, All-set}
 use Rattle.std.specs.Global.{Vec}
 use Rattle.std.specs.Prelude.{All}
 use Rattle.tangle_maps.specs.KeptSeams.{AreKeptSeams, HasSeamAt, IsKeptSeam, IsSeamAlong, IsSeamOf}
@@ -66,3 +66,14 @@ lists-more list old new none pushed are =
     subst (λ (xs : List (Vec KeptSeam)). All (λ (l : Vec KeptSeam). AreKeptSeams l.items) xs) (sym pushed)
     (All-push (λ (l : Vec KeptSeam). AreKeptSeams l.items) old list are
     (subst (λ (xs : List KeptSeam). AreKeptSeams xs) (sym none) (All-nil IsKeptSeam)))
+
+-- a seam that was used, among the others
+pub seams-used : (place : ℕ) (kept : KeptSeam) (seam : Seam) (list : List KeptSeam) → place < length list → kept ≡ get_or list place kept
+    → seam ≡ kept.seam → AreKeptSeams list
+    → AreKeptSeams (set list place (record { from = kept.from; over = kept.over; to = kept.to; seam = seam }))
+seams-used place kept seam list within there same are =
+    let used : KeptSeam = record { from = kept.from; over = kept.over; to = kept.to; seam = seam } in
+    All-set IsKeptSeam list place used
+    (subst (λ (s : Seam). IsSeamOf kept.from.partners kept.over.partners kept.to.partners s) (sym same)
+    (subst IsKeptSeam (sym there) (are place kept within)))
+    are

@@ -142,9 +142,15 @@ fn is_along(kept: &KeptSeam, way: &Way<'_>) -> bool
     requires { IsKeptSeam kept.now }
     ensures { result ≡ true → IsSeamAlong way.now kept.now.seam }
 {
-    have_same(&kept.from, way.from)
-        && have_same(&kept.over, way.over)
-        && have_same(&kept.to, way.to)
+    have_same(&kept.from, way.from) && leads_along(kept, way)
+}
+
+/// Whether its second pairing and its third are those of a way.
+fn leads_along(kept: &KeptSeam, way: &Way<'_>) -> bool
+    ensures over { result ≡ true → kept.now.over.partners ≡ way.now.over.now.partners }
+    ensures to { result ≡ true → kept.now.to.partners ≡ way.now.to.now.partners }
+{
+    have_same(&kept.over, way.over) && have_same(&kept.to, way.to)
 }
 
 /// Whether two pairings have the same partners.

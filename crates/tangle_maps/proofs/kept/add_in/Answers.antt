@@ -7,7 +7,7 @@ use Rattle.tangle_maps.specs.Sums.{IsSum}
 use Rattle.tangle_maps.specs.Ways.{joins_from, joins_over, joins_to, points_on}
 use Rattle.tangle_maps.specs.declared.kept.KeptSeam.{KeptSeam}
 use Rattle.tangle_maps.proofs.ComposeLemmas.{CanCompose-seam, listed-same}
-use Rattle.tangle_maps.proofs.KeptLemmas.{along-seam}
+use Rattle.tangle_maps.proofs.KeptLemmas.{along-seam, seams-used}
 use Rattle.tangle_maps.proofs.WayLemmas.{way-facts}
 use Rattle.tangle_maps.proofs.kept.add_in.Goals as goal
 
@@ -31,3 +31,8 @@ returns-clause-sum g c =
     (subst (λ (k : KeptSeam). IsSeamAlong way k.seam) (sym c.index_mut.ensures.value) (c.in_ok-place.ensures.place.along kept)))
     (way-facts way c.requires.way).listed) is)
     c.add_all.ensures.sum
+
+pub returns-clause-list : goal.returns-clause-list
+returns-clause-list g c =
+    seams-used c.in_ok-place.place c.index_mut.result.now c.add_all.new.seam c.place_in.new.list.items c.in_ok-place.ensures.place.within
+    c.index_mut.ensures.value c.add_all.ensures.same c.in_ok-place.ensures.list
