@@ -1,4 +1,4 @@
-use Rattle.std.proofs.Common.{ap, refl}
+use Rattle.std.proofs.Common.{◌∙◌, ap, refl}
 use Rattle.tangle_scan.specs.declared.clearing.pivots.Pivot.{Pivot}
 use Rattle.tangle_scan.specs.declared.clearing.rows.Rowed.{Rowed}
 use Rattle.tangle_scan.proofs.Eliminated.{begun, columns-begun, eliminated, rowed-after, turn-is}
@@ -30,9 +30,10 @@ returns g c =
     c.turn_of-turn.ensures in
     let cleared = c.in_ok-clear_all.ensures.cleared in
     let columns = c.in_ok-clear_all.ensures.columns_are in
+    let done = eliminated _ _ _ _ _ _ is _ next c.as_slice-named.ensures.value refl cleared columns in
     record {
-      step = eliminated _ _ _ _ _ _ is _ next c.as_slice-named.ensures.value refl cleared columns;
-      tail = ap (λ (q : Pivot). q.tail) c.turn_of-turn.ensures.pivot_is;
-      head = ap (λ (q : Pivot). q.head) c.turn_of-turn.ensures.pivot_is;
+      step = done.0;
+      tail = done.1.0 ∙ ap (λ (q : Pivot). q.tail) c.turn_of-turn.ensures.pivot_is;
+      head = done.1.1 ∙ ap (λ (q : Pivot). q.head) c.turn_of-turn.ensures.pivot_is;
       rowed_is = rowed-after _ _ _ _ _ _ is _ next c.as_slice-named.ensures.value refl cleared columns;
     }
