@@ -483,8 +483,7 @@ module _ (p : ℕ) (front : Front) (start left : Rowed) (taken : Taken) (turn : 
           dots = dots-next;
           terms = terms-next;
         },
-        refl,
-        refl,
+        (refl, refl),
     )
 
     pub rowed-after : IsRowed p front next_rowed
