@@ -19,6 +19,7 @@ use crate::site::push_if;
 use crate::splitting::{Site, Split};
 use arrayvec::ArrayVec;
 use kh_types::Crossing;
+use std::alloc::Global;
 use tangle_maps::Pairing;
 use tangle_maps::seam::{Arcs, joined, least_names};
 
@@ -92,6 +93,7 @@ fn strips_with(arc: u8, arcs: &[u8]) -> ArrayVec<u8, STRIPS>
 /// The bridge of a surface that a crossing adds between two sides, with these discs before it and
 /// these half strips.
 fn bridge_between(
+    alloc: Global,
     site: &Site<'_>,
     from: &Side<'_>,
     to: &Side<'_>,
@@ -117,11 +119,11 @@ fn bridge_between(
         lowers,
         raises: site.next,
     };
-    bridge_on(&classes, site.near, &places)
+    bridge_on(alloc, &classes, site.near, &places)
 }
 
 /// The bridge of the surface that a crossing adds between two sides.
-pub fn added_bridge(site: &Site<'_>, from: &Side<'_>, to: &Side<'_>) -> Bridge
+pub fn added_bridge(alloc: Global, site: &Site<'_>, from: &Side<'_>, to: &Side<'_>) -> Bridge
     requires sides { CanAdd site.now from.now to.now }
     ensures labels { CanLabel result }
     ensures bridge { (code : Code) (k : ℕ) → IsPlace code k → IsSiteAt code k site.now
@@ -130,11 +132,11 @@ pub fn added_bridge(site: &Site<'_>, from: &Side<'_>, to: &Side<'_>) -> Bridge
         (pairs_before site.now to.now) result }
 {
     let discs = discs_of(from.pairing, to.pairing, site.opened);
-    bridge_between(site, from, to, &discs, site.opened)
+    bridge_between(alloc, site, from, to, &discs, site.opened)
 }
 
 /// The bridge of the saddle of a pairing at a crossing, from its 0-smoothing to its 1-smoothing.
-pub fn saddle_bridge(site: &Site<'_>, from: &Side<'_>, to: &Side<'_>) -> Bridge
+pub fn saddle_bridge(alloc: Global, site: &Site<'_>, from: &Side<'_>, to: &Side<'_>) -> Bridge
     requires sides { CanAdd site.now from.now to.now }
     requires zero { from.now.smoothing ≡ 0 }
     requires one { to.now.smoothing ≡ 1 }
@@ -147,5 +149,5 @@ pub fn saddle_bridge(site: &Site<'_>, from: &Side<'_>, to: &Side<'_>) -> Bridge
     let arc = first_slot(site.crossing);
     let ends = first_ends(from.pairing, site.opened);
     let strips = strips_with(arc, site.opened);
-    bridge_between(site, from, to, &ends, &strips)
+    bridge_between(alloc, site, from, to, &ends, &strips)
 }

@@ -5,13 +5,15 @@ ghost use Rattle.std.specs.List.{filter};
 ghost use Rattle.kh_types.specs.Classes.{is_least};
 ghost use Rattle.tangle_maps.specs.declared.pairing.TheConstants.{POINTS};
 ghost use Rattle.tangle_maps.specs.Pairings.{IsOpened};
+ghost use Rattle.crossing_maps.specs.AddedSeams.{IsAddedSeam};
 ghost use Rattle.crossing_maps.specs.Bridges.{IsBridge};
 ghost use Rattle.crossing_maps.specs.Counts.{on};
 ghost use Rattle.crossing_maps.specs.ListedPlaces.{AreArcs, IsArcs, places_in};
 
 use crate::genus::{Lists, genera_in};
 use arrayvec::ArrayVec;
-use tangle_maps::POINTS;
+use std::alloc::Global;
+use tangle_maps::{KnownSeam, POINTS};
 use tangle_maps::names::{Names, at};
 use tangle_maps::seam::{Arcs, Seam, least_names, named};
 
@@ -22,7 +24,7 @@ pub const STRIPS: usize = 2 * POINTS;
 /// discs after it; and how many of those circles are closed before the crossing: they come first.
 #[derive(Drop)]
 pub struct Bridge {
-    pub seam: Seam,
+    pub seam: KnownSeam,
     pub closed: usize,
 }
 
@@ -51,13 +53,13 @@ fn appended(arcs: Arcs, others: &[u8]) -> Arcs
     }
 }
 
-/// The bridge of a surface of these classes of arcs, by the arcs near a crossing and its places.
-pub fn bridge_on(classes: &Names, near: &[u8], places: &Lists<'_>) -> Bridge
+/// The seam of a surface of these classes of arcs, by the arcs near a crossing and its places.
+fn seam_on(classes: &Names, near: &[u8], places: &Lists<'_>) -> Seam
     requires near { IsArcs POINTS near.now }
     requires places { AreArcs (places_in places.now) }
-    ensures bridge { IsBridge (filter (is_least classes.now) near.now)
+    ensures seam { IsAddedSeam (filter (is_least classes.now) near.now)
         (on (slice_index classes.now) (places_in places.now)) result }
-    ensures circles { length result.seam.second.items ≤ POINTS }
+    ensures circles { length result.second.items ≤ POINTS }
 {
     let rims = named(classes, places.rims);
     let discs = named(classes, places.discs);
@@ -75,15 +77,26 @@ pub fn bridge_on(classes: &Names, near: &[u8], places: &Lists<'_>) -> Bridge
     };
     let components = least_names(classes, classes, near);
     let genera = genera_in(&components, &lists);
-    let seam = Seam {
+    Seam {
         first: discs,
         second: appended(closed, &others),
         whole: rims,
         components,
         genera,
-    };
+    }
+}
+
+/// The bridge of a surface of these classes of arcs, by the arcs near a crossing and its places.
+pub fn bridge_on(alloc: Global, classes: &Names, near: &[u8], places: &Lists<'_>) -> Bridge
+    requires near { IsArcs POINTS near.now }
+    requires places { AreArcs (places_in places.now) }
+    ensures bridge { IsBridge (filter (is_least classes.now) near.now)
+        (on (slice_index classes.now) (places_in places.now)) result }
+    ensures circles { length result.seam.second.items ≤ POINTS }
+{
+    let seam = seam_on(classes, near, places);
     Bridge {
-        seam,
+        seam: KnownSeam::new(alloc, seam),
         closed: places.closed.len(),
     }
 }

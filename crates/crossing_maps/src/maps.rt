@@ -23,22 +23,23 @@ use tangle_maps::Terms;
 /// Source: Bar-Natan 2007.
 pub fn added_map<F: PrimeField>(
     alloc: Global,
-    bridge: &Bridge,
+    bridge: &mut Bridge,
     labels: Labels,
     old: &[Term],
 ) -> Result<Terms, NoMemory>
-    requires labels { CanLabel bridge.now }
+    requires labels { CanLabel bridge.old }
     requires old { AreReduced F.P old.now }
+    ensures same { bridge.new ≡ bridge.old }
     ensures reduced { IfOk result (λ made. AreReduced F.P made.items) }
     ensures terms { (code : Code) (k smoothing : ℕ) (m n : List (ℕ × ℕ)) → ArePairs code k m n
-        → IsAddedBridge code k smoothing smoothing m n bridge.now
+        → IsAddedBridge code k smoothing smoothing m n bridge.old
         → IfOk result (λ made. AreAddedTerms F.P code k smoothing m n labels.before labels.behind
         old.now made.items) }
 {
     element_laws::<F>();
     let marks = bridge.marks(labels);
     let mut made: Terms = SmallVec::new(alloc);
-    add_map::<F>(&mut made, &bridge.seam, marks, old, F::of(1))?;
+    add_map::<F>(&mut made, &mut bridge.seam, marks, old, F::of(1))?;
     Ok(made)
 }
 
@@ -47,20 +48,21 @@ pub fn added_map<F: PrimeField>(
 /// Source: Bar-Natan 2007.
 pub fn saddle_map<F: PrimeField>(
     alloc: Global,
-    bridge: &Bridge,
+    bridge: &mut Bridge,
     labels: Labels,
     sign: F,
 ) -> Result<Terms, NoMemory>
-    requires labels { CanLabel bridge.now }
+    requires labels { CanLabel bridge.old }
+    ensures same { bridge.new ≡ bridge.old }
     ensures reduced { IfOk result (λ made. AreReduced F.P made.items) }
     ensures terms { (code : Code) (k : ℕ) (m : List (ℕ × ℕ)) → ArePairs code k m m
-        → IsSaddleBridge code k m bridge.now
+        → IsSaddleBridge code k m bridge.old
         → IfOk result (λ made. AreSaddleTerms F.P (F.value_of sign) code k m labels.before
         labels.behind made.items) }
 {
     element_laws::<F>();
     let marks = bridge.marks(labels);
     let mut made: Terms = SmallVec::new(alloc);
-    add_saddle(&mut made, &bridge.seam, marks, sign)?;
+    add_saddle(&mut made, &mut bridge.seam, marks, sign)?;
     Ok(made)
 }

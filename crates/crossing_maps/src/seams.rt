@@ -31,7 +31,7 @@ impl Bridge {
         ensures { AreMarks self.now.closed (length self.now.seam.second.items - self.now.closed)
             labels.before labels.behind result }
     {
-        let others = self.seam.second.len() - self.closed;
+        let others = self.seam.seam().second.len() - self.closed;
         let behind = lowest(!labels.behind, others);
         (behind << self.closed) + lowest(labels.before, self.closed)
     }

@@ -14,8 +14,7 @@ use dotted_maps::term::Term;
 use kh_types::NoMemory;
 use prime_field::PrimeField;
 use prime_field::laws::element_laws;
-use tangle_maps::seam::Seam;
-use tangle_maps::{Terms, add_all};
+use tangle_maps::{KnownSeam, Terms, add_all};
 
 /// The term with these dots and the coefficient 1.
 fn dotted(dots: u64) -> Term
@@ -31,17 +30,18 @@ fn dotted(dots: u64) -> Term
 /// labels of closed circles are these marks, to a sum.
 pub fn add_map<F: PrimeField>(
     terms: &mut Terms,
-    seam: &Seam,
+    seam: &mut KnownSeam,
     marks: u64,
     old: &[Term],
     factor: F,
 ) -> Result<(), NoMemory>
     requires reduced { AreReduced F.P terms.old.items }
-    requires seam { CanCompose seam.now }
+    requires seam { CanCompose seam.old }
     requires old { AreReduced F.P old.now }
+    ensures same { seam.new ≡ seam.old }
     ensures sum { (code : Code) (k smoothing : ℕ) (m n : List (ℕ × ℕ)) (label other : ℕ)
         → ArePairs code k m n → IsSeamAt code k smoothing smoothing m n
-        (discs (points_at code k) m n) (points_at code k).opened label other seam.now marks
+        (discs (points_at code k) m n) (points_at code k).opened label other seam.old marks
         → OnOk result (IsSum F.P terms.old.items (scaled (F.value_of factor)
         (new_map code k smoothing m n label other old.now)) terms.new.items) }
     ensures reduced { AreReduced F.P terms.new.items }
@@ -55,15 +55,16 @@ pub fn add_map<F: PrimeField>(
 /// these marks, to a sum.
 pub fn add_saddle<F: PrimeField>(
     terms: &mut Terms,
-    seam: &Seam,
+    seam: &mut KnownSeam,
     marks: u64,
     sign: F,
 ) -> Result<(), NoMemory>
     requires reduced { AreReduced F.P terms.old.items }
-    requires seam { CanCompose seam.now }
+    requires seam { CanCompose seam.old }
+    ensures same { seam.new ≡ seam.old }
     ensures sum { (code : Code) (k : ℕ) (m : List (ℕ × ℕ)) (label other : ℕ)
         → ArePairs code k m m → IsSeamAt code k 0 1 m m
-        (map first_end m) (saddle_strips code k) label other seam.now marks
+        (map first_end m) (saddle_strips code k) label other seam.old marks
         → OnOk result (IsSum F.P terms.old.items (scaled (F.value_of sign)
         (saddle_map code k m label other)) terms.new.items) }
     ensures reduced { AreReduced F.P terms.new.items }

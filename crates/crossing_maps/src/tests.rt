@@ -135,8 +135,8 @@ fn saddle_there(alloc: Global, place: usize, site: &Site<'_>, row: &Row) -> Resu
         smoothing: 1,
         split: &one,
     };
-    let bridge = saddle_bridge(site, &from, &to);
-    saddle_map(alloc, &bridge, labels_of(row), F3::of(2))
+    let mut bridge = saddle_bridge(alloc, site, &from, &to);
+    saddle_map(alloc, &mut bridge, labels_of(row), F3::of(2))
 }
 
 /// What the map of one term without dots becomes between a row's pairings, where one of the first
@@ -166,8 +166,8 @@ fn added_there(alloc: Global, place: usize, site: &Site<'_>, row: &Row) -> Resul
         dots: 0,
         coefficient: 1,
     }];
-    let bridge = added_bridge(site, &from, &to);
-    added_map::<F3>(alloc, &bridge, labels_of(row), &bare)
+    let mut bridge = added_bridge(alloc, site, &from, &to);
+    added_map::<F3>(alloc, &mut bridge, labels_of(row), &bare)
 }
 
 /// The terms of a row, where these arcs are open and this is the crossing.

@@ -10,3 +10,5 @@ pub mod LawLemmas
 pub mod Multiples
 pub mod SizeLemmas
 pub mod PartSizes
+pub mod ProductLemmas
+pub mod KeptLemmas

@@ -5,7 +5,7 @@ ghost use Rattle.prime_field.specs.Residues.{inverse_mod, negative_mod};
 ghost use Rattle.tangle_maps.specs.Sums.{AreReduced};
 ghost use Rattle.tangle_maps.specs.Ways.{HasReducedMaps, IsCancelledAlong, IsMultiple, IsWay};
 
-use crate::composing::add_composition;
+use crate::kept::Seams;
 use crate::sum::{Terms, add_scaled};
 use crate::way::Way;
 use kh_types::NoMemory;
@@ -14,7 +14,12 @@ use prime_field::{PrimeField, quotient};
 
 /// Takes from an entry what leads through a pivot: the first map of the way, into the pivot's head,
 /// the pivot's inverse, and the second map, out of its tail. Out of memory it may be half done.
-pub fn cancel<F: PrimeField>(entry: &mut Terms, way: &Way<'_>, pivot: F) -> Result<(), NoMemory>
+pub fn cancel<F: PrimeField>(
+    entry: &mut Terms,
+    seams: &mut Seams,
+    way: &Way<'_>,
+    pivot: F,
+) -> Result<(), NoMemory>
     requires entry { AreReduced F.P entry.old.items }
     requires way { IsWay way.now }
     requires maps { HasReducedMaps F.P way.now }
@@ -24,7 +29,7 @@ pub fn cancel<F: PrimeField>(entry: &mut Terms, way: &Way<'_>, pivot: F) -> Resu
     ensures reduced { AreReduced F.P entry.new.items }
 {
     element_laws::<F>();
-    add_composition(entry, way, minus_inverse(pivot))
+    seams.add_composition(entry, way, minus_inverse(pivot))
 }
 
 /// The same where the first map is a number times the identity: what is taken is the second map,

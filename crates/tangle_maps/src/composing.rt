@@ -9,12 +9,14 @@ ghost use Rattle.dotted_maps.specs.Parts.{product_over};
 ghost use Rattle.tangle_maps.specs.declared.pairing.TheConstants.{POINTS};
 ghost use Rattle.tangle_maps.specs.Chosen.{chosen};
 ghost use Rattle.tangle_maps.specs.Pairings.{IsOpened};
+ghost use Rattle.tangle_maps.specs.KeptSeams.{IsSeamAlong};
 ghost use Rattle.tangle_maps.specs.Seams.{CanCompose, factor_by, factor_for, left_by};
 ghost use Rattle.tangle_maps.specs.Seams.{load_by, seam_listed, seam_terms};
 ghost use Rattle.tangle_maps.specs.Sums.{AreReduced, IsSum};
-ghost use Rattle.tangle_maps.specs.Ways.{HasReducedMaps, IsComposedAlong, IsWay, listed_along};
+ghost use Rattle.tangle_maps.specs.Ways.{HasReducedMaps, IsComposedAlong, IsWay};
 
 use crate::choices::{Dots, add_choices};
+use crate::known::KnownSeam;
 use crate::names::{Names, at};
 use crate::pairing::POINTS;
 use crate::seam::{Seam, add_dots};
@@ -81,7 +83,7 @@ fn left_at(load: u8) -> u8
 }
 
 /// Adds a multiple of the composition of two terms to a sum.
-fn add_composed<F: PrimeField>(
+pub(crate) fn add_composed<F: PrimeField>(
     terms: &mut Terms,
     seam: &Seam,
     term: &Term,
@@ -129,7 +131,7 @@ fn add_weighed<F: PrimeField>(
 }
 
 /// The product of two terms' coefficients, times a factor.
-fn product<F: PrimeField>(term: &Term, other: &Term, factor: F) -> F
+pub(crate) fn product<F: PrimeField>(term: &Term, other: &Term, factor: F) -> F
     requires term { term.now.coefficient < F.P }
     requires other { other.now.coefficient < F.P }
     ensures { Same F.P (F.value_of result)
@@ -141,22 +143,23 @@ fn product<F: PrimeField>(term: &Term, other: &Term, factor: F) -> F
 /// Adds a multiple of the composition of a term, and each term of a map after it, to a sum.
 fn add_behind<F: PrimeField>(
     terms: &mut Terms,
-    seam: &Seam,
+    seam: &mut KnownSeam,
     term: &Term,
     second: &[Term],
     factor: F,
 ) -> Result<(), NoMemory>
     requires reduced { AreReduced F.P terms.old.items }
-    requires seam { CanCompose seam.now }
+    requires seam { CanCompose seam.old }
     requires term { term.now.coefficient < F.P }
     requires second { AreReduced F.P second.now }
+    ensures same { seam.new ≡ seam.old }
     ensures sum { OnOk result (IsSum F.P terms.old.items
-        (scaled (F.value_of factor) (flat_map (seam_terms seam.now term.now) second.now))
+        (scaled (F.value_of factor) (flat_map (seam_terms seam.old term.now) second.now))
         terms.new.items) }
     ensures reduced { AreReduced F.P terms.new.items }
 {
     'others: for other in second {
-        add_composed(terms, seam, term, other, factor)?;
+        seam.add_composed(terms, term, other, factor)?;
     }
     Ok(())
 }
@@ -164,17 +167,18 @@ fn add_behind<F: PrimeField>(
 /// Adds a multiple of the composition of two maps over a seam to a sum.
 pub fn add_all<F: PrimeField>(
     terms: &mut Terms,
-    seam: &Seam,
+    seam: &mut KnownSeam,
     first: &[Term],
     second: &[Term],
     factor: F,
 ) -> Result<(), NoMemory>
     requires reduced { AreReduced F.P terms.old.items }
-    requires seam { CanCompose seam.now }
+    requires seam { CanCompose seam.old }
     requires first { AreReduced F.P first.now }
     requires second { AreReduced F.P second.now }
+    ensures same { seam.new ≡ seam.old }
     ensures sum { OnOk result (IsSum F.P terms.old.items
-        (scaled (F.value_of factor) (seam_listed seam.now first.now second.now)) terms.new.items) }
+        (scaled (F.value_of factor) (seam_listed seam.old first.now second.now)) terms.new.items) }
     ensures reduced { AreReduced F.P terms.new.items }
 {
     'terms: for term in first {
@@ -183,21 +187,15 @@ pub fn add_all<F: PrimeField>(
     Ok(())
 }
 
-/// Adds a multiple of the composition of a way's maps to a sum. Out of memory it may be half done.
-pub fn add_composition<F: PrimeField>(
-    terms: &mut Terms,
-    way: &Way<'_>,
-    factor: F,
-) -> Result<(), NoMemory>
-    requires reduced { AreReduced F.P terms.old.items }
-    requires way { IsWay way.now }
-    requires maps { HasReducedMaps F.P way.now }
-    ensures sum { OnOk result (IsSum F.P terms.old.items
-        (scaled (F.value_of factor) (listed_along way.now)) terms.new.items) }
-    ensures reduced { AreReduced F.P terms.new.items }
+/// The seam of a way.
+pub(crate) fn seam_of(alloc: Global, way: &Way<'_>) -> KnownSeam
+    requires { IsWay way.now }
+    ensures { IsSeamAlong way.now result }
 {
-    let seam = Seam::new(way.from, way.over, way.to, way.opened);
-    add_all(terms, &seam, way.first, way.second, factor)
+    KnownSeam::new(
+        alloc,
+        Seam::new(way.from, way.over, way.to, way.opened),
+    )
 }
 
 /// The composition of a way's maps, as a reduced sum.
@@ -209,7 +207,8 @@ pub fn compose<F: PrimeField>(alloc: Global, way: &Way<'_>) -> Result<Terms, NoM
     ensures reduced { IfOk result (λ whole. AreReduced F.P whole.items) }
 {
     element_laws::<F>();
+    let mut seam = seam_of(alloc, way);
     let mut whole: Terms = SmallVec::new(alloc);
-    add_composition::<F>(&mut whole, way, F::of(1))?;
+    add_all(&mut whole, &mut seam, way.first, way.second, F::of(1))?;
     Ok(whole)
 }

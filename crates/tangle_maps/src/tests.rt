@@ -5,7 +5,7 @@
 ghost use Rattle.std.specs.Prelude.{IfOk};
 ghost use Rattle.tangle_maps.specs.Sums.{AreReduced};
 
-use crate::{POINTS, Pairing, Terms, Way, add_term, cancel, compose, is_way};
+use crate::{POINTS, Pairing, Seams, Terms, Way, add_term, cancel, compose, is_way};
 use dotted_maps::term::Term;
 use kh_types::NoMemory;
 use prime_field::laws::element_laws;
@@ -111,7 +111,8 @@ fn sums_of<F: PrimeField>(alloc: Global, row: &Row) -> Result<(Terms, Terms), No
     if !is_way(&way) {
         return Ok((SmallVec::new(alloc), left));
     }
-    cancel(&mut left, &way, F::of(1))?;
+    let mut seams = Seams::none(alloc)?;
+    cancel(&mut left, &mut seams, &way, F::of(1))?;
     let whole = compose::<F>(alloc, &way)?;
     Ok((whole, left))
 }

@@ -241,6 +241,7 @@ module _ (p : ℕ) (front : Front) (start left : Rowed) (taken : Taken) (turn : 
   turn-is = record {
     pairs = pairs-are;
     tail = omega (arith, tail-within, two.size);
+    tail_dead = two.tail_gone;
     dead = two.head_gone;
     some = number-is.some;
     below = number-is.below;
@@ -462,8 +463,8 @@ module _ (p : ℕ) (front : Front) (start left : Rowed) (taken : Taken) (turn : 
         (pairs-scan y below_y) in
         ap (λ n. (coefficient_in (terms_between next x y) kept + inverse p turn.pivot.number * n) % p) moved ∙ by
 
-    pub eliminated : IsEliminating p code scan next_scan
-    eliminated =
+    pub eliminated : (step : IsEliminating p code scan next_scan) × ((step.tail ≡ tail) × (step.head ≡ head))
+    eliminated = (
         record {
           done = refl;
           tail = tail;
@@ -481,7 +482,9 @@ module _ (p : ℕ) (front : Front) (start left : Rowed) (taken : Taken) (turn : 
           object = λ x has. same-object x;
           dots = dots-next;
           terms = terms-next;
-        }
+        },
+        (refl, refl),
+    )
 
     pub rowed-after : IsRowed p front next_rowed
     rowed-after = record { complex = complex-after; dots = dots-next; rows = rows-after }

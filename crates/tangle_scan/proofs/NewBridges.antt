@@ -1,7 +1,8 @@
 -- The bridges of new maps are those between the objects.
-use Rattle.std.proofs.Common.{◌≡◌, ℕ, ◌<◌, ◌∙◌, List, [], ◌∷◌, ◌++◌, get_or, length, sym, subst, subst₂, ap, arith}
+use Rattle.std.proofs.Common.{◌≡◌, ℕ, ◌<◌, ◌∙◌, List, [], ◌∷◌, ◌++◌, get_or, length, set, sym, subst, subst₂, ap, arith, Result, Ok, Err}
 use Rattle.std.proofs.lemmas.List.{get_or_push, length_push}
-use Rattle.std.proofs.lemmas.List.Elements.{All-push}
+use Rattle.std.proofs.lemmas.List.Elements.{All-push, All-set}
+use Rattle.std.specs.Prelude.{OnOk}
 use Rattle.kh_types.specs.Code.{Code}
 use Rattle.tangle_maps.specs.Pairings.{joins_of}
 use Rattle.crossing_maps.specs.AddedSeams.{ArePairs}
@@ -17,6 +18,10 @@ use Rattle.tangle_scan.specs.declared.adding.bridges.BridgeTo.{BridgeTo}
 use Rattle.tangle_scan.specs.declared.adding.bridges.BridgesOf.{BridgesOf}
 use Rattle.tangle_scan.specs.AddedBridges.{AreAllBridges, AreBridgesFrom, AreBridgesOf, HasBridgeAt, HasBridgesAt, IsBridgeFrom, IsBridgeIn, IsBridgeOver, IsSaddleIn, IsSaddleOf, LeadFrom, pairs_in}
 use Rattle.tangle_scan.specs.Additions.{IsReady, IsSideOf, code_in, done_in, scan_in}
+
+pub on-ok : {T E P : Type 0} (result : Result T E) → P → OnOk result P
+on-ok (Ok x) is = is
+on-ok (Err e) is = tt
 
 module _ (adding : Adding) where
   abbrev pairs : ℕ → List (ℕ × ℕ)
@@ -88,6 +93,17 @@ module _ (adding : Adding) where
     over = λ d. subst (λ n. IsBridgeIn adding e (pairs tail) n (get_or bridges place d).bridge)
         (ap (λ xs. joins_of xs adding.site.opened.now) (alike d) ∙ same) (are place d within);
   }
+
+  -- a bridge that was used, among the others
+  pub bridges-kept : (tail e place : ℕ) (to : BridgeTo) (bridge : Bridge) (old : List BridgeTo) → place < length old
+      → to ≡ get_or old place to → bridge ≡ to.bridge → AreBridgesFrom adding e tail old
+      → AreBridgesFrom adding e tail (set old place (record { pairing = to.pairing; bridge = bridge }))
+  bridges-kept tail e place to bridge old within there same are =
+      let made : BridgeTo = record { pairing = to.pairing; bridge = bridge } in
+      All-set (IsBridgeFrom adding e (pairs tail)) old place made
+      (subst (λ (b : Bridge). IsBridgeIn adding e (pairs tail) (joins_of to.pairing.partners adding.site.opened.now) b) (sym same)
+      (subst (IsBridgeFrom adding e (pairs tail)) (sym there) (are place to within)))
+      are
 
   pub saddle-made : (place : ℕ) (from to : Side) (bridge : Bridge) → IsReady adding → IsSideOf adding place from → IsSideOf adding place to
       → CanLabel bridge

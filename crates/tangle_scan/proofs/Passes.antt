@@ -12,6 +12,7 @@ use Rattle.scan_laws.specs.Steps.{AreSteps, LeadsTo, eliminated, last_of}
 use Rattle.tangle_scan.specs.declared.complex.Entry.{Entry}
 use Rattle.tangle_scan.specs.declared.complex.TangleComplex.{TangleComplex}
 use Rattle.tangle_scan.specs.declared.complex.Front.{Front}
+use Rattle.tangle_scan.specs.declared.clearing.pivots.Pivot.{Pivot}
 use Rattle.tangle_scan.specs.declared.clearing.rows.Rowed.{Rowed}
 use Rattle.tangle_scan.specs.Held.{IsColumn, IsComplexAt, alive_places, scan_at}
 use Rattle.tangle_scan.specs.Clearings.{HasEliminated}
@@ -39,8 +40,9 @@ leads-both p code scan middle next first second =
 pub from-none : (p : ℕ) (front : Front) (rowed : Rowed) → IsRowed p front rowed → IsRowedFrom p front rowed.complex rowed
 from-none p front rowed is = record { is = is; leads = record { later = []; steps = tt; last = refl } }
 
-pub from-step : (p : ℕ) (front : Front) (rowed next : Rowed) → HasEliminated p front rowed next → IsRowedFrom p front rowed.complex next
-from-step p front rowed next is =
+pub from-step : (p : ℕ) (front : Front) (rowed next : Rowed) (pivot : Pivot) → HasEliminated p front rowed pivot next
+    → IsRowedFrom p front rowed.complex next
+from-step p front rowed next pivot is =
     record {
       is = is.rowed_is;
       leads = record { later = scan_at front next.complex ∷ []; steps = (eliminated is.step, tt); last = refl };
@@ -98,7 +100,7 @@ heads-read p front complex seen is read =
     complex.columns.items is.columns))
 
 -- what an elimination gives, unless memory runs out
-pub from-eliminated : {E : Type 0} (p : ℕ) (front : Front) (rowed : Rowed) (result : Result Rowed E)
-    → IfOk result (HasEliminated p front rowed) → IfOk result (IsRowedFrom p front rowed.complex)
-from-eliminated p front rowed (Ok next) is = from-step p front rowed next is
-from-eliminated p front rowed (Err e) is = tt
+pub from-eliminated : {E : Type 0} (p : ℕ) (front : Front) (rowed : Rowed) (pivot : Pivot) (result : Result Rowed E)
+    → IfOk result (HasEliminated p front rowed pivot) → IfOk result (IsRowedFrom p front rowed.complex)
+from-eliminated p front rowed pivot (Ok next) is = from-step p front rowed next pivot is
+from-eliminated p front rowed pivot (Err e) is = tt

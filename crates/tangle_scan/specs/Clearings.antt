@@ -19,9 +19,11 @@ pub record CanEliminate (p : ℕ) (front : Front) (rowed : Rowed) (pivot : Pivot
   pub rowed_is : IsRowed p front rowed
   pub pivot_is : IsPivot rowed.complex pivot.tail pivot.head pivot.number
 
--- a pivot was cancelled: by a step of the theorem, and what is left is a complex there, with its rows
-pub record HasEliminated (p : ℕ) (front : Front) (old new : Rowed) : Type 0 where
+-- a pivot was cancelled: by a step of the theorem, of this pivot's tail and head, and what is left is a complex there, with its rows
+pub record HasEliminated (p : ℕ) (front : Front) (old : Rowed) (pivot : Pivot) (new : Rowed) : Type 0 where
   pub step : IsEliminating p front.diagram (scan_at front old.complex) (scan_at front new.complex)
+  pub tail : step.tail ≡ pivot.tail
+  pub head : step.head ≡ pivot.head
   pub rowed_is : IsRowed p front new
 
 -- columns can be cleared in a turn: there is one for each of its objects, and all are noted

@@ -153,11 +153,12 @@ IsDottedTo turn entry =
     → AreDotted (opened_points turn.opened.now) (joins_of (partners_at turn.objects.now turn.pivot.tail) turn.opened.now)
     (joins_of (partners_at turn.objects.now entry.head) turn.opened.now) entry.terms.items
 
--- a turn: the objects pair the opened arcs, the pivot's head is not there any more, and its number is one from 1 to p - 1; its column has
--- maps to these objects, with dots of discs where the head is there
+-- a turn: the objects pair the opened arcs, the pivot's tail and its head are not there any more, and its number is one from 1 to p - 1; its
+-- column has maps to these objects, with dots of discs where the head is there
 pub record IsTurn (p : ℕ) (turn : Turn) : Type 0 where
   pub pairs : All (λ object. turn.opened.now ≡ paired_arcs object.pairing.partners) turn.objects.now
   pub tail : turn.pivot.tail < length turn.objects.now
+  pub tail_dead : is_alive_at turn.objects.now turn.pivot.tail ≡ false
   pub dead : is_alive_at turn.objects.now turn.pivot.head ≡ false
   pub some : 0 < turn.pivot.number
   pub below : turn.pivot.number < p

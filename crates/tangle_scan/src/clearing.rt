@@ -19,6 +19,7 @@ use crate::complex::{Front, Object, TangleComplex};
 use kh_types::NoMemory;
 use prime_field::PrimeField;
 use std::alloc::Global;
+use tangle_maps::Seams;
 
 /// A pass over the objects with a smoothing of the crossing that was added last, which cancels a
 /// pivot out of each, if it has one through which at most so many ways lead.
@@ -67,7 +68,12 @@ pub fn eliminate_all<F: PrimeField>(
     ensures none { IfOk result HasNoPivot }
 {
     let rows = rows_of(alloc, complex.columns.as_slice())?;
-    let rowed = pass_each::<F>(alloc, front, Rowed { complex, rows })?;
+    let rowed = Rowed {
+        complex,
+        rows,
+        seams: Seams::none(alloc)?,
+    };
+    let rowed = pass_each::<F>(alloc, front, rowed)?;
     let rowed = finish::<F>(alloc, front, rowed)?;
     Ok(rowed.complex)
 }

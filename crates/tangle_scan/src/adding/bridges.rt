@@ -89,7 +89,7 @@ fn push_bridge(
         from.now.side.smoothing from.now.parent head.now.place bridges.new.items place) }
 {
     let to = side_of(links, head, from.side.smoothing);
-    let bridge = added_bridge(&links.adding.site, &from.side, &to);
+    let bridge = added_bridge(links.alloc, &links.adding.site, &from.side, &to);
     let place = bridges.len();
     bridges.push(BridgeTo {
         pairing: *to.pairing,
@@ -130,7 +130,7 @@ fn saddle_of(links: &Links<'_>, parent: &Parent<'_>) -> Bridge
 {
     let from = side_of(links, parent, 0);
     let to = side_of(links, parent, 1);
-    saddle_bridge(&links.adding.site, &from, &to)
+    saddle_bridge(links.alloc, &links.adding.site, &from, &to)
 }
 
 /// Begins the bridges of an object's pairing, and tells their place.

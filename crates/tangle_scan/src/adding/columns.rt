@@ -93,8 +93,8 @@ fn push_both<'a, F: PrimeField>(
         (origins_to links.now.adding.now (parent.now.place + 1)) made.new.items) }
     ensures bridges { OnOk result (AreBridgesOf links.now.adding.now bridges.new) }
 {
-    push_columns_of::<F>(made, links, &mut bridges.zero, &bridges.saddle, parent, 0)?;
-    push_columns_of::<F>(made, links, &mut bridges.one, &bridges.saddle, parent, 1)
+    push_columns_of::<F>(made, links, &mut bridges.zero, &mut bridges.saddle, parent, 0)?;
+    push_columns_of::<F>(made, links, &mut bridges.one, &mut bridges.saddle, parent, 1)
 }
 
 /// Adds the columns of the successors of an object that have a smoothing.
@@ -102,16 +102,17 @@ fn push_columns_of<'a, F: PrimeField>(
     made: &mut Vec<Column>,
     links: &Links<'a>,
     bridges: &mut Bridges,
-    saddle: &Bridge,
+    saddle: &mut Bridge,
     parent: &Parent<'a>,
     smoothing: u8,
 ) -> Result<(), NoMemory>
     requires links { AreLinks F.P links.now }
     requires bridges { AreBridgesFrom links.now.adding.now smoothing parent.now.place
         bridges.old.items }
-    requires saddle { IsSaddleOf links.now.adding.now parent.now.place saddle.now }
+    requires saddle { IsSaddleOf links.now.adding.now parent.now.place saddle.old }
     requires parent { IsParent links.now.adding.now parent.now }
     requires smoothing { smoothing < 2 }
+    ensures saddle { saddle.new ≡ saddle.old }
     ensures columns { (from : List Origin)
         → AreColumnsFrom F.P links.now.adding.now from made.old.items
         → OnOk result (AreColumnsFrom F.P links.now.adding.now (from
@@ -132,17 +133,18 @@ fn push_columns_of<'a, F: PrimeField>(
 fn column_from<'a, F: PrimeField>(
     links: &'a Links<'a>,
     bridges: &mut Bridges,
-    saddle: &'a Bridge,
+    saddle: &mut Bridge,
     child: &'a Child<'a>,
     parent: &Parent<'a>,
 ) -> Result<Column, NoMemory>
     requires links { AreLinks F.P links.now }
-    requires saddle { IsSaddleOf links.now.adding.now parent.now.place saddle.now }
+    requires saddle { IsSaddleOf links.now.adding.now parent.now.place saddle.old }
     requires bridges { AreBridgesFrom links.now.adding.now child.now.side.smoothing
         child.now.parent bridges.old.items }
     requires child { IsChild links.now.adding.now child.now }
     requires parent { IsParent links.now.adding.now parent.now }
     requires same { child.now.parent ≡ parent.now.place }
+    ensures saddle { saddle.new ≡ saddle.old }
     ensures column { IfOk result (λ column. IsColumnFrom F.P links.now.adding.now
         (origin_in child.now) column.items) }
     ensures bridges { OnOk result (AreBridgesFrom links.now.adding.now

@@ -21,20 +21,11 @@ use prime_field::PrimeField;
 use prime_field::laws::element_laws;
 use tangle_maps::{Terms, is_zero};
 
-/// An old map, or a new one along it: from a new object, with the terms of the old map, over the
-/// bridge to the object to which that leads.
+/// An old map, or a new one along it: from a new object, with the terms of the old map.
 #[derive(Clone, Copy)]
 struct Arrow<'a> {
     from: &'a Child<'a>,
     terms: &'a [Term],
-    bridge: &'a Bridge,
-}
-
-/// Saddles from a new object, with the bridge of the old one's saddle.
-#[derive(Clone, Copy)]
-struct Saddle<'a> {
-    from: &'a Child<'a>,
-    bridge: &'a Bridge,
 }
 
 /// Adds an entry with these terms, if there are any.
@@ -52,6 +43,7 @@ fn push_entry(column: &mut Column, head: usize, terms: Terms) -> Result<(), NoMe
 fn push_added<F: PrimeField>(
     column: &mut Column,
     links: &Links<'_>,
+    bridge: &mut Bridge,
     arrow: &Arrow<'_>,
     to: &Child<'_>,
 ) -> Result<(), NoMemory>
@@ -63,14 +55,15 @@ fn push_added<F: PrimeField>(
         arrow.now.from.now.parent to.now.parent }
     requires reduced { AreReduced F.P arrow.now.terms.now }
     requires bridge { IsBridgeOver links.now.adding.now arrow.now.from.now.side.smoothing
-        arrow.now.from.now.parent to.now.parent arrow.now.bridge.now }
-    ensures { (targets : List Origin) → HasEntriesTo F.P links.now.adding.now
+        arrow.now.from.now.parent to.now.parent bridge.old }
+    ensures same { bridge.new ≡ bridge.old }
+    ensures entries { (targets : List Origin) → HasEntriesTo F.P links.now.adding.now
         (origin_in arrow.now.from.now) targets column.old.items
         → OnOk result (HasEntriesTo F.P links.now.adding.now (origin_in arrow.now.from.now)
         (targets ++ (origin_in to.now ∷ [])) column.new.items) }
 {
     let labels = labels_between(arrow.from, to);
-    let terms = added_map::<F>(links.alloc, arrow.bridge, labels, arrow.terms)?;
+    let terms = added_map::<F>(links.alloc, bridge, labels, arrow.terms)?;
     push_entry(column, to.place, terms)
 }
 
@@ -78,6 +71,7 @@ fn push_added<F: PrimeField>(
 fn push_all_along<'a, F: PrimeField>(
     column: &mut Column,
     links: &Links<'a>,
+    bridge: &mut Bridge,
     arrow: &Arrow<'a>,
     head: &Parent<'a>,
 ) -> Result<(), NoMemory>
@@ -88,8 +82,9 @@ fn push_all_along<'a, F: PrimeField>(
         arrow.now.from.now.parent head.now.place }
     requires reduced { AreReduced F.P arrow.now.terms.now }
     requires bridge { IsBridgeOver links.now.adding.now arrow.now.from.now.side.smoothing
-        arrow.now.from.now.parent head.now.place arrow.now.bridge.now }
-    ensures { (targets : List Origin) → HasEntriesTo F.P links.now.adding.now
+        arrow.now.from.now.parent head.now.place bridge.old }
+    ensures same { bridge.new ≡ bridge.old }
+    ensures entries { (targets : List Origin) → HasEntriesTo F.P links.now.adding.now
         (origin_in arrow.now.from.now) targets column.old.items
         → OnOk result (HasEntriesTo F.P links.now.adding.now (origin_in arrow.now.from.now)
         (targets ++ origins_with (code_in links.now.adding.now) (scan_in links.now.adding.now)
@@ -98,7 +93,7 @@ fn push_all_along<'a, F: PrimeField>(
     let smoothing = arrow.from.side.smoothing;
     'labels: for label in 0..label_count(head.split(smoothing)) {
         let to = child_of(links, head, smoothing, label);
-        push_added::<F>(column, links, arrow, &to)?;
+        push_added::<F>(column, links, bridge, arrow, &to)?;
     }
     Ok(())
 }
@@ -132,9 +127,8 @@ pub fn push_over<'a, F: PrimeField>(
     let arrow = Arrow {
         from,
         terms: old.terms.as_slice(),
-        bridge: &bridges[place].bridge,
     };
-    push_all_along::<F>(column, links, &arrow, head)
+    push_all_along::<F>(column, links, &mut bridges[place].bridge, &arrow, head)
 }
 
 /// Minus 1 to a degree.
@@ -153,25 +147,26 @@ fn sign_of<F: PrimeField>(degree: u8) -> F
 fn push_saddle<F: PrimeField>(
     column: &mut Column,
     links: &Links<'_>,
-    saddle: &Saddle<'_>,
+    bridge: &mut Bridge,
+    from: &Child<'_>,
     to: &Child<'_>,
 ) -> Result<(), NoMemory>
     requires links { AreLinks F.P links.now }
     requires to { IsChild links.now.adding.now to.now }
-    requires parent { saddle.now.from.now.parent ≡ to.now.parent }
-    requires within { saddle.now.from.now.parent < length (objects_in links.now.adding.now) }
-    requires before { saddle.now.from.now.side.smoothing ≡ 0 }
+    requires parent { from.now.parent ≡ to.now.parent }
+    requires within { from.now.parent < length (objects_in links.now.adding.now) }
+    requires before { from.now.side.smoothing ≡ 0 }
     requires behind { to.now.side.smoothing ≡ 1 }
-    requires bridge { IsSaddleOf links.now.adding.now saddle.now.from.now.parent
-        saddle.now.bridge.now }
-    ensures { (targets : List Origin) → HasEntriesTo F.P links.now.adding.now
-        (origin_in saddle.now.from.now) targets column.old.items
-        → OnOk result (HasEntriesTo F.P links.now.adding.now (origin_in saddle.now.from.now)
+    requires bridge { IsSaddleOf links.now.adding.now from.now.parent bridge.old }
+    ensures same { bridge.new ≡ bridge.old }
+    ensures entries { (targets : List Origin) → HasEntriesTo F.P links.now.adding.now
+        (origin_in from.now) targets column.old.items
+        → OnOk result (HasEntriesTo F.P links.now.adding.now (origin_in from.now)
         (targets ++ (origin_in to.now ∷ [])) column.new.items) }
 {
-    let sign = sign_of::<F>(links.adding.complex.objects[saddle.from.parent].degree);
-    let labels = labels_between(saddle.from, to);
-    let terms = saddle_map::<F>(links.alloc, saddle.bridge, labels, sign)?;
+    let sign = sign_of::<F>(links.adding.complex.objects[from.parent].degree);
+    let labels = labels_between(from, to);
+    let terms = saddle_map::<F>(links.alloc, bridge, labels, sign)?;
     push_entry(column, to.place, terms)
 }
 
@@ -180,25 +175,25 @@ fn push_saddle<F: PrimeField>(
 fn push_all_saddles<'a, F: PrimeField>(
     column: &mut Column,
     links: &Links<'a>,
-    bridge: &'a Bridge,
+    bridge: &mut Bridge,
     from: &'a Child<'a>,
     parent: &Parent<'a>,
 ) -> Result<(), NoMemory>
     requires links { AreLinks F.P links.now }
-    requires bridge { IsSaddleOf links.now.adding.now parent.now.place bridge.now }
+    requires bridge { IsSaddleOf links.now.adding.now parent.now.place bridge.old }
     requires parent { IsParent links.now.adding.now parent.now }
     requires same { from.now.parent ≡ parent.now.place }
     requires before { from.now.side.smoothing ≡ 0 }
-    ensures { (targets : List Origin) → HasEntriesTo F.P links.now.adding.now
+    ensures same { bridge.new ≡ bridge.old }
+    ensures entries { (targets : List Origin) → HasEntriesTo F.P links.now.adding.now
         (origin_in from.now) targets column.old.items
         → OnOk result (HasEntriesTo F.P links.now.adding.now (origin_in from.now)
         (targets ++ origins_with (code_in links.now.adding.now) (scan_in links.now.adding.now)
         parent.now.place 1) column.new.items) }
 {
-    let saddle = Saddle { from, bridge };
     'labels: for label in 0..label_count(parent.split(1)) {
         let to = child_of(links, parent, 1, label);
-        push_saddle::<F>(column, links, &saddle, &to)?;
+        push_saddle::<F>(column, links, bridge, from, &to)?;
     }
     Ok(())
 }
@@ -208,16 +203,17 @@ fn push_all_saddles<'a, F: PrimeField>(
 pub fn push_saddles<'a, F: PrimeField>(
     column: &mut Column,
     links: &Links<'a>,
-    bridge: &'a Bridge,
+    bridge: &mut Bridge,
     from: &'a Child<'a>,
     parent: &Parent<'a>,
 ) -> Result<(), NoMemory>
     requires links { AreLinks F.P links.now }
-    requires bridge { IsSaddleOf links.now.adding.now parent.now.place bridge.now }
+    requires bridge { IsSaddleOf links.now.adding.now parent.now.place bridge.old }
     requires from { IsChild links.now.adding.now from.now }
     requires parent { IsParent links.now.adding.now parent.now }
     requires same { from.now.parent ≡ parent.now.place }
-    ensures { (targets : List Origin) → HasEntriesTo F.P links.now.adding.now
+    ensures same { bridge.new ≡ bridge.old }
+    ensures entries { (targets : List Origin) → HasEntriesTo F.P links.now.adding.now
         (origin_in from.now) targets column.old.items
         → OnOk result (HasEntriesTo F.P links.now.adding.now (origin_in from.now)
         (targets ++ saddle_targets links.now.adding.now (origin_in from.now)) column.new.items) }

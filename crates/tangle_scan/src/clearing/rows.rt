@@ -9,15 +9,17 @@ use crate::complex::{Column, Entry, TangleComplex};
 use kh_types::NoMemory;
 use std::alloc::Global;
 use std::mem;
+use tangle_maps::Seams;
 
 /// For each place the columns that are noted there.
 pub(crate) type Rows = Vec<Vec<usize>>;
 
-/// A complex with its rows.
+/// A complex with its rows, and the seams that were made to clear it.
 #[derive(Drop)]
 pub(crate) struct Rowed {
     pub(crate) complex: TangleComplex,
     pub(crate) rows: Rows,
+    pub(crate) seams: Seams,
 }
 
 /// The rows of some columns.

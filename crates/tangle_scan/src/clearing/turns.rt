@@ -3,9 +3,9 @@
 //! to each object there are taken off the column.
 
 ghost use Rattle.std.specs.Prelude.{◌≡◌, ◌≢◌, ℕ, ◌<◌, [], length, IfOk, IfSome, None, OnOk};
-ghost use Rattle.tangle_scan.specs.Clearings.{CanClearColumns, CanClearColumn, CanEliminate, CanTakeWays};
-ghost use Rattle.tangle_scan.specs.Clearings.{HasCleared, HasClearedAt, HasTakenWays};
-ghost use Rattle.tangle_scan.specs.Clearings.{IsClearedColumn, HasEliminated};
+ghost use Rattle.tangle_scan.specs.Clearings.{CanClearColumn, CanClearColumns, CanEliminate, CanTakeWays};
+ghost use Rattle.tangle_scan.specs.Clearings.{HasCleared, HasClearedAt, HasEliminated, HasTakenWays};
+ghost use Rattle.tangle_scan.specs.Clearings.{IsClearedColumn};
 ghost use Rattle.tangle_scan.specs.Eliminations.{IsKilled, IsMultipleAt, IsTakenOut, IsTurnOf, column_in};
 
 use crate::clearing::pivots::{Pivot, have_one_pairing};
@@ -17,7 +17,7 @@ use kh_types::NoMemory;
 use prime_field::PrimeField;
 use std::alloc::Global;
 use std::mem;
-use tangle_maps::number_of;
+use tangle_maps::{Seams, number_of};
 
 /// A pivot that is being cancelled: the opened arcs, the objects, of which its tail and its head
 /// are not there any more, and the column that was taken out at its tail.
@@ -54,13 +54,13 @@ pub(crate) fn eliminate<F: PrimeField>(
     pivot: Pivot,
 ) -> Result<Rowed, NoMemory>
     requires { CanEliminate F.P front.now rowed pivot }
-    ensures { IfOk result (HasEliminated F.P front.now rowed) }
+    ensures { IfOk result (HasEliminated F.P front.now rowed pivot) }
 {
     let mut rowed = rowed;
     let taken = take_out(alloc, &mut rowed, pivot);
     let turn = turn_of(front, &rowed.complex.objects, pivot, &taken);
     let named = taken.named.as_slice();
-    clear_all::<F>(&mut rowed.complex.columns, &mut rowed.rows, &turn, named)?;
+    clear_all::<F>(&mut rowed.complex.columns, &mut rowed.rows, &mut rowed.seams, &turn, named)?;
     Ok(rowed)
 }
 
@@ -122,6 +122,7 @@ fn kill(objects: &mut Vec<Object>, place: usize)
 fn clear_all<F: PrimeField>(
     columns: &mut Vec<Column>,
     rows: &mut Rows,
+    seams: &mut Seams,
     turn: &Turn<'_>,
     named: &[usize],
 ) -> Result<(), NoMemory>
@@ -130,7 +131,7 @@ fn clear_all<F: PrimeField>(
         (HasCleared F.P turn.now named.now columns.old.items columns.new.items rows.new.items) }
 {
     'columns: for place in named {
-        clear_at::<F>(columns, rows, turn, *place)?;
+        clear_at::<F>(columns, rows, seams, turn, *place)?;
     }
     Ok(())
 }
@@ -139,6 +140,7 @@ fn clear_all<F: PrimeField>(
 fn clear_at<F: PrimeField>(
     columns: &mut Vec<Column>,
     rows: &mut Rows,
+    seams: &mut Seams,
     turn: &Turn<'_>,
     place: usize,
 ) -> Result<(), NoMemory>
@@ -149,7 +151,7 @@ fn clear_at<F: PrimeField>(
     if place >= columns.len() {
         return Ok(());
     }
-    clear::<F>(&mut columns[place], rows, turn, place)?;
+    clear::<F>(&mut columns[place], rows, seams, turn, place)?;
     Ok(())
 }
 
@@ -157,6 +159,7 @@ fn clear_at<F: PrimeField>(
 fn clear<F: PrimeField>(
     column: &mut Column,
     rows: &mut Rows,
+    seams: &mut Seams,
     turn: &Turn<'_>,
     place: usize,
 ) -> Result<(), NoMemory>
@@ -173,7 +176,7 @@ fn clear<F: PrimeField>(
                 first,
                 multiple: multiple_at(turn, place, first),
             };
-            take_ways::<F>(column, rows, turn, &start)
+            take_ways::<F>(column, rows, seams, turn, &start)
         }
         None => Ok(()),
     }
@@ -199,6 +202,7 @@ fn multiple_at(turn: &Turn<'_>, place: usize, first: &[Term]) -> Option<u8>
 fn take_ways<F: PrimeField>(
     column: &mut Column,
     rows: &mut Rows,
+    seams: &mut Seams,
     turn: &Turn<'_>,
     start: &Start<'_>,
 ) -> Result<(), NoMemory>
@@ -208,7 +212,7 @@ fn take_ways<F: PrimeField>(
 {
     let entries = turn.column;
     'entries: for entry in entries {
-        take_if_alive::<F>(column, rows, turn, start, entry)?;
+        take_if_alive::<F>(column, rows, seams, turn, start, entry)?;
     }
     Ok(())
 }

@@ -17,13 +17,14 @@ use kh_types::NoMemory;
 use prime_field::PrimeField;
 use prime_field::laws::element_laws;
 use smallvec::SmallVec;
-use tangle_maps::{Pairing, Terms, Way, cancel, cancel_multiple, is_zero};
+use tangle_maps::{Pairing, Seams, Terms, Way, cancel, cancel_multiple, is_zero};
 
 /// Takes the way over an entry of the pivot's column off a column, if its head is there, and notes
 /// the column if it leads to a new head.
 pub(crate) fn take_if_alive<F: PrimeField>(
     column: &mut Column,
     rows: &mut Rows,
+    seams: &mut Seams,
     turn: &Turn<'_>,
     start: &Start<'_>,
     entry: &Entry,
@@ -35,7 +36,7 @@ pub(crate) fn take_if_alive<F: PrimeField>(
     if !turn.objects[entry.head].is_alive {
         return Ok(());
     }
-    let is_new = take_way::<F>(column, turn, start, entry)?;
+    let is_new = take_way::<F>(column, seams, turn, start, entry)?;
     note_if(is_new, rows, entry.head, start.place)?;
     Ok(())
 }
@@ -43,6 +44,7 @@ pub(crate) fn take_if_alive<F: PrimeField>(
 /// Takes the way over an entry off a column, and tells whether the column leads to a new head.
 fn take_way<F: PrimeField>(
     column: &mut Column,
+    seams: &mut Seams,
     turn: &Turn<'_>,
     start: &Start<'_>,
     entry: &Entry,
@@ -56,10 +58,10 @@ fn take_way<F: PrimeField>(
     let number = F::of(turn.pivot.number);
     match place_of(column, entry.head) {
         Some(at) => {
-            cancel_in(column, at, &way, start.multiple, number)?;
+            cancel_in(column, seams, at, &way, start.multiple, number)?;
             Ok(false)
         }
-        None => cancel_new(column, entry.head, &way, start.multiple, number),
+        None => cancel_new(column, seams, entry.head, &way, start.multiple, number),
     }
 }
 
@@ -109,6 +111,7 @@ fn first_place(column: &[Entry], head: usize) -> Option<usize>
 /// the way is known to be a number times the identity.
 fn take_off<F: PrimeField>(
     terms: &mut Terms,
+    seams: &mut Seams,
     way: &Way<'_>,
     multiple: Option<u8>,
     number: F,
@@ -122,13 +125,14 @@ fn take_off<F: PrimeField>(
 {
     match multiple {
         Some(multiple) => cancel_multiple(terms, way, multiple, number),
-        None => cancel(terms, way, number),
+        None => cancel(terms, seams, way, number),
     }
 }
 
 /// Takes a way off the entry at a place. An entry that becomes 0 is taken out.
 fn cancel_in<F: PrimeField>(
     column: &mut Column,
+    seams: &mut Seams,
     at: usize,
     way: &Way<'_>,
     multiple: Option<u8>,
@@ -142,7 +146,7 @@ fn cancel_in<F: PrimeField>(
         F.P (head_at column.old.items at) column.old.items column.new.items) }
     ensures same_heads { OnOk result (HasHeadsOf column.old.items column.new.items) }
 {
-    take_off(&mut column[at].terms, way, multiple, number)?;
+    take_off(&mut column[at].terms, seams, way, multiple, number)?;
     trim(column, at);
     Ok(())
 }
@@ -162,6 +166,7 @@ fn trim(column: &mut Column, at: usize)
 /// then.
 fn cancel_new<F: PrimeField>(
     column: &mut Column,
+    seams: &mut Seams,
     head: usize,
     way: &Way<'_>,
     multiple: Option<u8>,
@@ -178,7 +183,7 @@ fn cancel_new<F: PrimeField>(
 {
     let alloc = *column.allocator();
     let mut terms: Terms = SmallVec::new(alloc);
-    take_off(&mut terms, way, multiple, number)?;
+    take_off(&mut terms, seams, way, multiple, number)?;
     add_map(column, Entry { head, terms })
 }
 

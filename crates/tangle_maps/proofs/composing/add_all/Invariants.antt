@@ -1,4 +1,4 @@
-use Rattle.std.proofs.Common.{take}
+use Rattle.std.proofs.Common.{◌≡◌, take}
 use Rattle.std.specs.List.{flat_map}
 use Rattle.dotted_maps.specs.Maps.{scaled}
 use Rattle.tangle_maps.specs.Seams.{seam_behind}
@@ -7,7 +7,8 @@ use Rattle.tangle_maps.proofs.composing.add_all.Given as goal
 
 abbrev pub invariant-terms : goal.invariant-terms
 invariant-terms g l = record {
+  same : l.seam ≡ l.initial.seam;
   sum : IsSum g.F.PrimeField.P l.initial.terms.items
-      (scaled (g.F.PrimeField.value_of l.factor) (flat_map (seam_behind l.seam l.second) (take l.term-index l.first))) l.terms.items;
+      (scaled (g.F.PrimeField.value_of l.factor) (flat_map (seam_behind l.initial.seam l.second) (take l.term-index l.first))) l.terms.items;
   reduced : AreReduced g.F.PrimeField.P l.terms.items;
 }

@@ -14,4 +14,4 @@ pivots-preserved g c =
     let front = c.args.front.now in
     let next = c.in_ok-rowed.rowed in
     from-both p front c.args.rowed.complex c.pivots.rowed next c.pivots.invariant
-    (from-step p front c.pivots.rowed next c.in_ok-rowed.ensures)
+    (from-step p front c.pivots.rowed next _ c.in_ok-rowed.ensures)

@@ -19,7 +19,7 @@ returns-clause-column g c =
     let child = c.args.child.now in
     let f = targets_along adding child.side.smoothing in
     subst (IsColumnFrom p adding (origin_in child)) (sym c.trim.ensures)
-    (c.in_ok-push_saddles.ensures (flat_map f (map head_of (column_at adding.complex.now child.parent)))
+    (c.in_ok-push_saddles.ensures.entries (flat_map f (map head_of (column_at adding.complex.now child.parent)))
     (subst (λ (xs : List Entry). HasEntriesTo p adding (origin_in child) (flat_map f (map head_of xs)) c.push_all.new.column.items)
     (c.deref.ensures.value
     ∙ column-read p adding child.parent c.index-entries.result.now c.requires.links.complex

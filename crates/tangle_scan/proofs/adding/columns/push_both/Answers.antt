@@ -1,7 +1,8 @@
-use Rattle.std.proofs.Common.{◌++◌, subst, sym}
+use Rattle.std.proofs.Common.{◌++◌, ◌∙◌, subst, sym}
+use Rattle.crossing_maps.specs.declared.bridges.Bridge.{Bridge}
 use Rattle.std.proofs.lemmas.Result.{on_ok_weaker}
 use Rattle.scan_laws.specs.Adding.{origins_with}
-use Rattle.tangle_scan.specs.AddedBridges.{LeadFrom}
+use Rattle.tangle_scan.specs.AddedBridges.{IsSaddleIn, IsSaddleOf, LeadFrom, pairs_in}
 use Rattle.tangle_scan.specs.Additions.{code_in, origins_to, scan_in}
 use Rattle.tangle_scan.proofs.MoreColumns.{columns-both}
 use Rattle.tangle_scan.proofs.adding.columns.push_both.Goals as goal
@@ -14,6 +15,12 @@ pub push_columns_of-requires-2-clause-bridges : goal.push_columns_of-requires-2-
 push_columns_of-requires-2-clause-bridges g c =
     subst (λ m. LeadFrom c.args.links.now.adding.now 1 m c.args.bridges.now.one.items) c.requires.pairs c.requires.bridges.one
 
+pub push_columns_of-requires-2-clause-saddle : goal.push_columns_of-requires-2-clause-saddle
+push_columns_of-requires-2-clause-saddle g c =
+    let adding = c.args.links.now.adding.now in
+    subst (λ (saddle : Bridge). IsSaddleOf adding c.args.parent.now.place saddle) (sym c.push_columns_of.ensures.saddle)
+    (subst (λ m. IsSaddleIn adding m c.args.bridges.now.saddle) c.requires.pairs c.requires.bridges.saddle)
+
 pub returns-clause-bridges : goal.returns-clause-bridges
 returns-clause-bridges g c =
     let adding = c.args.links.now.adding.now in
@@ -22,7 +29,8 @@ returns-clause-bridges g c =
       zero = subst (λ m. LeadFrom adding 0 m c.push_columns_of.new.bridges.items) (sym c.requires.pairs)
           c.in_ok-push_columns_of.ensures.bridges;
       one = subst (λ m. LeadFrom adding 1 m c.push_columns_of-2.new.bridges.items) (sym c.requires.pairs) one;
-      saddle = c.requires.bridges.saddle;
+      saddle = subst (λ (saddle : Bridge). IsSaddleIn adding (pairs_in adding c.args.bridges.now) saddle)
+          (sym (c.push_columns_of-2.ensures.saddle ∙ c.push_columns_of.ensures.saddle)) c.requires.bridges.saddle;
     })
     c.push_columns_of-2.ensures.bridges
 

@@ -7,8 +7,8 @@ use Rattle.tangle_scan.specs.Additions.{code_in, done_in, origin_in, scan_in}
 use Rattle.tangle_scan.proofs.NewEntries.{entry-added, entry-on-ok}
 use Rattle.tangle_scan.proofs.adding.entries.push_added.Goals as goal
 
-pub returns : goal.returns
-returns g c = λ targets has.
+pub returns-clause-entries : goal.returns-clause-entries
+returns-clause-entries g c = λ targets has.
     let p = g.F.PrimeField.P in
     let adding = c.args.links.now.adding.now in
     let from = c.args.arrow.now.from.now in

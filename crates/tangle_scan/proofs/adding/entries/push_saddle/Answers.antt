@@ -9,11 +9,11 @@ use Rattle.tangle_scan.proofs.NewEntries.{entry-on-ok, entry-saddled}
 use Rattle.tangle_scan.proofs.NewObjects.{scan-object}
 use Rattle.tangle_scan.proofs.adding.entries.push_saddle.Goals as goal
 
-pub returns : goal.returns
-returns g c = λ targets has.
+pub returns-clause-entries : goal.returns-clause-entries
+returns-clause-entries g c = λ targets has.
     let p = g.F.PrimeField.P in
     let adding = c.args.links.now.adding.now in
-    let from = c.args.saddle.now.from.now in
+    let from = c.args.from.now in
     let to = c.args.to.now in
     let bridge = c.requires.bridge in
     let old = c.index.result.now in

@@ -1,4 +1,5 @@
-use Rattle.std.proofs.Common.{refl}
+use Rattle.std.proofs.Common.{◌∙◌, ap, refl}
+use Rattle.tangle_scan.specs.declared.clearing.pivots.Pivot.{Pivot}
 use Rattle.tangle_scan.specs.declared.clearing.rows.Rowed.{Rowed}
 use Rattle.tangle_scan.proofs.Eliminated.{begun, columns-begun, eliminated, rowed-after, turn-is}
 use Rattle.tangle_scan.proofs.Killed.{alive-within}
@@ -23,12 +24,16 @@ returns g c =
     let next : Rowed = record {
       complex = record { objects = c.take_out-taken.new.rowed.complex.objects; columns = c.clear_all.new.columns };
       rows = c.clear_all.new.rows;
+      seams = c.clear_all.new.seams;
     } in
     let is = begun _ _ _ _ _ _ _ c.requires.front_is c.requires.rowed_is c.requires.pivot_is c.take_out-taken.ensures
     c.turn_of-turn.ensures in
     let cleared = c.in_ok-clear_all.ensures.cleared in
     let columns = c.in_ok-clear_all.ensures.columns_are in
+    let done = eliminated _ _ _ _ _ _ is _ next c.as_slice-named.ensures.value refl cleared columns in
     record {
-      step = eliminated _ _ _ _ _ _ is _ next c.as_slice-named.ensures.value refl cleared columns;
+      step = done.0;
+      tail = done.1.0 ∙ ap (λ (q : Pivot). q.tail) c.turn_of-turn.ensures.pivot_is;
+      head = done.1.1 ∙ ap (λ (q : Pivot). q.head) c.turn_of-turn.ensures.pivot_is;
       rowed_is = rowed-after _ _ _ _ _ _ is _ next c.as_slice-named.ensures.value refl cleared columns;
     }
