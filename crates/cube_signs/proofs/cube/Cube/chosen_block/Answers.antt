@@ -7,7 +7,7 @@ use Rattle.std.proofs.lemmas.List.{length-map}
 use Rattle.kh_types.specs.Generators.{Generator}
 use Rattle.sparse_block.specs.Complexes.{HaveEntries, SquaresToZero, sparse_complex}
 use Rattle.sparse_block.specs.Inside.{lines_in, lists_in}
-use Rattle.cube_signs.proofs.cube.Cube.chosen_opening_block.Goals as goal
+use Rattle.cube_signs.proofs.cube.Cube.chosen_block.Goals as goal
 
 fits : (n : ℕ) (low : ℤ) (names : List (Vec Generator)) → n ≤ 20 → low ≡ neg_ℤ (pos n) → length (lists_in names) ≡ 2 * n + 1
     → (to_z w16 (of_z w16 low) +ℤ pos (length names)) ≤ℤ pos 32767
@@ -16,17 +16,17 @@ fits n low names few is size = omega (arith, ints, length-map names (λ (degree 
 turned : (n : ℕ) (low : ℤ) → n ≤ 20 → low ≡ neg_ℤ (pos n) → pos 0 -ℤ pos n ≡ to_z w16 (of_z w16 low)
 turned n low few is = omega (arith, ints)
 
-pub new-requires-clause-end : goal.new-requires-clause-end
-new-requires-clause-end = grind (arith, nat_tests, fits)
+pub build-requires-clause-end : goal.build-requires-clause-end
+build-requires-clause-end = grind (arith, nat_tests, fits)
 
-pub new-requires-clause-entries : goal.new-requires-clause-entries
-new-requires-clause-entries g c =
+pub build-requires-clause-entries : goal.build-requires-clause-entries
+build-requires-clause-entries g c =
     let parts = c.in_ok-parts.parts in
     subst (λ (p : ℕ). HaveEntries p (lists_in parts.names.items) (lines_in parts.columns.items)) c.P.ensures
     c.in_ok-parts.ensures.entries
 
-pub new-requires-clause-squares : goal.new-requires-clause-squares
-new-requires-clause-squares g c =
+pub build-requires-clause-squares : goal.build-requires-clause-squares
+build-requires-clause-squares g c =
     let parts = c.in_ok-parts.parts in
     let low = turned (length c.args.self.now.crossings) c.lowest.result.i
     (omega (arith, c.crossing_count.ensures.count, c.crossing_count.ensures.few)) c.lowest.ensures.i in
@@ -43,6 +43,6 @@ returns g c =
     let columns = lines_in parts.columns.items in
     let low = turned (length c.args.self.now.crossings) c.lowest.result.i
     (omega (arith, c.crossing_count.ensures.count, c.crossing_count.ensures.few)) c.lowest.ensures.i in
-    c.new.ensures ∙ ap (λ (low : ℤ). sparse_complex low names columns) (sym low) ∙ c.in_ok-parts.ensures.is
+    c.build.ensures ∙ ap (λ (low : ℤ). sparse_complex low names columns) (sym low) ∙ c.in_ok-parts.ensures.is
     ∙ ap (λ (p : ℕ). chosen_block (has_minus c.args.circles.now) p c.args.self.now (to_z w16 (of_z w16 c.args.j))) c.P.ensures
     ∙ ap (chosen_block (has_minus c.args.circles.now) g.F.PrimeField.P c.args.self.now) (to_z-of_z w16 c.args.j c.ranges.j)
