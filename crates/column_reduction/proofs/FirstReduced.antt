@@ -1,5 +1,5 @@
 -- The columns of a degree, stored one after another: what a complex that has them keeps of them.
-use Rattle.std.proofs.Common.{◌≡◌, ℕ, ◌+◌, ◌<◌, ◌≤◌, ◌∙◌, List, [], ◌∷◌, ℤ, length, refl, ap, sym, subst, arith, Bool, false}
+use Rattle.std.proofs.Common.{◌≡◌, ℕ, ◌+◌, ◌≤◌, ◌∙◌, List, [], ◌∷◌, ℤ, length, refl, ap, sym, subst, arith, Bool, false}
 use Rattle.std.specs.Prelude.{slice_index_or, if◌then◌else◌}
 use Rattle.std.proofs.lemmas.List.{length-append, map_push}
 use Rattle.kh_types.specs.Complex.{Complex, entry_of}

@@ -1,15 +1,18 @@
 -- The reduction of a complex before any cancellation, by the columns of one degree after another. Each of its places has a name, and
 -- stays a place of its degree as pivots are cancelled, alive or dead; so the rows of a degree's columns are the places of the next, and
 -- there are few enough columns to be counted. It begins with no degree reduced, and reduced columns of the next degree give one more.
-use Rattle.std.proofs.Common.{◌≡◌, ℕ, ◌+◌, ◌<◌, ◌^◌, ◌∙◌, List, [], ◌∷◌, ◌++◌, ℤ, pos, ◌+ℤ◌, ◌≤ℤ◌, length, map, refl, ap, sym, subst, arith, Bool, true}
+use Rattle.std.proofs.Common.{◌≡◌, ℕ, ◌+◌, ◌<◌, ◌^◌, ◌∙◌, List, [], ◌++◌, ℤ, pos, ◌+ℤ◌, ◌≤ℤ◌, length, map, ap, sym, subst, arith, Bool, true}
 use Rattle.std.specs.Prelude.{slice_index_or}
+use Rattle.std.specs.Global.{Vec}
 use Rattle.std.proofs.Math.ListN as plain
 use Rattle.std.proofs.lemmas.Int.{ints}
 use Rattle.std.proofs.lemmas.List.{ext_get_or, length-map}
-use Rattle.kh_types.specs.Complex.{Complex, Degree, IsComplex, Pivot, degree_of}
+use Rattle.kh_types.specs.Complex.{Complex, Degree, Pivot, degree_of}
+use Rattle.kh_types.specs.Generators.{Generator}
 use Rattle.kh_types.specs.History.{replay}
 use Rattle.prime_field.specs.Residues.{IsField}
 use Rattle.sparse_block.specs.Complexes.{NamedComplex, all_alive, complex_from, no_columns, place_count}
+use Rattle.sparse_block.specs.Inside.{lists_in}
 use Rattle.sparse_block.specs.Opening.{IsOpening}
 use Rattle.sparse_block.proofs.BuildLemmas.{sizes-all_alive}
 use Rattle.sparse_block.proofs.DegreeLemmas.{length-at}
@@ -95,3 +98,10 @@ module _ (p : ℕ) (named : NamedComplex) (field : IsField p) (opening : IsOpeni
       → IsReducedTo p named.complex k places pivots
       → IsReducedComplex p named.complex pivots (replay p named.complex pivots)
   all-opening k places pivots all = reduced_to-all p k complex places pivots (all ∙ sym count)
+
+-- there are as many degrees in memory as names are given for
+pub length-opening : (names : List (List Generator)) (alive : List (Vec Bool)) → lists_in alive ≡ all_alive names
+    → length alive ≡ length names
+length-opening names alive are =
+    sym (length-map alive (λ (degree : Vec Bool). degree.items)) ∙ ap length are
+    ∙ length-map names (λ degree. map (λ name. true) degree)

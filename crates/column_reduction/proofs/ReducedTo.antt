@@ -19,7 +19,7 @@ use Rattle.sparse_block.proofs.CancelledDegrees.{Where, where_is}
 use Rattle.sparse_block.proofs.ComplexMatrices.{entry-stands}
 use Rattle.column_reduction.proofs.Chains.{greatest-longer, reduced-longer}
 use Rattle.column_reduction.proofs.Commuting.{come-first}
-use Rattle.sparse_block.proofs.HistoryLemmas.{complex-replay, low-replay, places-replay}
+use Rattle.sparse_block.proofs.HistoryLemmas.{complex-replay, low-replay}
 use Rattle.column_reduction.specs.Reductions.{AreReduced, AreReducedUp, HaveNoEntryBelow, IsReducedComplex, IsReducedDegree, is_last_row, is_place_alive}
 use Rattle.column_reduction.specs.StoredColumns.{AreFirstReduced, HasColumns, IsReducedTo, StoredColumn, alive_in, reduced_columns, stored_pivots, with_pairs}
 use Rattle.column_reduction.proofs.Ends.{below-low, below-next, less-degrees, own-degrees}

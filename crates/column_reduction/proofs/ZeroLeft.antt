@@ -1,5 +1,5 @@
 -- What column reduction leaves is the complex without entries that has the same places alive.
-use Rattle.std.proofs.Common.{◌≡◌, ℕ, zero, suc, ◌∙◌, List, [], ◌∷◌, ℤ, pos, negsuc, ◌+ℤ◌, ◌-ℤ◌, length, map, ap, sym, refl, arith, Bool, true, false}
+use Rattle.std.proofs.Common.{◌≡◌, ℕ, zero, suc, ◌∙◌, List, [], ◌∷◌, ℤ, pos, negsuc, ◌-ℤ◌, length, ap, sym, refl, arith, Bool, true, false}
 use Rattle.std.specs.Prelude.{nat_eq, slice_index, slice_index_or}
 use Rattle.std.specs.List.{list_all}
 use Rattle.std.proofs.lemmas.Bool.{and_parts}

@@ -1,5 +1,5 @@
 -- Reduced columns as they are stored, each with its entries, and what a search among them finds.
-use Rattle.std.specs.Prelude.{◌≡◌, ℕ, ◌+◌, ◌<◌, ℤ, pos, ◌+ℤ◌, ◌<ℤ◌, ◌≤ℤ◌, List, [], ◌∷◌, ◌++◌, length, map, get_or, slice_index_or, Option, Some, None, Bool, false, All, if◌then◌else◌}
+use Rattle.std.specs.Prelude.{◌≡◌, ℕ, ◌+◌, ◌<◌, ℤ, pos, ◌+ℤ◌, ◌≤ℤ◌, List, [], ◌∷◌, ◌++◌, length, map, get_or, slice_index_or, Option, Some, None, Bool, false, All, if◌then◌else◌}
 use Rattle.std.specs.List.{fold}
 use Rattle.std.specs.Global.{Vec}
 use Rattle.kh_types.specs.Complex.{Complex, IsComplex, Pivot, entry_of}
