@@ -3,11 +3,12 @@
 use Rattle.std.proofs.lemmas.Bool.Decides.{nat_tests}
 use Rattle.std.proofs.Common.{◌≡◌, ℕ, ◌+◌, ◌*◌, ◌^◌, ◌<◌, ◌≤◌, ◌∙◌, inl, inr, ℤ, pos, neg_ℤ, ◌+ℤ◌, ◌-ℤ◌, ◌≤ℤ◌, List, length, get_or, map, refl, sym, ap, subst, arith, Bool, true, IsTrue}
 use Rattle.std.specs.Prelude.{slice_index_or, []}
+use Rattle.std.specs.Global.{Vec}
 use Rattle.std.specs.List.{All, Contains, filter, range_with_len}
 use Rattle.std.proofs.lemmas.Bool.{cases_lt}
 use Rattle.std.proofs.lemmas.Int.{ints}
-use Rattle.std.proofs.lemmas.List.{get_or-map, length-map}
-use Rattle.std.proofs.lemmas.List.Elements.{All-map}
+use Rattle.std.proofs.lemmas.List.{get_or-map, get_or_default, length-map}
+use Rattle.std.proofs.lemmas.List.Elements.{All-filter, All-map, filter_passes}
 use Rattle.std.proofs.lemmas.List.FromFn.{get_or-map-range_with_len, length-map-range_with_len}
 use Rattle.std.proofs.lemmas.List.Sums.{count_by-le-length, length-filter}
 use Rattle.std.proofs.lemmas.Simd.{map-map}
@@ -21,16 +22,19 @@ use Rattle.kh_types.specs.Table.{from_minus}
 use Rattle.circle_smoothing.specs.GeneratorCounts.{generator_count}
 use Rattle.circle_smoothing.specs.declared.limits.TheConstants.{GENERATORS}
 use Rattle.sparse_block.specs.Entries.{Entry, AreEntries, value_at}
+use Rattle.sparse_block.specs.Inside.{lists_in}
 use Rattle.sparse_block.specs.Opening.{IsColumnOf, IsOpening}
 use Rattle.sparse_block.proofs.AscendingLemmas.{entries-ascend}
 use Rattle.sparse_block.proofs.EntryValues.{value_at-past}
+use Rattle.sparse_block.proofs.LineLemmas.{list-lists_in, within-names}
 use Rattle.square_laws.proofs.BlockComplexes.{IsComplex-block, entry-block, places-block}
-use Rattle.square_laws.proofs.BlockDegrees.{cube_degree, length-from_minus}
+use Rattle.square_laws.proofs.BlockDegrees.{cube_degree, degree-at, length-from_minus}
 use Rattle.square_laws.proofs.Matrices.{entry-differential, entry-row_past}
 use Rattle.cube_signs.specs.Blocks.{block_degrees, named_block}
 use Rattle.cube_signs.specs.Chosen.{chosen_at, chosen_block, coefficients, list_degree, IsClosed}
 use Rattle.cube_signs.specs.ChosenParts.{chosen_to}
-use Rattle.cube_signs.specs.Columns.{IsColumn, generators_from}
+use Rattle.cube_signs.specs.Columns.{IsColumn, IsTail, generators_from}
+use Rattle.cube_signs.proofs.BlockLemmas.{IsTail-at, are-tails}
 use Rattle.cube_signs.proofs.ChosenBlocks.{IsComplex-chosen, chosen-beyond}
 use Rattle.cube_signs.proofs.ChosenColumns.{IsColumnTo}
 use Rattle.cube_signs.proofs.GeneratorPlaces.{length-generators_at}
@@ -134,3 +138,69 @@ module _ (choice : Generator → Bool) (p : ℕ) (code : Code) (j : ℤ) where
               ∙ sym (entry-list_complex p code n at i row place beyond ∙ lists.entry-row_past p code (at i) heads row place past)
         ];
       }
+
+-- the generators of a degree in memory, one of which is at a place
+pub record IsAtPlace (code : Code) (i j : ℤ) (degree : List Generator) (place : ℕ) (tail : Generator) : Type 0 where
+  pub within : place < length degree
+  pub tails : IsTail code i j tail
+  pub is : tail ≡ get_or degree place (generator_of 0 0)
+
+module _ (code : Code) (j : ℤ) (names : List (Vec Generator)) (k place : ℕ) (degree : Vec Generator) (tail : Generator)
+    (within : k < length (lists_in names)) (there : place < length (slice_index_or (lists_in names) k []))
+    (at : degree ≡ get_or names k degree) (is : tail ≡ get_or degree.items place tail) where
+  names-degree : slice_index_or (lists_in names) k [] ≡ degree.items
+  names-degree = list-lists_in names k degree (within-names names k within) at
+
+  tail-there : place < length degree.items
+  tail-there = subst (λ (names : List Generator). place < length names) names-degree there
+
+  is_tail : tail ≡ get_or degree.items place (generator_of 0 0)
+  is_tail = is ∙ get_or_default degree.items place tail (generator_of 0 0) tail-there
+
+  -- of a block
+  pub place-block : lists_in names ≡ map (λ i. generators_at code i j) (homological_degrees code j)
+      → (degree.items ≡ generators_at code (first_or_zero (homological_degrees code j) +ℤ pos k) j)
+      × IsAtPlace code (first_or_zero (homological_degrees code j) +ℤ pos k) j degree.items place tail
+  place-block are =
+      let degrees = homological_degrees code j in
+      let i = first_or_zero degrees +ℤ pos k in
+      let at_j : ℤ → List Generator = λ i. generators_at code i j in
+      let inside : k < length degrees = omega (arith, within, ap length are, length-map degrees at_j) in
+      let named : degree.items ≡ at_j i =
+      sym names-degree ∙ ap (λ (names : List (List Generator)). slice_index_or names k []) are
+      ∙ get_or-map at_j degrees k (pos 0) [] inside ∙ ap at_j (degree-at code j k (pos 0) inside) in (
+        named,
+        record {
+          within = tail-there;
+          tails = IsTail-at code i j degree.items place tail (are-tails code i j degree.items named) tail-there is;
+          is = is_tail;
+        },
+      )
+
+  -- of a block over chosen generators
+  pub place-chosen : (choice : Generator → Bool) → lists_in names ≡ chosen_to choice code j (2 * length code.crossings + 1)
+      → (degree.items ≡ chosen_at choice code (pos k -ℤ pos (length code.crossings)) j)
+      × (k < 2 * length code.crossings + 1) × (choice tail ≡ true)
+      × IsAtPlace code (pos k -ℤ pos (length code.crossings)) j degree.items place tail
+  place-chosen choice are =
+      let n = length code.crossings in
+      let i = pos k -ℤ pos n in
+      let all = generators_at code i j in
+      let at_k : ℕ → List Generator = λ m. chosen_at choice code (pos m -ℤ pos n) j in
+      let inside : k < 2 * n + 1 = omega (arith, within, ap length are, length-map-range_with_len at_k 0 (2 * n + 1)) in
+      let named : degree.items ≡ filter choice all =
+      sym names-degree ∙ ap (λ (names : List (List Generator)). slice_index_or names k []) are
+      ∙ get_or-map-range_with_len at_k 0 (2 * n + 1) k k [] inside (omega arith) in
+      let there : place < length (filter choice all) = omega (arith, tail-there, ap length named) in
+      let same : tail ≡ get_or (filter choice all) place (generator_of 0 0) =
+      is_tail ∙ ap (λ (names : List Generator). get_or names place (generator_of 0 0)) named in (
+        named,
+        inside,
+        ap choice same ∙ filter_passes choice all place (generator_of 0 0) there,
+        record {
+          within = tail-there;
+          tails = subst (IsTail code i j) (sym same)
+              (All-filter choice (IsTail code i j) all (are-tails code i j all refl) place (generator_of 0 0) there);
+          is = is_tail;
+        },
+      )

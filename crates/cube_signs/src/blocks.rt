@@ -94,6 +94,8 @@ impl Cube {
         ensures { IfOk result (λ columns. AreColumns p self.now at.i at.j names.now
             (length names.now) (entries_in columns.items)) }
     {
+        // (the number of crossings is small)
+        let _ = self.crossing_count();
         let mut around = Around::nowhere(alloc);
         let mut column = Vec::new(alloc);
         let mut columns = Vec::with_capacity(alloc, names.len())?;

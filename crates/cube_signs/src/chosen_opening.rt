@@ -83,10 +83,6 @@ impl<'a, F: PrimeField> ColumnSource<F> for ChosenBlock<'a, F> {
     ghost whole = { λ block. block };
 
     fn low(&self) -> i16 {
-        element_laws::<F>();
-        let cube = self.cube;
-        // (what a cube keeps)
-        let _ = cube.state_count();
         self.lowest.i
     }
 

@@ -54,8 +54,8 @@ impl Cube {
         ensures { IfOk result (λ made. made ≡ named_block F.P self.now j) }
     {
         element_laws::<F>();
-        // (what a cube keeps)
-        let _ = self.state_count();
+        // (the number of crossings is small, and so is that of generators)
+        let _ = (self.crossing_count(), self.state_count());
         let Places { bases, sizes } = self.places(alloc, j)?;
         let span = self.span(alloc, &sizes, self.lowest(j))?;
         let names = self.all_names(alloc, span.least, span.count)?;
@@ -74,10 +74,6 @@ impl<'a, F: PrimeField> ColumnSource<F> for OpeningBlock<'a, F> {
     ghost whole = { λ block. block };
 
     fn low(&self) -> i16 {
-        element_laws::<F>();
-        let cube = self.cube;
-        // (what a cube keeps)
-        let _ = cube.state_count();
         self.least.i
     }
 

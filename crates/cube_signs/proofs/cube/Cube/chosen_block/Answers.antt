@@ -1,11 +1,12 @@
 use Rattle.std.proofs.lemmas.Bool.Decides.{nat_tests}
 use Rattle.std.proofs.Common.{◌∙◌, ap, sym, ◌≡◌, ℕ, ℤ, pos, neg_ℤ, ◌+ℤ◌, ◌-ℤ◌, ◌≤ℤ◌, ◌+◌, ◌*◌, ◌≤◌, length, subst, arith, to_z, of_z, w16, List}
 use Rattle.std.proofs.lemmas.Int.{ints, to_z-of_z}
+use Rattle.std.proofs.lemmas.Result.{IfOk-weaker}
 use Rattle.cube_signs.specs.Chosen.{chosen_block, has_minus}
 use Rattle.std.specs.Global.{Vec}
 use Rattle.std.proofs.lemmas.List.{length-map}
 use Rattle.kh_types.specs.Generators.{Generator}
-use Rattle.sparse_block.specs.Complexes.{HaveEntries, SquaresToZero, sparse_complex}
+use Rattle.sparse_block.specs.Complexes.{HaveEntries, NamedComplex, SquaresToZero, sparse_complex}
 use Rattle.sparse_block.specs.Inside.{lines_in, lists_in}
 use Rattle.cube_signs.proofs.cube.Cube.chosen_block.Goals as goal
 
@@ -41,8 +42,13 @@ returns g c =
     let parts = c.in_ok-parts.parts in
     let names = lists_in parts.names.items in
     let columns = lines_in parts.columns.items in
+    let block = chosen_block (has_minus c.args.circles.now) g.F.PrimeField.P c.args.self.now in
     let low = turned (length c.args.self.now.crossings) c.lowest.result.i
     (omega (arith, c.crossing_count.ensures.count, c.crossing_count.ensures.few)) c.lowest.ensures.i in
-    c.build.ensures ∙ ap (λ (low : ℤ). sparse_complex low names columns) (sym low) ∙ c.in_ok-parts.ensures.is
+    IfOk-weaker c.build.result
+    (λ (made : NamedComplex). made ≡ sparse_complex (to_z w16 (of_z w16 c.lowest.result.i)) names columns)
+    (λ (made : NamedComplex). made ≡ block c.args.j)
+    (λ made is.
+    is ∙ ap (λ (low : ℤ). sparse_complex low names columns) (sym low) ∙ c.in_ok-parts.ensures.is
     ∙ ap (λ (p : ℕ). chosen_block (has_minus c.args.circles.now) p c.args.self.now (to_z w16 (of_z w16 c.args.j))) c.P.ensures
-    ∙ ap (chosen_block (has_minus c.args.circles.now) g.F.PrimeField.P c.args.self.now) (to_z-of_z w16 c.args.j c.ranges.j)
+    ∙ ap block (to_z-of_z w16 c.args.j c.ranges.j)) c.build.ensures
