@@ -1,27 +1,26 @@
 -- The blocks before any cancellation, by their names and their columns one at a time: they are complexes with all places alive, and the
 -- column of a generator is that of its place.
-use Rattle.std.proofs.lemmas.Bool.Decides.{nat_tests}
-use Rattle.std.proofs.Common.{◌≡◌, ℕ, ◌+◌, ◌*◌, ◌^◌, ◌<◌, ◌≤◌, ◌∙◌, inl, inr, ℤ, pos, neg_ℤ, ◌+ℤ◌, ◌-ℤ◌, ◌≤ℤ◌, List, length, get_or, map, refl, sym, ap, subst, arith, Bool, true, IsTrue}
+use Rattle.std.proofs.Common.{◌≡◌, ℕ, ◌+◌, ◌*◌, ◌^◌, ◌<◌, ◌≤◌, ◌∙◌, inl, inr, ℤ, pos, ◌+ℤ◌, ◌-ℤ◌, ◌≤ℤ◌, List, ◌++◌, length, get_or, map, take, take_all, drop, refl, sym, ap, subst, arith, Bool, true, IsTrue}
 use Rattle.std.specs.Prelude.{slice_index_or, []}
 use Rattle.std.specs.Global.{Vec}
-use Rattle.std.specs.List.{All, Contains, filter, range_with_len}
+use Rattle.std.specs.List.{Contains, filter, range_with_len}
 use Rattle.std.proofs.lemmas.Bool.{cases_lt}
 use Rattle.std.proofs.lemmas.Int.{ints}
-use Rattle.std.proofs.lemmas.List.{get_or-map, get_or_default, length-map}
+use Rattle.std.proofs.lemmas.List.{append-nil, drop_all, get_or-map, get_or_default, length-map}
 use Rattle.std.proofs.lemmas.List.Elements.{All-filter, All-map, filter_passes}
 use Rattle.std.proofs.lemmas.List.FromFn.{get_or-map-range_with_len, length-map-range_with_len}
 use Rattle.std.proofs.lemmas.List.Sums.{count_by-le-length, length-filter}
 use Rattle.std.proofs.lemmas.Simd.{map-map}
 use Rattle.kh_types.specs.Acceptance.{accepted}
 use Rattle.kh_types.specs.Code.{Code}
-use Rattle.kh_types.specs.Complex.{Complex, Degree, degree_of, entry_in, entry_of}
-use Rattle.kh_types.specs.Differential.{coefficient, differential}
+use Rattle.kh_types.specs.Complex.{Degree}
+use Rattle.kh_types.specs.Differential.{coefficient}
 use Rattle.kh_types.specs.Generators.{Generator, generator_of, generators_at}
 use Rattle.kh_types.specs.History.{block, first_or_zero, homological_degrees}
 use Rattle.kh_types.specs.Table.{from_minus}
 use Rattle.circle_smoothing.specs.GeneratorCounts.{generator_count}
 use Rattle.circle_smoothing.specs.declared.limits.TheConstants.{GENERATORS}
-use Rattle.sparse_block.specs.Entries.{Entry, AreEntries, value_at}
+use Rattle.sparse_block.specs.Entries.{Entry, AreEntries}
 use Rattle.sparse_block.specs.Inside.{lists_in}
 use Rattle.sparse_block.specs.Opening.{IsColumnOf, IsOpening}
 use Rattle.sparse_block.proofs.AscendingLemmas.{entries-ascend}
@@ -31,7 +30,7 @@ use Rattle.square_laws.proofs.BlockComplexes.{IsComplex-block, entry-block, plac
 use Rattle.square_laws.proofs.BlockDegrees.{cube_degree, degree-at, length-from_minus}
 use Rattle.square_laws.proofs.Matrices.{entry-differential, entry-row_past}
 use Rattle.cube_signs.specs.Blocks.{block_degrees, named_block}
-use Rattle.cube_signs.specs.Chosen.{chosen_at, chosen_block, coefficients, list_degree, IsClosed}
+use Rattle.cube_signs.specs.Chosen.{chosen_at, chosen_block, list_degree, IsClosed}
 use Rattle.cube_signs.specs.ChosenParts.{chosen_to}
 use Rattle.cube_signs.specs.Columns.{IsColumn, IsTail, generators_from}
 use Rattle.cube_signs.proofs.BlockLemmas.{IsTail-at, are-tails}
@@ -204,3 +203,10 @@ module _ (code : Code) (j : ℤ) (names : List (Vec Generator)) (k place : ℕ) 
           is = is_tail;
         },
       )
+
+-- a list, after all of it was written
+pub written-whole : (count : ℕ) (entries written : List Entry) → count ≡ length entries → length written ≡ length entries
+    → take count (written ++ drop (length written) entries) ≡ written
+written-whole count entries written is_count same =
+    ap (λ (rest : List Entry). take count (written ++ rest)) (drop_all (length written) entries (omega (arith, same)))
+    ∙ ap (take count) (append-nil written) ∙ take_all count written (omega (arith, is_count, same))

@@ -1,10 +1,9 @@
-use Rattle.std.proofs.Common.{◌≡◌, ◌∙◌, ◌<◌, ℕ, ℤ, pos, ◌+ℤ◌, List, [], length, map, get_or, ap, sym, subst, arith}
+use Rattle.std.proofs.Common.{◌≡◌, ◌∙◌, ◌<◌, ℕ, ℤ, pos, ◌+ℤ◌, List, [], length, map, get_or, ap, subst, arith}
 use Rattle.std.specs.Prelude.{slice_index_or}
 use Rattle.std.proofs.lemmas.Result.{on_ok_weaker}
 use Rattle.kh_types.specs.Generators.{Generator, generator_of, generators_at, states}
 use Rattle.kh_types.specs.History.{first_or_zero, homological_degrees}
 use Rattle.sparse_block.specs.Complexes.{NamedComplex}
-use Rattle.sparse_block.specs.Inside.{lists_in}
 use Rattle.sparse_block.specs.Opening.{IsColumnOf}
 use Rattle.cube_signs.specs.Columns.{IsColumn, IsTail}
 use Rattle.cube_signs.specs.Tables.{own_base}
