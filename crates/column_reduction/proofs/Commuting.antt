@@ -2,7 +2,7 @@
 -- not the pivot's: for an entry at a dead place is no pivot. A row that is 0 stays 0, and takes nothing from others; a column too. In all
 -- other degrees both make rows and columns 0. So which comes first makes no difference, and pivots of a greater degree, which come
 -- behind a history of smaller ones, may come before it.
-use Rattle.std.proofs.Common.{◌≡◌, ◌≢◌, ℕ, ◌+◌, ◌*◌, ◌<◌, ◌∙◌, List, [], ◌∷◌, ◌++◌, ℤ, pos, ◌+ℤ◌, ◌<ℤ◌, ◌≤ℤ◌, length, refl, ap, sym, subst, arith, Bool, true, false, ◌||◌}
+use Rattle.std.proofs.Common.{◌≡◌, ◌≢◌, ℕ, ◌*◌, ◌∙◌, List, [], ◌∷◌, ◌++◌, ℤ, pos, ◌+ℤ◌, ◌<ℤ◌, ◌≤ℤ◌, length, refl, ap, sym, subst, arith, Bool, true, false, ◌||◌}
 use Rattle.std.specs.Prelude.{nat_eq, slice_index_or, if◌then◌else◌}
 use Rattle.std.specs.List.{AllByRecursion}
 use Rattle.std.proofs.lemmas.Bool.{eq-eqb, ne_eqb}

@@ -1,12 +1,11 @@
--- Where a line that is stored as a list of entries ends, and columns whose places are alive.
-use Rattle.std.proofs.Common.{◌≡◌, ◌≢◌, ℕ, zero, suc, ◌+◌, ◌<◌, ◌≤◌, ◌∙◌, inl, inr, List, [], ◌∷◌, length, get_or, refl, ap, sym, arith, Bool, true, false}
-use Rattle.std.specs.Prelude.{slice_index_or, if◌then◌else◌}
+-- Where a line that is stored as a list of entries ends.
+use Rattle.std.proofs.Common.{◌≡◌, ◌≢◌, ℕ, zero, suc, ◌+◌, ◌<◌, ◌≤◌, ◌∙◌, inl, inr, List, [], ◌∷◌, length, get_or, refl, ap, sym, arith}
 use Rattle.std.proofs.lemmas.Bool.Decides.{eqb_tells, leb_tells}
 use Rattle.sparse_block.specs.Entries.{Entry, AreEntries, value_at}
-use Rattle.sparse_block.proofs.AscendingLemmas.{Ascend, ascend-place, entries-ascend, entries-from_ascend}
+use Rattle.sparse_block.proofs.AscendingLemmas.{Ascend, ascend-place, entries-ascend}
 use Rattle.sparse_block.proofs.EntryLemmas.{value_at-here, value_at-later}
 use Rattle.column_reduction.specs.Reductions.{EndsAt}
-use Rattle.column_reduction.specs.StoredColumns.{end_of, last_place, live_column}
+use Rattle.column_reduction.specs.StoredColumns.{end_of, last_place}
 use Rattle.column_reduction.proofs.Stored.{stored-ends}
 
 -- a line with an entry ends at its last one
@@ -69,29 +68,3 @@ end_of-zeros p size row (e ∷ es) are zeros =
       | inl later ↦ absurd (ends.other (zeros (last_place (e ∷ es)) later.1))
       | inr before ↦ let fact : last_place (e ∷ es) < row = omega (arith, before.1) in omega (arith, fact)
     ]
-
--- a column, without its entries where its place is dead
-module _ (alive : List Bool) (columns : List (List Entry)) (column : ℕ) where
-  pub entries-live : (p size : ℕ) → AreEntries p size (slice_index_or columns column []) → AreEntries p size (live_column alive columns column)
-  entries-live p size are = at (slice_index_or alive column false)
-    where
-      at : (b : Bool) → AreEntries p size (if b then slice_index_or columns column [] else [])
-      at true = are
-      at false = entries-from_ascend p 0 size [] tt
-
-  -- its number at a row
-  pub value_at-live : (row : ℕ) → value_at (live_column alive columns column) row
-      ≡ (if slice_index_or alive column false then value_at (slice_index_or columns column []) row else 0)
-  value_at-live row = at (slice_index_or alive column false)
-    where
-      at : (b : Bool) → value_at (if b then slice_index_or columns column [] else []) row
-          ≡ (if b then value_at (slice_index_or columns column []) row else 0)
-      at true = refl
-      at false = refl
-
-  pub none-live : slice_index_or columns column [] ≡ [] → [] ≡ live_column alive columns column
-  none-live none = at (slice_index_or alive column false)
-    where
-      at : (b : Bool) → [] ≡ (if b then slice_index_or columns column [] else [])
-      at true = sym none
-      at false = refl

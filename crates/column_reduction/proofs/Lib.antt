@@ -16,7 +16,7 @@ pub mod Storing
 pub mod FirstReduced
 pub mod Marks
 pub mod ReducedTo
-pub mod SparseColumns
 pub mod ZeroLeft
+pub mod Openings
 pub mod WorkedInputs
 pub mod WorkedLemmas

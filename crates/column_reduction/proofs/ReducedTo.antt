@@ -5,7 +5,7 @@
 -- next degree the columns that are last rows of theirs are now dead and 0; further up nothing changes. Their pivots come before those
 -- of the smaller degrees, since cancellations in two degrees may change places. In the end there is no entry out of any degree, and the
 -- complex is zero.
-use Rattle.std.proofs.Common.{◌≡◌, ℕ, ◌+◌, ◌∙◌, inl, inr, List, [], ◌∷◌, ◌++◌, ℤ, pos, ◌+ℤ◌, ◌<ℤ◌, length, refl, ap, ap₂, sym, subst, arith, Bool, true, false}
+use Rattle.std.proofs.Common.{◌≡◌, ℕ, ◌+◌, ◌∙◌, inl, inr, List, [], ◌∷◌, ◌++◌, ℤ, pos, ◌+ℤ◌, ◌<ℤ◌, length, refl, ap, sym, subst, arith, Bool, true, false}
 use Rattle.std.specs.Prelude.{slice_index_or, if◌then◌else◌}
 use Rattle.std.specs.List.{AllByRecursion}
 use Rattle.std.proofs.lemmas.Bool.Decides.{eqb_tells}
@@ -15,16 +15,14 @@ use Rattle.kh_types.specs.Complex.{Complex, Degree, IsComplex, Pivot, degree_of,
 use Rattle.kh_types.specs.History.{replay}
 use Rattle.prime_field.specs.Residues.{IsField}
 use Rattle.sparse_block.specs.Complexes.{place_count}
-use Rattle.sparse_block.specs.Entries.{Entry, value_at}
 use Rattle.sparse_block.proofs.CancelledDegrees.{Where, where_is}
 use Rattle.sparse_block.proofs.ComplexMatrices.{entry-stands}
 use Rattle.column_reduction.proofs.Chains.{greatest-longer, reduced-longer}
 use Rattle.column_reduction.proofs.Commuting.{come-first}
-use Rattle.sparse_block.proofs.HistoryLemmas.{complex-replay, low-replay, places-replay}
+use Rattle.sparse_block.proofs.HistoryLemmas.{complex-replay, low-replay}
 use Rattle.column_reduction.specs.Reductions.{AreReduced, AreReducedUp, HaveNoEntryBelow, IsReducedComplex, IsReducedDegree, is_last_row, is_place_alive}
 use Rattle.column_reduction.specs.StoredColumns.{AreFirstReduced, HasColumns, IsReducedTo, StoredColumn, alive_in, reduced_columns, stored_pivots, with_pairs}
 use Rattle.column_reduction.proofs.Ends.{below-low, below-next, less-degrees, own-degrees}
-use Rattle.column_reduction.proofs.LastEntries.{value_at-live}
 use Rattle.column_reduction.proofs.Marks.{alive-number, alive_in-pairs}
 use Rattle.column_reduction.proofs.Others.{next-alive, next-entries, other-degrees}
 
@@ -66,11 +64,10 @@ reduced_to-all p k complex places pivots all reduced =
     record { degrees = reduced.degrees; count = reduced.count ∙ all; up = reduced.up; listed = reduced.listed }
 
 -- one degree more
-module _ (p k : ℕ) (complex : Complex) (i : ℤ) (places : List (List Bool)) (pivots : List Pivot) (lines : List (List Entry))
-    (stored : List StoredColumn) (field : IsField p) (is : IsComplex p complex) (so_far : IsReducedTo p complex k places pivots)
-    (here : i ≡ complex.low +ℤ pos k) (count : place_count complex i ≡ length lines)
-    (entries : (row column : ℕ) → entry_of complex i row column ≡ value_at (slice_index_or lines column []) row)
-    (are : AreFirstReduced p (slice_index_or places k []) lines (length lines) stored) where
+module _ (p k : ℕ) (complex : Complex) (i : ℤ) (places : List (List Bool)) (pivots : List Pivot) (stored : List StoredColumn)
+    (field : IsField p) (is : IsComplex p complex) (so_far : IsReducedTo p complex k places pivots)
+    (here : i ≡ complex.low +ℤ pos k)
+    (are : AreFirstReduced p complex i (slice_index_or places k []) (length (slice_index_or places k [])) stored) where
   abbrev now : Complex
   now = replay p complex pivots
 
@@ -89,18 +86,18 @@ module _ (p k : ℕ) (complex : Complex) (i : ℤ) (places : List (List Bool)) (
       ap (λ (places : List (List Bool)). slice_index_or places k []) so_far.alive ∙ alive-number now k
       ∙ ap (λ (j : ℤ). (degree_of now j).alive) same
 
-  has : HasColumns now i (slice_index_or places k []) lines
+  has : HasColumns now complex i (slice_index_or places k [])
   has =
       record {
-        count = places-replay p complex pivots i ∙ count;
+        count = ap length (sym alive_here);
         entries = λ row column.
             so_far.above i (omega (arith, ints, here)) row column
-            ∙ ap₂ (λ (alive : List Bool) (n : ℕ). if slice_index_or alive column false then n else 0) (sym alive_here) (entries row column)
-            ∙ sym (value_at-live (slice_index_or places k []) lines column row);
+            ∙ ap (λ (alive : List Bool). if slice_index_or alive column false then entry_of complex i row column else 0)
+            (sym alive_here);
       }
 
   step : IsReducedDegree p now i (reduced_columns stored) after
-  step = subst (λ (n : ℕ). AreReduced p now i n (reduced_columns stored) after) (sym has.count) (are now i is_now has)
+  step = subst (λ (n : ℕ). AreReduced p now i n (reduced_columns stored) after) (sym has.count) (are now is_now has)
 
   chosen : (b a : Bool) (x : ℕ) → (if b then 0 else (if a then x else 0)) ≡ (if (if b then false else a) then x else 0)
   chosen true a x = refl

@@ -1,5 +1,5 @@
 -- Reduced columns as they are stored, each with its entries, and what a search among them finds.
-use Rattle.std.specs.Prelude.{◌≡◌, ℕ, ◌+◌, ◌<◌, ℤ, pos, ◌+ℤ◌, ◌<ℤ◌, ◌≤ℤ◌, List, [], ◌∷◌, ◌++◌, length, map, get_or, slice_index_or, Option, Some, None, Bool, false, All, if◌then◌else◌}
+use Rattle.std.specs.Prelude.{◌≡◌, ℕ, ◌+◌, ◌<◌, ℤ, pos, ◌+ℤ◌, ◌≤ℤ◌, List, [], ◌∷◌, ◌++◌, length, map, get_or, slice_index_or, Option, Some, None, Bool, false, All, if◌then◌else◌}
 use Rattle.std.specs.List.{fold}
 use Rattle.std.specs.Global.{Vec}
 use Rattle.kh_types.specs.Complex.{Complex, IsComplex, Pivot, entry_of}
@@ -69,19 +69,21 @@ abbrev pub stored_with : List StoredColumn → ℕ → List Entry → List Store
 stored_with stored column [] = stored
 stored_with stored column (first ∷ rest) = stored ++ stored_column column (last_place (first ∷ rest)) (first ∷ rest) ∷ []
 
--- a column, by its number, without its entries where its place is dead
-abbrev pub live_column : List Bool → List (List Entry) → ℕ → List Entry
-live_column alive columns column = if slice_index_or alive column false then slice_index_or columns column [] else []
+-- entries are a column of the matrix out of degree i, or none where its place is dead
+pub record IsLiveColumn (p : ℕ) (complex : Complex) (i : ℤ) (is_alive : Bool) (column : ℕ) (entries : List Entry) : Type 0 where
+  pub are : AreEntries p (place_count complex (i +ℤ pos 1)) entries
+  pub values : (row : ℕ) → value_at entries row ≡ (if is_alive then entry_of complex i row column else 0)
 
--- the matrix out of degree i has these columns, but those of dead places are 0
-pub record HasColumns (complex : Complex) (i : ℤ) (alive : List Bool) (columns : List (List Entry)) : Type 0 where
-  pub count : place_count complex i ≡ length columns
-  pub entries : (row column : ℕ) → entry_of complex i row column ≡ value_at (live_column alive columns column) row
+-- the matrix out of degree i has the columns of another complex, but those of dead places are 0
+pub record HasColumns (complex whole : Complex) (i : ℤ) (alive : List Bool) : Type 0 where
+  pub count : place_count complex i ≡ length alive
+  pub entries : (row column : ℕ) → entry_of complex i row column
+      ≡ (if slice_index_or alive column false then entry_of whole i row column else 0)
 
--- the first columns, as many as count, are reduced: so in each complex that has these columns out of some degree
-abbrev pub AreFirstReduced : ℕ → List Bool → List (List Entry) → ℕ → List StoredColumn → Type 0
-AreFirstReduced p alive columns count stored =
-    (complex : Complex) (i : ℤ) → IsComplex p complex → HasColumns complex i alive columns
+-- the first columns of degree i, as many as count, are reduced: so in each complex that has the columns whose places are alive
+abbrev pub AreFirstReduced : ℕ → Complex → ℤ → List Bool → ℕ → List StoredColumn → Type 0
+AreFirstReduced p whole i alive count stored =
+    (complex : Complex) → IsComplex p complex → HasColumns complex whole i alive
     → AreReduced p complex i count (reduced_columns stored) (replay p complex (stored_pivots i stored))
 
 -- the places of each degree, with those of a stored column's pivot dead, where its degree has number k

@@ -9,8 +9,8 @@ ghost use Rattle.std.specs.Prelude.{slice_index_or};
 ghost use Rattle.kh_types.specs.Complex.{is_zero};
 ghost use Rattle.kh_types.specs.History.{IsLegal, replay};
 ghost use Rattle.sparse_block.specs.Clearing.{with_dead};
-ghost use Rattle.sparse_block.specs.Complexes.{MakeComplex, all_alive, sparse_complex};
-ghost use Rattle.sparse_block.specs.Inside.{lines_in, lists_in};
+ghost use Rattle.sparse_block.specs.Complexes.{all_alive};
+ghost use Rattle.sparse_block.specs.Inside.{lists_in};
 ghost use Rattle.column_reduction.specs.Reductions.{IsReducedComplex};
 ghost use Rattle.column_reduction.specs.StoredColumns.{alive_in, from_greatest, pivots_in};
 ghost use Rattle.column_reduction.specs.StoredColumns.{stored_pivots, with_pairs};
@@ -21,8 +21,7 @@ use crate::stored_column::StoredColumn;
 use kh_types::NoMemory;
 use prime_field::PrimeField;
 use prime_field::laws::element_laws;
-use smallvec::SmallVec;
-use sparse_block::{ColumnComplex, ColumnParts, Complex, Entry, Generator, INLINE_ENTRIES, Pivot};
+use sparse_block::{ColumnSource, Complex, Generator, Pivot};
 use std::alloc::Global;
 
 /// What `reduce` makes of a complex: the complex that is left, and the pivots that leave it, the
@@ -35,24 +34,24 @@ pub struct Reduced<F: PrimeField> {
 
 /// Reduces the columns of a complex until it is zero. Pivots are listed from the greatest degree
 /// down, those of each degree in the order of their columns; no other list is one of a reduction.
-pub fn reduce<F: PrimeField>(
+pub fn reduce<F: PrimeField, S: ColumnSource<F>>(
     alloc: Global,
-    complex: ColumnComplex<F>,
+    source: S,
 ) -> Result<Reduced<F>, NoMemory>
-    ensures reduced { IfOk result (λ made. IsReducedComplex F.P complex.complex
+    ensures reduced { IfOk result (λ made. IsReducedComplex F.P (S.whole source).complex
         made.pivots.items made.complex.complex) }
-    ensures legal { IfOk result (λ made. IsLegal F.P complex.complex made.pivots.items) }
+    ensures legal { IfOk result (λ made. IsLegal F.P (S.whole source).complex made.pivots.items) }
     ensures left { IfOk result (λ made.
-        made.complex.complex ≡ replay F.P complex.complex made.pivots.items) }
+        made.complex.complex ≡ replay F.P (S.whole source).complex made.pivots.items) }
     ensures zero { IfOk result (λ made. is_zero made.complex.complex ≡ true) }
-    ensures names { IfOk result (λ made. made.complex.names ≡ complex.names) }
+    ensures names { IfOk result (λ made. made.complex.names ≡ (S.whole source).names) }
 {
     element_laws::<F>();
-    let low = complex.low();
-    let ColumnParts { names, columns } = complex.into_parts();
-    let Reduction { alive, pivots } = reduce_columns::<F>(alloc, low, &names, columns)?;
+    let mut source = source;
+    let low = source.low();
+    let Reduction { alive, pivots } = reduce_columns::<F, S>(alloc, &mut source)?;
     let pivots = all_pivots(alloc, pivots)?;
-    let complex = Complex::zero(alloc, low, names, alive)?;
+    let complex = Complex::zero(alloc, low, source.into_names(), alive)?;
     Ok(Reduced { complex, pivots })
 }
 
@@ -64,37 +63,39 @@ struct Reduction {
     pivots: Vec<Vec<Pivot>>,
 }
 
-/// Reduces the complex of these names and columns: which places are alive then, and the pivots of
-/// each degree from the least on.
-fn reduce_columns<F: PrimeField>(
+/// Reduces a complex: which places are alive then, and the pivots of each degree from the least on.
+fn reduce_columns<F: PrimeField, S: ColumnSource<F>>(
     alloc: Global,
-    low: i16,
-    names: &[Vec<Generator>],
-    columns: Vec<Vec<SmallVec<Entry, INLINE_ENTRIES>>>,
+    source: &mut S,
 ) -> Result<Reduction, NoMemory>
-    requires { MakeComplex F.P low (lists_in names.now) (lines_in columns.items) }
-    ensures reduced { IfOk result (λ made. IsReducedComplex F.P
-        (sparse_complex low (lists_in names.now) (lines_in columns.items)).complex
-        (from_greatest (pivots_in made.pivots.items)) (replay F.P
-        (sparse_complex low (lists_in names.now) (lines_in columns.items)).complex
+    ensures same { S.whole source.new ≡ S.whole source.old }
+    ensures reduced { IfOk result (λ made. IsReducedComplex F.P (S.whole source.old).complex
+        (from_greatest (pivots_in made.pivots.items)) (replay F.P (S.whole source.old).complex
         (from_greatest (pivots_in made.pivots.items)))) }
-    ensures alive { IfOk result (λ made. lists_in made.alive.items ≡ alive_in (replay F.P
-        (sparse_complex low (lists_in names.now) (lines_in columns.items)).complex
-        (from_greatest (pivots_in made.pivots.items)))) }
+    ensures alive { IfOk result (λ made. lists_in made.alive.items ≡ alive_in
+        (replay F.P (S.whole source.old).complex (from_greatest (pivots_in made.pivots.items)))) }
 {
     element_laws::<F>();
+    let low = source.low();
+    let alive = all_alive(alloc, source.names())?;
+    let count = alive.len();
     let mut made = Reduction {
-        alive: all_alive(alloc, names)?,
-        pivots: Vec::with_capacity(alloc, columns.len())?,
+        alive,
+        pivots: Vec::with_capacity(alloc, count)?,
     };
     let mut scratch = Scratch {
         left: Vec::new(alloc),
         spare: Vec::new(alloc),
     };
-    'degrees: for degree in columns {
-        let k = made.pivots.len();
+    'degrees: for k in 0..count {
         let height = alive_at(&made.alive, k + 1).len();
-        let stored = reduce_degree::<F>(&mut scratch, height, alive_at(&made.alive, k), &degree)?;
+        let stored = reduce_degree::<F, S>(
+            source,
+            &mut scratch,
+            k,
+            height,
+            alive_at(&made.alive, k),
+        )?;
         note_pivots(&mut made, degree_at(low, k), k, &stored)?;
     }
     Ok(made)

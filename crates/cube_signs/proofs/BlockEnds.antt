@@ -1,6 +1,6 @@
 -- The least and the greatest degree of a block have generators.
 use Rattle.std.proofs.lemmas.Bool.Decides.{nat_tests}
-use Rattle.std.proofs.Common.{◌≡◌, ◌≢◌, ℕ, ◌+◌, ◌-◌, subst, ◌<◌, ◌∙◌, ℤ, pos, ◌+ℤ◌, ◌-ℤ◌, List, [], ◌∷◌, length, get_or, take, refl, sym, ap, arith, Bool, true, false, not}
+use Rattle.std.proofs.Common.{◌≡◌, ◌≢◌, ℕ, ◌+◌, ◌-◌, subst, ◌<◌, ◌∙◌, ℤ, pos, ◌+ℤ◌, ◌-ℤ◌, List, [], ◌∷◌, length, get_or, take, refl, sym, ap, arith, Bool, true, not}
 use Rattle.std.specs.Prelude.{reverse, ◌≤ℤ◌}
 use Rattle.std.specs.List.{Contains, position_or_len, suffix_len}
 use Rattle.std.proofs.lemmas.Int.{ints}

@@ -50,18 +50,14 @@ pub found-nowhere : (p : ℕ) (code : Code) (bases : List ℕ) (state : ℕ) (ou
     → length code.crossings ≤ CROSSINGS → AreFound p code bases state outs
 found-nowhere p code bases state outs is few = grind (arith, nat_tests, pow_mono)
 
--- one column more
-pub columns-more : (p : ℕ) (code : Code) (i j : ℤ) (names : List Generator) (k : ℕ) (tail : Generator) (outs : List Out)
-    (bases ranks : List ℕ) (column : List Entry) (made next : List (List Entry)) → 1 < p → IsTrue (accepted code)
-    → All (IsTail code i j) names → k < length names → tail ≡ get_or names k tail
-    → AreOuts p code bases tail.state outs → bases ≡ map (own_base code j) (states code)
-    → AreRanks code ranks → column ≡ column_along ranks tail.label outs → AreColumns p code i j names k made
-    → next ≡ made ++ column ∷ [] → AreColumns p code i j names (k + 1) next
-columns-more p code i j names k tail outs bases ranks column made next prime is are_names below is_tail are_outs is_bases are_ranks
-    is_column are is_next =
+-- the entries along the edges out of a generator's state are its column
+pub column-around : (p : ℕ) (code : Code) (i j : ℤ) (tail : Generator) (outs : List Out) (bases ranks : List ℕ) (column : List Entry)
+    → 1 < p → IsTrue (accepted code) → IsTail code i j tail → AreOuts p code bases tail.state outs
+    → bases ≡ map (own_base code j) (states code) → AreRanks code ranks → column ≡ column_along ranks tail.label outs
+    → IsColumn p code i j tail column
+column-around p code i j tail outs bases ranks column prime is tails are_outs is_bases are_ranks is_column =
     let steps = are_outs.steps in
     let has_steps = are_outs.of_steps in
-    let tails = IsTail-at code i j names k tail are_names below is_tail in
     let around : AreAround p code i j tail steps bases ranks =
     record {
       prime = prime;
@@ -73,13 +69,18 @@ columns-more p code i j names k tail outs bases ranks column made next prime is 
       of_bases = is_bases;
       of_ranks = are_ranks.each (i +ℤ pos 1) j;
     } in
+    subst (IsColumn p code i j tail) (sym (is_column ∙ ap (column_along ranks tail.label) are_outs.are ∙ column-along p steps bases ranks tail (length steps)
+    ∙ ap (column_to p steps bases ranks tail) has_steps.size))
+    (IsColumn-entries p code i j tail steps bases ranks around)
+
+-- one column more
+pub columns-more : (p : ℕ) (code : Code) (i j : ℤ) (names : List Generator) (k : ℕ) (tail : Generator) (column : List Entry)
+    (made next : List (List Entry)) → k < length names → tail ≡ get_or names k tail → IsColumn p code i j tail column
+    → AreColumns p code i j names k made → next ≡ made ++ column ∷ [] → AreColumns p code i j names (k + 1) next
+columns-more p code i j names k tail column made next below is_tail is_column are is_next =
     let d = generator_of 0 0 in
     let at : tail ≡ get_or names k d = is_tail ∙ get_or_default names k tail d below in
-    let more : IsColumn p code i j (get_or names k d) column =
-    subst (λ (g : Generator). IsColumn p code i j g column) at
-    (subst (IsColumn p code i j tail) (sym (is_column ∙ ap (column_along ranks tail.label) are_outs.are ∙ column-along p steps bases ranks tail (length steps)
-    ∙ ap (column_to p steps bases ranks tail) has_steps.size))
-    (IsColumn-entries p code i j tail steps bases ranks around)) in
+    let more : IsColumn p code i j (get_or names k d) column = subst (λ (g : Generator). IsColumn p code i j g column) at is_column in
     subst (AreColumns p code i j names (k + 1)) (sym is_next) (record {
       size = length_push made column ∙ ap (λ n. n + 1) are.size;
       each = each-more (λ k entries. IsColumn p code i j (get_or names k d) entries) made column [] k are.size are.each more;

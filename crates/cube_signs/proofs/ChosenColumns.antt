@@ -107,7 +107,7 @@ entries-kept choice p code i j tail entries closed tails chosen column k d below
           ))
     ]
 
-column-moved : (choice : Generator → Bool) (p : ℕ) (code : Code) (i j : ℤ) (tail : Generator) (entries : List Entry)
+pub column-moved : (choice : Generator → Bool) (p : ℕ) (code : Code) (i j : ℤ) (tail : Generator) (entries : List Entry)
     → IsClosed choice p code → IsTail code i j tail → choice tail ≡ true → IsColumn p code i j tail entries
     → IsColumnTo p code (chosen_at choice code (i +ℤ pos 1) j) tail
     (map (moved_entry (all_places choice (generators_at code (i +ℤ pos 1) j))) entries)

@@ -6,7 +6,6 @@ use Rattle.std.specs.List.Sorted.{IsStrictlyIncreasing}
 use Rattle.std.proofs.lemmas.Bool.{cases_eq}
 use Rattle.std.proofs.lemmas.List.{get_or_default, map-append}
 use Rattle.std.proofs.lemmas.List.Elements.{All-append, All-head, All-nil, All-tail}
-use Rattle.std.proofs.lemmas.List.FromFn.{get_or-range_with_len, length-range_with_len}
 use Rattle.std.proofs.lemmas.Map.Made.{Contains-tail}
 use Rattle.kh_types.proofs.Lists.{Contains-flat_map, Contains-range, Contains-later, Contains-first}
 use Rattle.sparse_block.specs.Entries.{Entry, value_at}

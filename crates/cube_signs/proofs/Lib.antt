@@ -28,3 +28,4 @@ pub mod ChosenPlaces
 pub mod ChosenColumns
 pub mod ChosenBlocks
 pub mod ChosenLoops
+pub mod BlockSources

@@ -83,7 +83,7 @@ pub entry-list_complex : (p : ℕ) (code : Code) (n : ℕ) (lists : ℤ → List
     ≡ entry_in (coefficients p code (lists i) (lists (i +ℤ pos 1))) row column
 entry-list_complex p code n lists i row column beyond = grind (arith, nat_tests, degree-list_complex, entry-past_rows, entry-column_past)
 
-places-list_complex : (p : ℕ) (code : Code) (n : ℕ) (lists : ℤ → List Generator) (i : ℤ)
+pub places-list_complex : (p : ℕ) (code : Code) (n : ℕ) (lists : ℤ → List Generator) (i : ℤ)
     → ((i : ℤ) → (IsWithin n i → ⊥) → lists i ≡ [])
     → length (degree_of (list_complex p code n lists) i).alive ≡ length (lists i)
 places-list_complex p code n lists i beyond = grind (arith, nat_tests, alive-list_complex, length-map)

@@ -8,3 +8,4 @@ pub mod Tables
 pub mod Columns
 pub mod Chosen
 pub mod ChosenParts
+pub mod OpeningBlocks

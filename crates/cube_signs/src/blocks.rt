@@ -17,21 +17,22 @@ ghost use Rattle.cube_signs.specs.Columns.{AreFound, AreOuts, AreParts, IsTail};
 ghost use Rattle.cube_signs.specs.Tables.{own_base, HaveSizes};
 ghost use Rattle.cube_signs.specs.declared.limits.TheConstants.{DEGREES, PLACES};
 
-use crate::columns::{Column, column};
+use crate::around::Around;
+use crate::columns::Column;
 use crate::cube::Cube;
 use crate::names::Degrees;
-use crate::outs::{Out, find_outs};
 use kh_types::{Diagram, NoMemory};
 use prime_field::PrimeField;
 use prime_field::laws::element_laws;
-use sparse_block::{ColumnComplex, Complex, Generator};
+use smallvec::SmallVec;
+use sparse_block::{Complex, Generator, build};
 use std::alloc::Global;
 
 /// The degrees of a block: the least homological degree, and how many there are.
 #[derive(Clone, Copy)]
-struct Span {
-    least: Degrees,
-    count: usize,
+pub(crate) struct Span {
+    pub(crate) least: Degrees,
+    pub(crate) count: usize,
 }
 
 /// The parts of a block: its least degree, and from there on the generators of each degree and
@@ -43,46 +44,15 @@ struct Parts {
     columns: Vec<Vec<Column>>,
 }
 
-/// A state, and the edges out of it that were found last.
-#[derive(Drop)]
-struct Around {
-    state: u32,
-    outs: Vec<Out>,
-}
-
-impl Around {
-    /// No state has such a number.
-    fn nowhere(alloc: Global) -> Around
-        ensures state { result.state + 1 ≡ 2 ^ 32 }
-    {
-        Around {
-            state: u32::MAX,
-            outs: Vec::new(alloc),
-        }
-    }
-}
-
 impl Cube {
     /// The block at a quantum degree.
     pub fn block<F: PrimeField>(&self, alloc: Global, j: i16) -> Result<Complex<F>, NoMemory>
         requires { Contains (block_degrees self.now) j }
         ensures { IfOk result (λ made. made ≡ named_block F.P self.now j) }
     {
-        self.opening_block(alloc, j)?.build(alloc)
-    }
-
-    /// The same block by its columns alone.
-    pub fn opening_block<F: PrimeField>(
-        &self,
-        alloc: Global,
-        j: i16,
-    ) -> Result<ColumnComplex<F>, NoMemory>
-        requires { Contains (block_degrees self.now) j }
-        ensures { IfOk result (λ made. made ≡ named_block F.P self.now j) }
-    {
         element_laws::<F>();
         let parts = self.parts(alloc, F::P, j)?;
-        Ok(ColumnComplex::new(parts.least.i, parts.names, parts.columns))
+        build(alloc, parts.least.i, parts.names, parts.columns)
     }
 
     /// The parts of the block at a quantum degree.
@@ -124,39 +94,16 @@ impl Cube {
         ensures { IfOk result (λ columns. AreColumns p self.now at.i at.j names.now
             (length names.now) (entries_in columns.items)) }
     {
-        let ranks = self.ranks();
+        // (the number of crossings is small)
+        let _ = self.crossing_count();
         let mut around = Around::nowhere(alloc);
+        let mut column = Vec::new(alloc);
         let mut columns = Vec::with_capacity(alloc, names.len())?;
         'names: for k in 0..names.len() {
-            let tail = names[k];
-            self.go_to(p, bases, &mut around, tail.state)?;
-            columns.push(column(alloc, &around.outs, ranks, tail.label)?)?;
+            self.put_column(&mut column, p, bases, &mut around, names[k])?;
+            columns.push(SmallVec::from_slice(alloc, &column)?)?;
         }
         Ok(columns)
-    }
-
-    /// Finds the edges out of a state, where they are not those that were found last.
-    fn go_to(&self, p: u8, bases: &[u32], around: &mut Around, state: u32) -> Result<(), NoMemory>
-        requires prime { 1 < p }
-        requires values { p ≤ MOST_VALUES }
-        requires state { state < 2 ^ length self.now.crossings }
-        requires bases { All (λ base. base < PLACES) bases.now }
-        requires found { AreFound p self.now bases.now around.old.state around.old.outs.items }
-        ensures state { OnOk result (around.new.state ≡ state) }
-        ensures outs { OnOk result
-            (AreOuts p self.now bases.now state around.new.outs.items) }
-    {
-        if around.state != state {
-            find_outs(
-                &mut around.outs,
-                p,
-                self.steps(state as usize),
-                bases,
-                state,
-            )?;
-            around.state = state;
-        }
-        Ok(())
     }
 
     /// The columns of the generators of each degree from a least one on, which are given.
@@ -188,7 +135,7 @@ impl Cube {
     }
 
     /// The generators of each degree from a least one on.
-    fn all_names(
+    pub(crate) fn all_names(
         &self,
         alloc: Global,
         least: Degrees,
@@ -209,7 +156,7 @@ impl Cube {
 
     /// The degrees of the block at a quantum degree, which is given with the lowest homological
     /// degree that there can be.
-    fn span(&self, alloc: Global, sizes: &[usize], lowest: Degrees) -> Result<Span, NoMemory>
+    pub(crate) fn span(&self, alloc: Global, sizes: &[usize], lowest: Degrees) -> Result<Span, NoMemory>
         requires sizes { HaveSizes self.now lowest.j (2 ^ length self.now.crossings) sizes.now }
         requires lowest { lowest.i ≡ neg_ℤ (pos (length self.now.crossings)) }
         requires some { 0 < length (homological_degrees self.now lowest.j) }

@@ -22,7 +22,7 @@ use crate::outs::number_at;
 use kh_types::{NoMemory, bit};
 use prime_field::PrimeField;
 use prime_field::laws::element_laws;
-use sparse_block::{ColumnComplex, Entry, Generator};
+use sparse_block::{Complex, Entry, Generator, build};
 use std::alloc::Global;
 
 /// The chosen generators of two degrees, and for each generator of these degrees how many before it
@@ -35,9 +35,9 @@ struct Chosen {
 
 /// The same of each degree.
 #[derive(Drop)]
-struct AllChosen {
-    names: Vec<Vec<Generator>>,
-    before: Vec<Vec<u32>>,
+pub(crate) struct AllChosen {
+    pub(crate) names: Vec<Vec<Generator>>,
+    pub(crate) before: Vec<Vec<u32>>,
 }
 
 /// The parts of a block over chosen generators.
@@ -49,13 +49,13 @@ struct ChosenParts {
 
 impl Cube {
     /// The block at a quantum degree over the generators with v- on a circle, whose number is given
-    /// for each state, by its columns alone. The differential leads from these to such alone.
-    pub fn chosen_opening_block<F: PrimeField>(
+    /// for each state. The differential leads from these to such alone.
+    pub fn chosen_block<F: PrimeField>(
         &self,
         alloc: Global,
         circles: &[u8],
         j: i16,
-    ) -> Result<ColumnComplex<F>, NoMemory>
+    ) -> Result<Complex<F>, NoMemory>
         requires { IsClosed (has_minus circles.now) F.P self.now }
         ensures { IfOk result (λ made.
             made ≡ chosen_block (has_minus circles.now) F.P self.now j) }
@@ -64,7 +64,7 @@ impl Cube {
         // (the number of crossings is small)
         let _ = self.crossing_count();
         let parts = self.chosen_parts(alloc, F::P, circles, j)?;
-        Ok(ColumnComplex::new(self.lowest(j).i, parts.names, parts.columns))
+        build(alloc, self.lowest(j).i, parts.names, parts.columns)
     }
 
     /// The parts of this block.
@@ -131,7 +131,7 @@ impl Cube {
     }
 
     /// The chosen generators of the degrees from the lowest on.
-    fn all_chosen(
+    pub(crate) fn all_chosen(
         &self,
         alloc: Global,
         circles: &[u8],
@@ -231,7 +231,7 @@ fn renumber_all(columns: &mut [Column], heads: &[u32])
 }
 
 /// Numbers the rows of a column anew, where it is given how many rows are kept before each.
-fn renumber(column: &mut [Entry], heads: &[u32])
+pub(crate) fn renumber(column: &mut [Entry], heads: &[u32])
     requires { All (λ head. head < PLACES) heads.now }
     ensures { column.new ≡ map (moved_entry heads.now) column.old }
 {
@@ -249,7 +249,7 @@ fn moved(entry: Entry, heads: &[u32]) -> Entry
 }
 
 /// The list at a place, and an empty one past the end.
-fn list_at(lists: &[Vec<u32>], place: usize) -> &[u32]
+pub(crate) fn list_at(lists: &[Vec<u32>], place: usize) -> &[u32]
     ensures { result.now ≡ slice_index_or (lists_in lists.now) place [] }
 {
     match lists.get(place) {

@@ -1,6 +1,6 @@
 //! The columns of a block.
 
-ghost use Rattle.std.specs.Prelude.{◌≡◌, ◌+◌, ◌^◌, ◌<◌, ◌≤◌, ◌++◌, length, map, All, IfOk, OnOk};
+ghost use Rattle.std.specs.Prelude.{◌≡◌, ◌+◌, ◌^◌, ◌<◌, ◌≤◌, ◌++◌, length, map, All, OnOk};
 ghost use Rattle.kh_types.specs.declared.limits.TheConstants.{CIRCLES};
 ghost use Rattle.sparse_block.specs.declared.entry.TheConstants.{MOST_VALUES};
 ghost use Rattle.cube_signs.specs.Columns.{column_along, head_entry, out_entries, IsSmallOut};
@@ -11,28 +11,32 @@ use crate::outs::{Out, number_at};
 use kh_types::NoMemory;
 use smallvec::SmallVec;
 use sparse_block::{Entry, INLINE_ENTRIES};
-use std::alloc::Global;
 
 /// The entries of a column.
 pub type Column = SmallVec<Entry, INLINE_ENTRIES>;
 
-/// The entries of the column of a generator, given the edges out of its state, and how many labels
-/// before each have as many v-.
-pub fn column(alloc: Global, outs: &[Out], ranks: &[u32], label: u64) -> Result<Column, NoMemory>
+/// Puts the entries of the column of a generator in place of others, given the edges out of its
+/// state, and how many labels before each have as many v-.
+pub fn put_entries(
+    column: &mut Vec<Entry>,
+    outs: &[Out],
+    ranks: &[u32],
+    label: u64,
+) -> Result<(), NoMemory>
     requires outs { All IsSmallOut outs.now }
     requires label { label < 2 ^ CIRCLES }
     requires ranks { All (λ rank. rank < PLACES) ranks.now }
-    ensures { IfOk result (λ column. column.items ≡ column_along ranks.now label outs.now) }
+    ensures { OnOk result (column.new.items ≡ column_along ranks.now label outs.now) }
 {
-    let mut column = SmallVec::new(alloc);
+    column.clear();
     'outs: for k in 0..outs.len() {
-        push_entries(&mut column, ranks, outs[k], label)?;
+        push_entries(column, ranks, outs[k], label)?;
     }
-    Ok(column)
+    Ok(())
 }
 
 /// Adds the entries along an edge.
-fn push_entries(column: &mut Column, ranks: &[u32], out: Out, label: u64) -> Result<(), NoMemory>
+fn push_entries(column: &mut Vec<Entry>, ranks: &[u32], out: Out, label: u64) -> Result<(), NoMemory>
     requires out { IsSmallOut out }
     requires label { label < 2 ^ CIRCLES }
     requires ranks { All (λ rank. rank < PLACES) ranks.now }
@@ -45,7 +49,7 @@ fn push_entries(column: &mut Column, ranks: &[u32], out: Out, label: u64) -> Res
 
 /// Adds the entries of the generators with these labels.
 fn push_heads(
-    column: &mut Column,
+    column: &mut Vec<Entry>,
     base: u32,
     ranks: &[u32],
     sign: u8,

@@ -2,9 +2,11 @@
 //! coefficients with signs.
 #![tactic(auto)]
 
+mod around;
 mod blocks;
 mod by_kind;
 mod chosen;
+mod chosen_opening;
 mod columns;
 mod cube;
 mod head_labels;
@@ -13,6 +15,7 @@ pub mod laws;
 mod levels;
 mod limits;
 mod names;
+mod opening_block;
 mod outs;
 mod places;
 mod quantum_degrees;
@@ -22,7 +25,9 @@ mod steps;
 
 pub use blocks::block_columns;
 pub use by_kind::kind_shapes;
+pub use chosen_opening::ChosenBlock;
 pub use cube::Cube;
+pub use opening_block::OpeningBlock;
 pub use quantum_degrees::{block_degrees, counted_degrees};
 pub use shape::Shape;
 pub use size::{SizeLimit, SmallDiagram, check_size};

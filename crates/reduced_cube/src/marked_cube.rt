@@ -12,13 +12,13 @@ ghost use Rattle.reduced_cube.specs.Reduced.{reduced_table};
 use crate::degrees::reduced_degrees;
 use crate::marks::marked_circles;
 use column_reduction::reduce;
-use cube_signs::Cube;
+use cube_signs::{ChosenBlock, Cube};
 use homology_tables::{Row, Table, push_rows};
 use kh_types::laws::diagrams::diagram_laws;
 use kh_types::{Diagram, NoMemory};
 use prime_field::PrimeField;
 use prime_field::laws::element_laws;
-use sparse_block::{ColumnComplex, Complex};
+use sparse_block::Complex;
 use std::alloc::Global;
 use std::marker::Model;
 
@@ -68,15 +68,17 @@ impl MarkedCube {
         requires { Contains (reduced_degrees self.now.code self.now.mark) j }
         ensures { IfOk result (λ made. made ≡ reduced_block F.P self.now.code self.now.mark j) }
     {
-        self.opening_block(alloc, j)?.build(alloc)
+        element_laws::<F>();
+        diagram_laws(self.cube.diagram());
+        self.cube.chosen_block(alloc, &self.circles, j - 1)
     }
 
-    /// The same block by its columns alone.
+    /// The same block by its columns alone, which are made one at a time.
     fn opening_block<F: PrimeField>(
         &self,
         alloc: Global,
         j: i16,
-    ) -> Result<ColumnComplex<F>, NoMemory>
+    ) -> Result<ChosenBlock<'_, F>, NoMemory>
         requires { Contains (reduced_degrees self.now.code self.now.mark) j }
         ensures { IfOk result (λ made. made ≡ reduced_block F.P self.now.code self.now.mark j) }
     {

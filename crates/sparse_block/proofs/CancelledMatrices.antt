@@ -5,8 +5,8 @@
 -- before, so its whole line was 0 and stays 0; or it is that of the pivot's column or row, whose lines the cancellation puts to 0
 -- in its degree and beside it.
 use Rattle.std.proofs.lemmas.Bool.Decides.{nat_tests}
-use Rattle.std.proofs.Common.{◌≡◌, ℕ, ◌+◌, ◌*◌, ◌%◌, ◌<◌, ◌≢◌, ◌∙◌, ◌⊎◌, inl, inr, List, ℤ, pos, ◌+ℤ◌, length, ap, sym, subst, arith, Bool, true, false}
-use Rattle.std.specs.Prelude.{nat_eq, slice_index_or, if◌then◌else◌}
+use Rattle.std.proofs.Common.{◌≡◌, ℕ, ◌+◌, ◌*◌, ◌%◌, ◌<◌, ◌≢◌, ◌∙◌, ◌⊎◌, inl, inr, List, ℤ, pos, ◌+ℤ◌, length, ap, sym, subst, arith, true, false}
+use Rattle.std.specs.Prelude.{nat_eq, slice_index_or}
 use Rattle.std.proofs.Math.Nat.{zero-mod, mod-eq_of_lt}
 use Rattle.std.proofs.lemmas.Bool.{cond-true, eq-eqb}
 use Rattle.std.proofs.lemmas.Int.{ints}

@@ -10,6 +10,7 @@ pub mod ClearedLists
 pub mod DegreeLemmas
 pub mod KeptLemmas
 pub mod BuildLemmas
+pub mod OpeningLemmas
 pub mod ZeroComplexes
 pub mod ReadingLemmas
 pub mod WorkedLemmas

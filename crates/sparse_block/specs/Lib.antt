@@ -2,6 +2,7 @@ pub mod Entries
 pub mod LinePairs
 pub mod Least
 pub mod Complexes
+pub mod Opening
 pub mod Histories
 pub mod Held
 pub mod Inside

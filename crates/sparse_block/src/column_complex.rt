@@ -6,7 +6,7 @@ ghost use Rattle.sparse_block.specs.Complexes.{HaveEntries, MakeComplex, Squares
 ghost use Rattle.sparse_block.specs.Inside.{lines_in, lists_in};
 
 use crate::building::build;
-use crate::{Complex, Entry, Generator, INLINE_ENTRIES};
+use crate::{ColumnSource, Complex, Entry, Generator, INLINE_ENTRIES};
 use kh_types::NoMemory;
 use prime_field::PrimeField;
 use prime_field::laws::element_laws;
@@ -97,5 +97,34 @@ impl<F: PrimeField> ColumnComplex<F> {
         let low = self.low();
         let ColumnParts { names, columns } = self.into_parts();
         build(alloc, low, names, columns)
+    }
+}
+
+impl<F: PrimeField> ColumnSource<F> for ColumnComplex<F> {
+    ghost whole = { λ complex. complex };
+
+    fn low(&self) -> i16 {
+        element_laws::<F>();
+        self.low
+    }
+
+    fn names(&self) -> &[Vec<Generator>] {
+        &self.names
+    }
+
+    fn put_column(
+        &mut self,
+        column: &mut Vec<Entry>,
+        k: usize,
+        place: usize,
+    ) -> Result<(), NoMemory> {
+        element_laws::<F>();
+        column.clear();
+        column.extend_from_slice(self.columns[k][place].as_slice())?;
+        Ok(())
+    }
+
+    fn into_names(self) -> Vec<Vec<Generator>> {
+        self.names
     }
 }

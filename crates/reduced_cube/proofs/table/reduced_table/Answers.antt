@@ -1,4 +1,4 @@
-use Rattle.std.proofs.Common.{rules, ◌≡◌, ◌∙◌, pos, ◌+ℤ◌, ◌-ℤ◌, ap, arith, length, true}
+use Rattle.std.proofs.Common.{rules, ◌≡◌, ◌∙◌, pos, ◌+ℤ◌, ◌-ℤ◌, ap, true}
 use Rattle.kh_types.specs.StateSum.{euler}
 use Rattle.kh_types.specs.Table.{Table}
 use Rattle.reduced_cube.specs.Reduced.{is_mark}

@@ -1,48 +1,29 @@
-use Rattle.std.proofs.lemmas.Bool.Decides.{nat_tests}
-use Rattle.std.proofs.Common.{◌∙◌, ap, sym, ◌≡◌, ℕ, ℤ, pos, neg_ℤ, ◌+ℤ◌, ◌-ℤ◌, ◌≤ℤ◌, ◌+◌, ◌*◌, ◌≤◌, length, subst, arith, to_z, of_z, w16, List}
-use Rattle.std.proofs.lemmas.Int.{ints, to_z-of_z}
-use Rattle.cube_signs.specs.Chosen.{chosen_block, has_minus}
-use Rattle.std.specs.Global.{Vec}
-use Rattle.std.proofs.lemmas.List.{length-map}
-use Rattle.kh_types.specs.Generators.{Generator}
-use Rattle.sparse_block.specs.Complexes.{HaveEntries, SquaresToZero, sparse_complex}
-use Rattle.sparse_block.specs.Inside.{lines_in, lists_in}
+use Rattle.std.proofs.Common.{◌+◌, ◌*◌, ◌≤◌, ◌∙◌, ℕ, ℤ, length, map, ap, sym, arith}
+use Rattle.kh_types.specs.Generators.{states}
+use Rattle.cube_signs.specs.Chosen.{has_minus}
+use Rattle.cube_signs.specs.ChosenParts.{all_places_to, chosen_to}
+use Rattle.cube_signs.specs.Tables.{own_base}
+use Rattle.cube_signs.proofs.BlockLemmas.{found-nowhere}
+use Rattle.cube_signs.proofs.BlockSources.{opening-chosen}
 use Rattle.cube_signs.proofs.cube.Cube.chosen_opening_block.Goals as goal
 
-fits : (n : ℕ) (low : ℤ) (names : List (Vec Generator)) → n ≤ 20 → low ≡ neg_ℤ (pos n) → length (lists_in names) ≡ 2 * n + 1
-    → (to_z w16 (of_z w16 low) +ℤ pos (length names)) ≤ℤ pos 32767
-fits n low names few is size = omega (arith, ints, length-map names (λ (degree : Vec Generator). degree.items))
-
-turned : (n : ℕ) (low : ℤ) → n ≤ 20 → low ≡ neg_ℤ (pos n) → pos 0 -ℤ pos n ≡ to_z w16 (of_z w16 low)
-turned n low few is = omega (arith, ints)
-
-pub new-requires-clause-end : goal.new-requires-clause-end
-new-requires-clause-end = grind (arith, nat_tests, fits)
-
-pub new-requires-clause-entries : goal.new-requires-clause-entries
-new-requires-clause-entries g c =
-    let parts = c.in_ok-parts.parts in
-    subst (λ (p : ℕ). HaveEntries p (lists_in parts.names.items) (lines_in parts.columns.items)) c.P.ensures
-    c.in_ok-parts.ensures.entries
-
-pub new-requires-clause-squares : goal.new-requires-clause-squares
-new-requires-clause-squares g c =
-    let parts = c.in_ok-parts.parts in
-    let low = turned (length c.args.self.now.crossings) c.lowest.result.i
-    (omega (arith, c.crossing_count.ensures.count, c.crossing_count.ensures.few)) c.lowest.ensures.i in
-    subst (λ (low : ℤ). SquaresToZero g.F.PrimeField.P (sparse_complex low (lists_in parts.names.items) (lines_in parts.columns.items)).complex)
-    low
-    (subst (λ (p : ℕ). SquaresToZero p
-    (sparse_complex (pos 0 -ℤ pos (length c.args.self.now.crossings)) (lists_in parts.names.items) (lines_in parts.columns.items)).complex)
-    c.P.ensures c.in_ok-parts.ensures.squares)
-
-pub returns : goal.returns
-returns g c =
-    let parts = c.in_ok-parts.parts in
-    let names = lists_in parts.names.items in
-    let columns = lines_in parts.columns.items in
-    let low = turned (length c.args.self.now.crossings) c.lowest.result.i
-    (omega (arith, c.crossing_count.ensures.count, c.crossing_count.ensures.few)) c.lowest.ensures.i in
-    c.new.ensures ∙ ap (λ (low : ℤ). sparse_complex low names columns) (sym low) ∙ c.in_ok-parts.ensures.is
-    ∙ ap (λ (p : ℕ). chosen_block (has_minus c.args.circles.now) p c.args.self.now (to_z w16 (of_z w16 c.args.j))) c.P.ensures
-    ∙ ap (chosen_block (has_minus c.args.circles.now) g.F.PrimeField.P c.args.self.now) (to_z-of_z w16 c.args.j c.ranges.j)
+pub invariant_of-result : goal.invariant_of-result
+invariant_of-result g c =
+    let p = g.F.PrimeField.P in
+    let code = c.args.self.now in
+    let choice = has_minus c.args.circles.now in
+    let j = c.lowest-lowest.result.j in
+    let count = c.crossing_count.ensures.count in
+    let few : length code.crossings ≤ 20 = omega (arith, count, c.crossing_count.ensures.few) in
+    record {
+      opening = opening-chosen choice p code j (omega (arith, c.element_laws.ensures.field.above_one)) c.state_count.ensures.code
+          c.state_count.ensures.size few c.requires;
+      closed = c.requires;
+      is_low = c.lowest-lowest.ensures.i;
+      are_names = c.in_ok-chosen.ensures.names ∙ ap (λ (n : ℕ). chosen_to choice code j (2 * n + 1)) count;
+      are_places = c.in_ok-chosen.ensures.places ∙ ap (λ (n : ℕ). all_places_to choice code j (2 * n + 1)) count;
+      are_bases = c.in_ok-bases.ensures.bases ∙ ap (λ (j : ℤ). map (own_base code j) (states code)) (sym c.lowest-lowest.ensures.j);
+      small = c.in_ok-bases.ensures.small;
+      found = found-nowhere p code c.in_ok-bases.field-0.bases.items c.nowhere.result.state c.nowhere.result.outs.items
+          c.nowhere.ensures.state few;
+    }

@@ -1,0 +1,13 @@
+use Rattle.std.proofs.Common.{◌∙◌, ap}
+use Rattle.sparse_block.specs.Complexes.{NamedComplex}
+use Rattle.sparse_block.specs.Inside.{lists_in}
+use Rattle.cube_signs.specs.Chosen.{has_minus}
+use Rattle.cube_signs.proofs.BlockSources.{names-chosen}
+use Rattle.cube_signs.proofs.chosen_opening.ChosenBlockColumnSource.names.Goals as goal
+
+pub returns : goal.returns
+returns g c =
+    let held = c.self.inside in
+    ap lists_in c.deref.ensures.value ∙ c.self.invariant.are_names
+    ∙ names-chosen (has_minus held.circles.now) g.F.PrimeField.P held.cube.now held.lowest.j
+    ∙ ap (λ (named : NamedComplex). named.names) c.self.view_is

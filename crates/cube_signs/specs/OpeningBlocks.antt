@@ -1,0 +1,36 @@
+-- The blocks of the cube before any cancellation, as they are held while their columns are made: by their names.
+use Rattle.std.specs.Prelude.{◌≡◌, ℕ, ◌+◌, ◌*◌, ◌<◌, ℤ, pos, neg_ℤ, List, length, map, Bool, All}
+use Rattle.kh_types.specs.Code.{Code}
+use Rattle.kh_types.specs.Generators.{Generator, generators_at, states}
+use Rattle.kh_types.specs.History.{first_or_zero, homological_degrees}
+use Rattle.sparse_block.specs.Opening.{IsOpening}
+use Rattle.cube_signs.specs.declared.limits.TheConstants.{PLACES}
+use Rattle.cube_signs.specs.declared.outs.Out.{Out}
+use Rattle.cube_signs.specs.Blocks.{named_block}
+use Rattle.cube_signs.specs.Chosen.{chosen_block, IsClosed}
+use Rattle.cube_signs.specs.ChosenParts.{all_places_to, chosen_to}
+use Rattle.cube_signs.specs.Columns.{AreFound}
+use Rattle.cube_signs.specs.Tables.{own_base}
+
+-- what is held of the block at j: its least degree, its names, the places of the first generators of states, and the edges out of
+-- a state that were found last
+pub record IsOpeningBlock (p : ℕ) (code : Code) (low j : ℤ) (names : List (List Generator)) (bases : List ℕ) (state : ℕ)
+    (outs : List Out) : Type 0 where
+  pub opening : IsOpening p (named_block p code j)
+  pub is_low : low ≡ first_or_zero (homological_degrees code j)
+  pub are_names : names ≡ map (λ i. generators_at code i j) (homological_degrees code j)
+  pub are_bases : bases ≡ map (own_base code j) (states code)
+  pub small : All (λ base. base < PLACES) bases
+  pub found : AreFound p code bases state outs
+
+-- the same of the block over chosen generators; and how many generators before each are chosen
+pub record IsChosenBlock (p : ℕ) (choice : Generator → Bool) (code : Code) (low j : ℤ) (names : List (List Generator))
+    (before : List (List ℕ)) (bases : List ℕ) (state : ℕ) (outs : List Out) : Type 0 where
+  pub opening : IsOpening p (chosen_block choice p code j)
+  pub closed : IsClosed choice p code
+  pub is_low : low ≡ neg_ℤ (pos (length code.crossings))
+  pub are_names : names ≡ chosen_to choice code j (2 * length code.crossings + 1)
+  pub are_places : before ≡ all_places_to choice code j (2 * length code.crossings + 1)
+  pub are_bases : bases ≡ map (own_base code j) (states code)
+  pub small : All (λ base. base < PLACES) bases
+  pub found : AreFound p code bases state outs

@@ -1,0 +1,81 @@
+//! The columns of a cube, one at a time: the edges out of a state serve for all its generators.
+
+ghost use Rattle.std.specs.Prelude.{◌≡◌, ℤ, ◌+◌, ◌^◌, ◌<◌, ◌≤◌, length, map, All, OnOk};
+ghost use Rattle.kh_types.specs.Generators.{states};
+ghost use Rattle.sparse_block.specs.declared.entry.TheConstants.{MOST_VALUES};
+ghost use Rattle.cube_signs.specs.Columns.{AreFound, AreOuts, IsColumn, IsTail};
+ghost use Rattle.cube_signs.specs.Tables.{own_base};
+ghost use Rattle.cube_signs.specs.declared.limits.TheConstants.{PLACES};
+
+use crate::columns::put_entries;
+use crate::cube::Cube;
+use crate::outs::{Out, find_outs};
+use kh_types::NoMemory;
+use sparse_block::{Entry, Generator};
+use std::alloc::Global;
+
+/// A state, and the edges out of it that were found last.
+#[derive(Drop)]
+pub(crate) struct Around {
+    pub(crate) state: u32,
+    pub(crate) outs: Vec<Out>,
+}
+
+impl Around {
+    /// No state has such a number.
+    pub(crate) fn nowhere(alloc: Global) -> Around
+        ensures state { result.state + 1 ≡ 2 ^ 32 }
+    {
+        Around {
+            state: u32::MAX,
+            outs: Vec::new(alloc),
+        }
+    }
+}
+
+impl Cube {
+    /// Puts the entries of the column of a generator in place of others.
+    pub(crate) fn put_column(
+        &self,
+        column: &mut Vec<Entry>,
+        p: u8,
+        bases: &[u32],
+        around: &mut Around,
+        tail: Generator,
+    ) -> Result<(), NoMemory>
+        requires prime { 1 < p }
+        requires values { p ≤ MOST_VALUES }
+        requires bases { All (λ base. base < PLACES) bases.now }
+        requires tail { (i : ℤ) × (j : ℤ) × IsTail self.now i j tail }
+        requires found { AreFound p self.now bases.now around.old.state around.old.outs.items }
+        ensures found { AreFound p self.now bases.now around.new.state around.new.outs.items }
+        ensures column { OnOk result ((i j : ℤ) → bases.now ≡ map (own_base self.now j)
+            (states self.now) → IsTail self.now i j tail → IsColumn p self.now i j tail
+            column.new.items) }
+    {
+        self.go_to(p, bases, around, tail.state)?;
+        put_entries(column, &around.outs, self.ranks(), tail.label)
+    }
+
+    /// Finds the edges out of a state, where they are not those that were found last.
+    fn go_to(&self, p: u8, bases: &[u32], around: &mut Around, state: u32) -> Result<(), NoMemory>
+        requires prime { 1 < p }
+        requires values { p ≤ MOST_VALUES }
+        requires state { state < 2 ^ length self.now.crossings }
+        requires bases { All (λ base. base < PLACES) bases.now }
+        requires found { AreFound p self.now bases.now around.old.state around.old.outs.items }
+        ensures found { AreFound p self.now bases.now around.new.state around.new.outs.items }
+        ensures outs { OnOk result
+            (AreOuts p self.now bases.now state around.new.outs.items) }
+    {
+        if around.state == state {
+            return Ok(());
+        }
+        // (no state has this number)
+        around.state = u32::MAX;
+        let steps = self.steps(state as usize);
+        find_outs(&mut around.outs, p, steps, bases, state)?;
+        around.state = state;
+        Ok(())
+    }
+}

@@ -1,0 +1,112 @@
+//! The blocks over chosen generators before any cancellation, with columns that are made one at a
+//! time.
+
+ghost use Rattle.std.specs.Prelude.{◌≡◌, IfOk};
+ghost use Rattle.cube_signs.specs.Chosen.{chosen_block, has_minus, IsClosed};
+
+use crate::around::Around;
+use crate::chosen::{AllChosen, list_at, renumber};
+use crate::cube::Cube;
+use crate::names::Degrees;
+use kh_types::NoMemory;
+use prime_field::PrimeField;
+use prime_field::laws::element_laws;
+use sparse_block::{ColumnSource, Entry, Generator};
+use std::alloc::Global;
+use std::marker::{Model, PhantomData};
+
+/// The block of a cube at a quantum degree over the generators with v- on a circle, whose number is
+/// given for each state, before any cancellation; a column is made when it is asked for. Contracts
+/// see whole matrices.
+#[derive(Drop)]
+pub struct ChosenBlock<'a, F: PrimeField> {
+    cube: &'a Cube,
+    circles: &'a [u8],
+    lowest: Degrees,
+    chosen: AllChosen,
+    // Where the generators of each state begin among those of their degrees.
+    bases: Vec<u32>,
+    around: Around,
+    field: PhantomData<F>,
+}
+
+impl<'a, F: PrimeField> Model for ChosenBlock<'a, F> {
+    ghost use Rattle.sparse_block.specs.Complexes.{NamedComplex};
+    ghost use Rattle.sparse_block.specs.Inside.{lists_in};
+    ghost use Rattle.cube_signs.specs.Chosen.{chosen_block, has_minus};
+    ghost use Rattle.cube_signs.specs.OpeningBlocks.{IsChosenBlock};
+
+    ghost Value = { NamedComplex };
+
+    ghost view = { λ block. chosen_block (has_minus block.circles.now) F.P block.cube.now
+        block.lowest.j };
+
+    ghost invariant = { λ block. IsChosenBlock F.P (has_minus block.circles.now) block.cube.now
+        block.lowest.i block.lowest.j (lists_in block.chosen.names.items)
+        (lists_in block.chosen.before.items) block.bases.items block.around.state
+        block.around.outs.items };
+}
+
+impl Cube {
+    /// The block at a quantum degree over the generators with v- on a circle, whose number is given
+    /// for each state, by its columns alone, which are made one at a time. The differential leads
+    /// from these to such alone.
+    pub fn chosen_opening_block<'a, F: PrimeField>(
+        &'a self,
+        alloc: Global,
+        circles: &'a [u8],
+        j: i16,
+    ) -> Result<ChosenBlock<'a, F>, NoMemory>
+        requires { IsClosed (has_minus circles.now) F.P self.now }
+        ensures { IfOk result (λ made.
+            made ≡ chosen_block (has_minus circles.now) F.P self.now j) }
+    {
+        element_laws::<F>();
+        // (what a cube keeps)
+        let _ = self.state_count();
+        let bases = self.places(alloc, j)?.bases;
+        let lowest = self.lowest(j);
+        let chosen = self.all_chosen(alloc, circles, lowest, 2 * self.crossing_count() + 1)?;
+        Ok(ChosenBlock {
+            cube: self,
+            circles,
+            lowest,
+            chosen,
+            bases,
+            around: Around::nowhere(alloc),
+            field: PhantomData,
+        })
+    }
+}
+
+impl<'a, F: PrimeField> ColumnSource<F> for ChosenBlock<'a, F> {
+    ghost whole = { λ block. block };
+
+    fn low(&self) -> i16 {
+        self.lowest.i
+    }
+
+    fn names(&self) -> &[Vec<Generator>] {
+        &self.chosen.names
+    }
+
+    fn put_column(
+        &mut self,
+        column: &mut Vec<Entry>,
+        k: usize,
+        place: usize,
+    ) -> Result<(), NoMemory> {
+        element_laws::<F>();
+        let cube = self.cube;
+        // (what a cube keeps)
+        let _ = cube.state_count();
+        let tail = self.chosen.names[k][place];
+        cube.put_column(column, F::P, &self.bases, &mut self.around, tail)?;
+        renumber(column, list_at(&self.chosen.before, k + 1));
+        Ok(())
+    }
+
+    fn into_names(self) -> Vec<Vec<Generator>> {
+        self.chosen.names
+    }
+}
