@@ -80,13 +80,16 @@ pub(crate) fn first_from<F: PrimeField, S: ColumnSource<F>>(
         let own = alive_at(alive, k);
         let fresh = fresh_table(alloc, alive_at(alive, k + 1).len(), own.len())?;
         let seen = next_left::<F, S>(source, &fresh, k, own, 0)?;
-        if let Some(line) = seen {
-            return Ok(Some(FoundColumn {
-                degree: degree_at(low, k),
-                number: k,
-                line,
-                fresh: Some(fresh),
-            }));
+        match seen {
+            Some(line) => {
+                return Ok(Some(FoundColumn {
+                    degree: degree_at(low, k),
+                    number: k,
+                    line,
+                    fresh: Some(fresh),
+                }));
+            }
+            None => {}
         }
     }
     Ok(None)

@@ -1,4 +1,4 @@
-use Rattle.std.proofs.Common.{◌≡◌, ◌≢◌, ◌≤◌, ◌∙◌, List, ℕ, pos, ◌+ℤ◌, length, refl, ap, sym, subst, arith, false, rules}
+use Rattle.std.proofs.Common.{◌≡◌, ◌≢◌, ◌≤◌, ◌∙◌, [], List, ℕ, pos, ◌+ℤ◌, length, refl, ap, sym, subst, arith, false, rules}
 use Rattle.std.specs.Prelude.{slice_index_or}
 use Rattle.sparse_block.specs.Complexes.{NamedComplex}
 use Rattle.sparse_block.specs.Entries.{Entry}
@@ -44,3 +44,27 @@ returns-clause-none g c =
     (g.S.ColumnSource.whole c.args.source.now).complex
     ((g.S.ColumnSource.whole c.args.source.now).complex.low +ℤ pos c.args.k) c.args.alive.now c.args.stored.now.columns.items
     c.places.invariant.none (omega (arith, c.places-test.false))
+
+pub returns-then-not-is_empty-clause-first : goal.returns-then-not-is_empty-clause-first
+returns-then-not-is_empty-clause-first g c =
+    let p = g.F.PrimeField.P in
+    let whole = g.S.ColumnSource.whole c.args.source.now in
+    let i = whole.complex.low +ℤ pos c.args.k in
+    let alive = c.args.alive.now in
+    let place = c.places.place in
+    let is_alive = slice_index_or alive place false in
+    let stored = c.args.stored.now.columns.items in
+    let size = length c.args.stored.now.owners.items in
+    let line = c.put_live.new.column.items in
+    let live : IsLiveColumn p whole.complex i is_alive place line =
+    subst
+    (λ (named : NamedComplex). IsLiveColumn p named.complex (named.complex.low +ℤ pos c.args.k) is_alive place line)
+    c.places.invariant.same c.in_ok-put_live.ensures.column in
+    let left = c.reduce_line.new.scratch.left.items in
+    let h1 = c.is_empty.ensures in
+    let h2 = c.if-not-is_empty.true in
+    let h3 = c.if-not-is_empty.ensures in
+    let some : left ≢ [] = search rules in
+    left-first p size place c.args.from whole.complex i alive stored line left _ c.places.invariant.none c.places.invariant.after
+    (omega (arith, c.places-test.true)) c.requires.height live c.in_ok-reduce_line.ensures some
+    (c.in_ok-line_of.ensures ∙ ap (λ (es : List Entry). stored_column place (last_place es) es) c.deref.ensures.value)

@@ -1,5 +1,5 @@
-use Rattle.std.proofs.Common.{◌≡◌, ◌≢◌, ◌<◌, ◌≤◌, ◌+◌, ◌∙◌, [], List, ℕ, ℤ, pos, ◌+ℤ◌, map, length, refl, ap, sym, subst, arith, to_z, of_z, w16, Bool, true, None}
-use Rattle.std.specs.Prelude.{slice_index_or, IfNone, IfSome, Option}
+use Rattle.std.proofs.Common.{◌≡◌, ◌≢◌, ◌<◌, ◌≤◌, ◌+◌, ◌∙◌, [], List, ℕ, ℤ, pos, ◌+ℤ◌, map, length, refl, ap, sym, subst, subst₂, arith, to_z, of_z, w16, Bool, true}
+use Rattle.std.specs.Prelude.{slice_index_or, IfNone, IfOk, IfSome, Option}
 use Rattle.std.specs.Global.{Vec}
 use Rattle.std.proofs.lemmas.Int.{ints}
 use Rattle.std.proofs.lemmas.List.{length-map}
@@ -87,6 +87,70 @@ returns-in-Some-clause-open g c =
 pub first_from-requires : goal.first_from-requires
 first_from-requires g c =
     let held = c.args.self.now in
-    sizes-left g.F.PrimeField.P (g.S.ColumnSource.whole c.args.source.now) c.element_laws.ensures.field c.low-low.ensures.opening
+    ap (λ (marks : List (Vec Bool)). map length (lists_in marks)) c.deref-in-None.ensures.value
+    ∙ sizes-left g.F.PrimeField.P (g.S.ColumnSource.whole c.args.source.now) c.element_laws.ensures.field c.low-low.ensures.opening
     (lists_in held.alive.items) held.history.items c.requires.alive_is
     ∙ ap (λ (named : NamedComplex). map length named.names) (sym c.in_ok-seen.ensures.same)
+
+pub returns-in-None-clause-found : goal.returns-in-None-clause-found
+returns-in-None-clause-found g c =
+    let p = g.F.PrimeField.P in
+    let whole = g.S.ColumnSource.whole c.args.source.now in
+    let held = c.args.self.now in
+    let k = held.number in
+    let alive = lists_in held.alive.items in
+    let of = c.requires in
+    let i = whole.complex.low +ℤ pos k in
+    let stored = held.stored.columns.items in
+    let marks = c.alive_at-own.result.now in
+    let own : marks ≡ slice_index_or alive k [] =
+    c.alive_at-own.ensures ∙ ap (λ (degrees : List (Vec Bool)). slice_index_or (lists_in degrees) k []) c.deref.ensures.value in
+    let left : LeaveNone p whole.complex i marks stored held.next (length marks) =
+    subst (λ (seen : Option StoredColumn). IfNone seen (LeaveNone p whole.complex i marks stored held.next (length marks))) c.in-None.is
+    c.in_ok-seen.ensures.none in
+    let none : LeaveNone p whole.complex i (slice_index_or alive k []) stored held.next (length (slice_index_or alive k [])) =
+    subst (λ (marks : List Bool). LeaveNone p whole.complex i marks stored held.next (length marks)) own left in
+    some-map (IsFirstFrom p whole.complex alive (k + 1)) (IsFound p whole.complex held.history.items)
+    (found-above p whole.complex c.element_laws.ensures.field of.is alive held.history.items of.alive_is k held.next stored of.way of.here
+    of.within none) c.first_from.result
+    (subst₂ (λ (named : NamedComplex) (marks : List (Vec Bool)).
+    IfOk c.first_from.result (λ seen. IfSome seen (IsFirstFrom p named.complex (lists_in marks) (k + 1)))) c.in_ok-seen.ensures.same
+    c.deref-in-None.ensures.value c.first_from.ensures.first)
+
+pub returns-in-None-clause-open : goal.returns-in-None-clause-open
+returns-in-None-clause-open g c =
+    let p = g.F.PrimeField.P in
+    let whole = g.S.ColumnSource.whole c.args.source.now in
+    let history = c.args.self.now.history.items in
+    some-map (IsFound p whole.complex history) (λ found. ¬ (is_zero (replay p whole.complex history) ≡ true))
+    (λ found is_found. found-open p whole.complex history found c.element_laws.ensures.field c.requires.is is_found)
+    c.first_from.result (returns-in-None-clause-found g c)
+
+pub returns-in-None-clause-none : goal.returns-in-None-clause-none
+returns-in-None-clause-none g c =
+    let p = g.F.PrimeField.P in
+    let whole = g.S.ColumnSource.whole c.args.source.now in
+    let held = c.args.self.now in
+    let k = held.number in
+    let alive = lists_in held.alive.items in
+    let of = c.requires in
+    let i = whole.complex.low +ℤ pos k in
+    let stored = held.stored.columns.items in
+    let marks = c.alive_at-own.result.now in
+    let own : marks ≡ slice_index_or alive k [] =
+    c.alive_at-own.ensures ∙ ap (λ (degrees : List (Vec Bool)). slice_index_or (lists_in degrees) k []) c.deref.ensures.value in
+    let left : LeaveNone p whole.complex i marks stored held.next (length marks) =
+    subst (λ (seen : Option StoredColumn). IfNone seen (LeaveNone p whole.complex i marks stored held.next (length marks))) c.in-None.is
+    c.in_ok-seen.ensures.none in
+    let none : LeaveNone p whole.complex i (slice_index_or alive k []) stored held.next (length (slice_index_or alive k [])) =
+    subst (λ (marks : List Bool). LeaveNone p whole.complex i marks stored held.next (length marks)) own left in
+    let size : length alive ≡ length held.alive.items = length-map held.alive.items (λ (degree : Vec Bool). degree.items) in
+    none-map (AllLeaveNone p whole.complex alive (k + 1) (length held.alive.items))
+    (is_zero (replay p whole.complex held.history.items) ≡ true)
+    (λ above.
+    found-none p whole.complex c.element_laws.ensures.field of.is alive held.history.items of.alive_is k held.next stored of.way of.here
+    of.within none (omega (arith, of.number, size)) (subst (AllLeaveNone p whole.complex alive (k + 1)) (sym size) above))
+    c.first_from.result
+    (subst₂ (λ (named : NamedComplex) (marks : List (Vec Bool)).
+    IfOk c.first_from.result (λ seen. IfNone seen (AllLeaveNone p named.complex (lists_in marks) (k + 1) (length marks))))
+    c.in_ok-seen.ensures.same c.deref-in-None.ensures.value c.first_from.ensures.none)
