@@ -49,9 +49,14 @@ next_left-requires-clause-height g c =
 pub degree_at-requires : goal.degree_at-requires
 degree_at-requires g c =
     let k = c.args.self.now.number in
+    let count =
+    degrees-left g.F.PrimeField.P (g.S.ColumnSource.whole c.args.source.now) c.element_laws.ensures.field c.low-low.ensures.opening
+    (lists_in c.args.self.now.alive.items) c.args.self.now.history.items c.requires.alive_is in
+    let within : c.args.self.now.number < length (g.S.ColumnSource.whole c.args.source.now).names =
+    omega (arith, count, c.requires.number, length-map c.args.self.now.alive.items (λ (degree : Vec Bool). degree.items)) in
     let end =
     degree-opening g.F.PrimeField.P (g.S.ColumnSource.whole c.args.source.now) c.element_laws.ensures.field c.low-low.ensures.opening k
-    (next_left-requires-clause-degree g c) in
+    within in
     let fits : to_z w16 (of_z w16 c.low-low.result) ≡ c.low-low.result = omega (arith, ints, c.low-low.type_inv) in
     omega (arith, ints, fits, c.low-low.ensures.low, end)
 
@@ -71,8 +76,13 @@ returns-in-Some-clause-found g c =
     c.in_ok-seen.ensures.first in
     let first : IsFirstLeft p whole.complex i (slice_index_or alive k []) held.stored.columns.items held.next c.in-Some.line =
     subst (λ (marks : List Bool). IsFirstLeft p whole.complex i marks held.stored.columns.items held.next c.in-Some.line) own seen in
+    let count =
+    degrees-left g.F.PrimeField.P (g.S.ColumnSource.whole c.args.source.now) c.element_laws.ensures.field c.low-low.ensures.opening
+    (lists_in c.args.self.now.alive.items) c.args.self.now.history.items c.requires.alive_is in
+    let within : c.args.self.now.number < length (g.S.ColumnSource.whole c.args.source.now).names =
+    omega (arith, count, c.requires.number, length-map c.args.self.now.alive.items (λ (degree : Vec Bool). degree.items)) in
     let end =
-    degree-opening p whole c.element_laws.ensures.field c.low-low.ensures.opening k (next_left-requires-clause-degree g c) in
+    degree-opening p whole c.element_laws.ensures.field c.low-low.ensures.opening k within in
     let fits : to_z w16 (of_z w16 c.low-low.result) ≡ c.low-low.result = omega (arith, ints, c.low-low.type_inv) in
     let degree : to_z w16 (of_z w16 c.degree_at.result) ≡ i =
     omega (arith, ints, c.degree_at.ensures, end, fits, c.low-low.ensures.low, c.low-low.type_inv) in
