@@ -112,11 +112,11 @@ started p named made field opening all number next table none enough =
       within = omega (arith, next);
       room_is = omega (arith, table.room_is, count 0, ap (place_count complex) at);
       spare = omega (
-          arith,
-          enough,
-          live,
-          ap length none,
-          ap (λ (pivots : List Pivot). live_places (replay p complex pivots)) none,
+        arith,
+        enough,
+        live,
+        ap length none,
+        ap (λ (pivots : List Pivot). live_places (replay p complex pivots)) none,
       );
     }
 

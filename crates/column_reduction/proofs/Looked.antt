@@ -228,8 +228,8 @@ module _ (p : ℕ) (complex : Complex) (field : IsField p) (is : IsComplex p com
           let found_way = way-up_to (k + 1) m way-above made.later made.before in
           let other : found.degree ≢ last_degree complex.low history =
           λ same.
-              let equal : found.degree ≡ complex.low +ℤ pos k = same ∙ sym here in
-              omega (arith, ints, equal, made.degree_is, made.later) in
+          let equal : found.degree ≡ complex.low +ℤ pos k = same ∙ sym here in
+          omega (arith, ints, equal, made.degree_is, made.later) in
           record {
             degree_is = made.degree_is;
             next = next-found m 0 [] found.line found_way made.first;
@@ -243,11 +243,14 @@ module _ (p : ℕ) (complex : Complex) (field : IsField p) (is : IsComplex p com
               × (found.degree ≢ last_degree complex.low history → IfSome fresh (λ table. (found.degree ≢ last_degree complex.low history)
               × IsFreshTable more_rows more_columns table))
           tables None rows columns more_rows more_columns same_rows same_columns none some = (absurd none, λ other. tt)
-          tables (Some table) rows columns more_rows more_columns same_rows same_columns none some =
-              (tt,
-              λ other. (other,
+          tables (Some table) rows columns more_rows more_columns same_rows same_columns none some = (
+            tt,
+            λ other. (
+              other,
               subst (λ (rows : ℕ). IsFreshTable rows more_columns table) same_rows
-              (subst (λ (columns : ℕ). IsFreshTable rows columns table) same_columns some)))
+                  (subst (λ (columns : ℕ). IsFreshTable rows columns table) same_columns some),
+            ),
+          )
 
           parts : IfNone found.fresh (found.degree ≡ last_degree complex.low history)
               × (found.degree ≢ last_degree complex.low history → IfSome found.fresh (λ table. (found.degree ≢ last_degree complex.low history)

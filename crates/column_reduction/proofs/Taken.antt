@@ -196,14 +196,14 @@ module _ (p : ℕ) (complex : Complex) (field : IsField p) (held : ColumnReducti
           here = ap (λ (n : ℕ). complex.low +ℤ pos n) number ∙ sym (last_degree-push complex.low history (pivot_at i line.column line.row))
               ∙ ap (last_degree complex.low) (sym made);
           number = omega (
-              arith,
-              number,
-              number-within,
-              length-map after.alive.items (λ (degree : Vec Bool). degree.items),
-              length-map held.alive.items (λ (degree : Vec Bool). degree.items),
-              ap length alive,
-              length-set first (k + 1) (set (slice_index_or first (k + 1) []) line.row false),
-              length-set before k (set (slice_index_or before k []) line.column false),
+            arith,
+            number,
+            number-within,
+            length-map after.alive.items (λ (degree : Vec Bool). degree.items),
+            length-map held.alive.items (λ (degree : Vec Bool). degree.items),
+            ap length alive,
+            length-set first (k + 1) (set (slice_index_or first (k + 1) []) line.row false),
+            length-set before k (set (slice_index_or before k []) line.column false),
           );
           alive_is = alive
               ∙ ap (λ (alive : List (List Bool)). with_dead (k + 1) line.row (with_dead k line.column alive)) of.alive_is
@@ -217,12 +217,12 @@ module _ (p : ℕ) (complex : Complex) (field : IsField p) (held : ColumnReducti
           within = omega (arith, now.next.within, next, ap (λ (n : ℕ). place_count complex (complex.low +ℤ pos n)) number);
           room_is = omega (arith, now.room_is, room, ap (λ (n : ℕ). place_count complex (complex.low +ℤ pos n)) number);
           spare = omega (
-              arith,
-              of.spare,
-              half-less _ _ falls,
-              same_room,
-              ap length longer,
-              length-append history (pivot_of found ∷ []),
-              ap (λ (pivots : List Pivot). live_places (replay p complex pivots)) longer,
+            arith,
+            of.spare,
+            half-less _ _ falls,
+            same_room,
+            ap length longer,
+            length-append history (pivot_of found ∷ []),
+            ap (λ (pivots : List Pivot). live_places (replay p complex pivots)) longer,
           );
         }

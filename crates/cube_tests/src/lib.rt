@@ -23,8 +23,6 @@ mod polynomials;
 #[cfg(test)]
 mod reduced;
 #[cfg(test)]
-mod reductions_under_way;
-#[cfg(test)]
 mod shared_blocks;
 #[cfg(test)]
 mod sparse_complexes;

@@ -12,7 +12,7 @@ use Rattle.column_reduction.proofs.next_column.first_from.Goals as goal
 
 pub degrees-init : goal.degrees-init
 degrees-init g c =
-    record { same = refl; after = omega arith; none = λ k later within. absurd (omega (arith, later, within)); }
+    record { same = refl; after = omega arith; none = λ k later within. absurd (omega (arith, later, within)) }
 
 pub next_left-requires-clause-degree : goal.next_left-requires-clause-degree
 next_left-requires-clause-degree g c =

@@ -9,7 +9,7 @@ use Rattle.column_reduction.proofs.next_column.next_left.Goals as goal
 
 pub places-init : goal.places-init
 places-init g c =
-    record { same = refl; after = omega arith; none = λ column later within. absurd (omega (arith, later, within)); }
+    record { same = refl; after = omega arith; none = λ column later within. absurd (omega (arith, later, within)) }
 
 pub places-preserved : goal.places-preserved
 places-preserved g c =
