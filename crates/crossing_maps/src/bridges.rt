@@ -13,9 +13,9 @@ ghost use Rattle.crossing_maps.specs.ListedPlaces.{AreArcs, IsArcs, places_in};
 use crate::genus::{Lists, genera_in};
 use arrayvec::ArrayVec;
 use std::alloc::Global;
-use tangle_maps::{KnownSeam, POINTS};
 use tangle_maps::names::{Names, at};
 use tangle_maps::seam::{Arcs, Seam, least_names, named};
+use tangle_maps::{KnownSeam, POINTS};
 
 /// Numbers of the half strips that lower the Euler count.
 pub const STRIPS: usize = 2 * POINTS;

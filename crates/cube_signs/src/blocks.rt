@@ -156,7 +156,12 @@ impl Cube {
 
     /// The degrees of the block at a quantum degree, which is given with the lowest homological
     /// degree that there can be.
-    pub(crate) fn span(&self, alloc: Global, sizes: &[usize], lowest: Degrees) -> Result<Span, NoMemory>
+    pub(crate) fn span(
+        &self,
+        alloc: Global,
+        sizes: &[usize],
+        lowest: Degrees,
+    ) -> Result<Span, NoMemory>
         requires sizes { HaveSizes self.now lowest.j (2 ^ length self.now.crossings) sizes.now }
         requires lowest { lowest.i ≡ neg_ℤ (pos (length self.now.crossings)) }
         requires some { 0 < length (homological_degrees self.now lowest.j) }

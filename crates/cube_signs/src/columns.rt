@@ -36,7 +36,12 @@ pub fn put_entries(
 }
 
 /// Adds the entries along an edge.
-fn push_entries(column: &mut Vec<Entry>, ranks: &[u32], out: Out, label: u64) -> Result<(), NoMemory>
+fn push_entries(
+    column: &mut Vec<Entry>,
+    ranks: &[u32],
+    out: Out,
+    label: u64,
+) -> Result<(), NoMemory>
     requires out { IsSmallOut out }
     requires label { label < 2 ^ CIRCLES }
     requires ranks { All (λ rank. rank < PLACES) ranks.now }

@@ -13,6 +13,7 @@ mod tables;
 mod top;
 
 pub use kh_runs::Status;
+pub use laws::printed::printed_diagrams_are_read_back;
 pub use laws::{
     accepted_diagrams_are_answered_by_their_counts,
     accepted_diagrams_are_answered_by_their_drawing, accepted_diagrams_are_answered_by_their_edit,
@@ -24,5 +25,4 @@ pub use laws::{
     jones_line_is_the_euler_characteristic, logs_are_answered_by_their_table,
     numbers_are_answered_by_their_table, one_answer, workers_do_not_change_answers,
 };
-pub use laws::printed::printed_diagrams_are_read_back;
 pub use top::{run, run_alone, run_given};

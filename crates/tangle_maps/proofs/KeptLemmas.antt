@@ -5,7 +5,7 @@ use Rattle.std.proofs.lemmas.List.Elements.{All-nil, All-push, All-set}
 use Rattle.std.specs.Global.{Vec}
 use Rattle.std.specs.Prelude.{All}
 use Rattle.tangle_maps.specs.KeptSeams.{AreKeptSeams, HasSeamAt, IsKeptSeam, IsSeamAlong, IsSeamOf}
-use Rattle.tangle_maps.specs.Pairings.{joins_of, opened_points, paired_arcs}
+use Rattle.tangle_maps.specs.Pairings.{joins_of, opened_points}
 use Rattle.tangle_maps.specs.Seams.{IsSeam}
 use Rattle.tangle_maps.specs.Ways.{IsWay, joins_from, joins_over, joins_to, points_on}
 use Rattle.tangle_maps.specs.declared.kept.KeptSeam.{KeptSeam}

@@ -1,5 +1,5 @@
 -- What two dot sets compose to over a seam, and the seam of three pairings, as a program keeps them.
-use Rattle.std.specs.Prelude.{◌≡◌, ℕ, ◌<◌, List, [], All, length, slice_index_or}
+use Rattle.std.specs.Prelude.{ℕ, ◌<◌, List, [], All, length, slice_index_or}
 use Rattle.dotted_maps.specs.declared.term.Term.{Term}
 use Rattle.tangle_maps.specs.Seams.{seam_terms}
 use Rattle.tangle_maps.specs.Sums.{AreReduced, IsSum, dotted_term}

@@ -192,10 +192,7 @@ pub(crate) fn seam_of(alloc: Global, way: &Way<'_>) -> KnownSeam
     requires { IsWay way.now }
     ensures { IsSeamAlong way.now result }
 {
-    KnownSeam::new(
-        alloc,
-        Seam::new(way.from, way.over, way.to, way.opened),
-    )
+    KnownSeam::new(alloc, Seam::new(way.from, way.over, way.to, way.opened))
 }
 
 /// The composition of a way's maps, as a reduced sum.

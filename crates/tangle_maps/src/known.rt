@@ -90,13 +90,7 @@ impl KnownSeam {
         ensures reduced { AreReduced F.P terms.new.items }
     {
         let alloc = *self.products.made.allocator();
-        let place = place_of::<F>(
-            alloc,
-            &mut self.products,
-            &self.seam,
-            term.dots,
-            other.dots,
-        )?;
+        let place = place_of::<F>(alloc, &mut self.products, &self.seam, term.dots, other.dots)?;
         let known = self.products.made[place].terms.as_slice();
         add_scaled(terms, known, product(term, other, factor))
     }

@@ -465,25 +465,25 @@ module _ (p : ℕ) (front : Front) (start left : Rowed) (taken : Taken) (turn : 
 
     pub eliminated : (step : IsEliminating p code scan next_scan) × ((step.tail ≡ tail) × (step.head ≡ head))
     eliminated = (
-        record {
-          done = refl;
-          tail = tail;
-          head = head;
-          c = turn.pivot.number;
-          differ = differ;
-          has_tail = place-alive old tail is.pivot.is_there;
-          has_head = place-alive old head is.pivot.leads_there;
-          number = number-there;
-          listed = subst (λ (xs : List ℕ). AreListed (λ (x : ℕ). x) scan.numbers (tail ∷ head ∷ xs)) (sym numbers-next)
-              (others-listed scan.numbers (places-once old) tail head differ (place-alive old tail is.pivot.is_there)
-              (place-alive old head is.pivot.leads_there));
-          no_tail = λ has. no-tail scan.numbers tail head (subst (λ (xs : List ℕ). Contains xs tail) numbers-next has);
-          no_head = λ has. no-head scan.numbers tail head (subst (λ (xs : List ℕ). Contains xs head) numbers-next has);
-          object = λ x has. same-object x;
-          dots = dots-next;
-          terms = terms-next;
-        },
-        (refl, refl),
+      record {
+        done = refl;
+        tail = tail;
+        head = head;
+        c = turn.pivot.number;
+        differ = differ;
+        has_tail = place-alive old tail is.pivot.is_there;
+        has_head = place-alive old head is.pivot.leads_there;
+        number = number-there;
+        listed = subst (λ (xs : List ℕ). AreListed (λ (x : ℕ). x) scan.numbers (tail ∷ head ∷ xs)) (sym numbers-next)
+            (others-listed scan.numbers (places-once old) tail head differ (place-alive old tail is.pivot.is_there)
+            (place-alive old head is.pivot.leads_there));
+        no_tail = λ has. no-tail scan.numbers tail head (subst (λ (xs : List ℕ). Contains xs tail) numbers-next has);
+        no_head = λ has. no-head scan.numbers tail head (subst (λ (xs : List ℕ). Contains xs head) numbers-next has);
+        object = λ x has. same-object x;
+        dots = dots-next;
+        terms = terms-next;
+      },
+      (refl, refl),
     )
 
     pub rowed-after : IsRowed p front next_rowed

@@ -93,8 +93,22 @@ fn push_both<'a, F: PrimeField>(
         (origins_to links.now.adding.now (parent.now.place + 1)) made.new.items) }
     ensures bridges { OnOk result (AreBridgesOf links.now.adding.now bridges.new) }
 {
-    push_columns_of::<F>(made, links, &mut bridges.zero, &mut bridges.saddle, parent, 0)?;
-    push_columns_of::<F>(made, links, &mut bridges.one, &mut bridges.saddle, parent, 1)
+    push_columns_of::<F>(
+        made,
+        links,
+        &mut bridges.zero,
+        &mut bridges.saddle,
+        parent,
+        0,
+    )?;
+    push_columns_of::<F>(
+        made,
+        links,
+        &mut bridges.one,
+        &mut bridges.saddle,
+        parent,
+        1,
+    )
 }
 
 /// Adds the columns of the successors of an object that have a smoothing.

@@ -60,7 +60,13 @@ pub(crate) fn eliminate<F: PrimeField>(
     let taken = take_out(alloc, &mut rowed, pivot);
     let turn = turn_of(front, &rowed.complex.objects, pivot, &taken);
     let named = taken.named.as_slice();
-    clear_all::<F>(&mut rowed.complex.columns, &mut rowed.rows, &mut rowed.seams, &turn, named)?;
+    clear_all::<F>(
+        &mut rowed.complex.columns,
+        &mut rowed.rows,
+        &mut rowed.seams,
+        &turn,
+        named,
+    )?;
     Ok(rowed)
 }
 

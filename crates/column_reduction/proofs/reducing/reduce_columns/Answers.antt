@@ -114,12 +114,12 @@ degrees-preserved g c =
     record {
       same = c.in_ok-stored.ensures.same ∙ c.degrees.invariant.same;
       count = omega (
-          arith,
-          count_of c.note_pivots.new.made.pivots.items,
-          count_of c.degrees.made.pivots.items,
-          c.degrees.invariant.count,
-          ap length lists_after,
-          length-append lists (stored_pivots i stored ∷ []),
+        arith,
+        count_of c.note_pivots.new.made.pivots.items,
+        count_of c.degrees.made.pivots.items,
+        c.degrees.invariant.count,
+        ap length lists_after,
+        length-append lists (stored_pivots i stored ∷ []),
       );
       reduced = next-opening p whole c.element_laws.ensures.field c.low-low.ensures.opening k i places
           (lists_in c.note_pivots.new.made.alive.items) (from_greatest lists)
