@@ -1,14 +1,13 @@
 -- A reduction before its first column, and behind its last.
-use Rattle.std.proofs.Common.{◌≡◌, ℕ, ◌+◌, ◌/◌, ◌<◌, ◌≤◌, ◌^◌, ◌∙◌, inl, inr, List, [], ◌∷◌, ℤ, pos, ◌+ℤ◌, ◌*◌, ◌++◌, length, map, take, get_or, refl, ap, sym, subst, arith, Bool, true, vec_capacity}
+use Rattle.std.proofs.Common.{◌≡◌, ℕ, ◌+◌, ◌/◌, ◌<◌, ◌≤◌, ◌^◌, ◌∙◌, inl, inr, List, [], ◌∷◌, pos, ◌+ℤ◌, ◌*◌, length, map, take, get_or, ap, sym, subst, arith, Bool, true, vec_capacity}
 use Rattle.std.specs.Prelude.{slice_index_or, All}
 use Rattle.std.specs.List.{count_by, sum_by}
 use Rattle.std.specs.Global.{Vec}
-use Rattle.std.proofs.Math.ListN as plain
 use Rattle.std.proofs.lemmas.Bool.Decides.{leb_tells}
 use Rattle.std.proofs.lemmas.Int.{ints}
 use Rattle.std.proofs.lemmas.List.{get_or-map, get_or_default, get_or_past, length-map, take_more}
 use Rattle.std.proofs.lemmas.List.Sums.{count_by-le-length, sum_by-append, sum_by-cons}
-use Rattle.kh_types.specs.Complex.{Complex, Degree, IsComplex, Pivot, is_zero}
+use Rattle.kh_types.specs.Complex.{Complex, Degree, Pivot, is_zero}
 use Rattle.kh_types.specs.Generators.{Generator}
 use Rattle.kh_types.specs.History.{IsLegal, replay}
 use Rattle.prime_field.specs.Residues.{IsField}
@@ -19,7 +18,7 @@ use Rattle.sparse_block.proofs.BuildLemmas.{sizes-all_alive}
 use Rattle.sparse_block.proofs.DegreeLemmas.{length-at}
 use Rattle.sparse_block.proofs.HistoryLemmas.{complex-replay, low-replay}
 use Rattle.history_laws.specs.RankSums.{live_places}
-use Rattle.column_reduction.specs.StoredColumns.{AreStored, alive_in}
+use Rattle.column_reduction.specs.StoredColumns.{alive_in}
 use Rattle.column_reduction.specs.declared.under_way.ColumnReduction.{ColumnReduction}
 use Rattle.column_reduction.specs.UnderWay.{IsFreshTable, IsReductionOf, IsUnderWay}
 use Rattle.column_reduction.proofs.Onward.{under_way-first, under_way-legal}

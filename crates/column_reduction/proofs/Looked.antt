@@ -1,7 +1,7 @@
 -- What a look at a reduction under way comes to. Of the columns of the degree under way, from the next one on, the stored columns leave
 -- nothing, up to one of which they leave something; or they leave nothing of any, and the degree is done. Then the columns of the next
 -- degree, of which none is stored yet, either have no entry, or one has.
-use Rattle.std.proofs.Common.{◌≡◌, ◌≢◌, ℕ, zero, suc, ◌+◌, ◌<◌, ◌≤◌, ◌∙◌, inl, inr, List, [], ◌∷◌, ◌++◌, ℤ, pos, ◌+ℤ◌, ◌-ℤ◌, length, refl, ap, sym, subst, arith, Bool, true, false, Result, Ok, Err}
+use Rattle.std.proofs.Common.{◌≡◌, ◌≢◌, ℕ, zero, suc, ◌+◌, ◌<◌, ◌≤◌, ◌∙◌, inl, inr, List, [], ◌∷◌, ℤ, pos, ◌+ℤ◌, ◌-ℤ◌, length, refl, ap, sym, subst, arith, Bool, true, false, Result, Ok, Err}
 use Rattle.std.specs.Prelude.{slice_index_or, if◌then◌else◌, Option, Some, None, IfOk, IfSome, IfNone}
 use Rattle.std.proofs.lemmas.Bool.Decides.{eqb_tells}
 use Rattle.std.proofs.lemmas.Int.{ints}
@@ -12,13 +12,11 @@ use Rattle.prime_field.specs.Residues.{IsField}
 use Rattle.sparse_block.specs.Complexes.{place_count}
 use Rattle.sparse_block.specs.Entries.{Entry, AreEntries, value_at}
 use Rattle.sparse_block.proofs.HistoryLemmas.{degrees-replay, low-replay, places-replay}
-use Rattle.column_reduction.specs.Reductions.{IsLeftOf, column_numbers, is_place_alive}
+use Rattle.column_reduction.specs.Reductions.{IsLeftOf, column_numbers}
 use Rattle.column_reduction.specs.StoredColumns.{IsLiveColumn, IsReducedLine, StoredColumn, alive_in, last_place, reduced_columns, stored_column}
 use Rattle.column_reduction.specs.declared.stored_column.StoredColumns.{StoredColumns}
-use Rattle.column_reduction.specs.declared.under_way.ColumnReduction.{ColumnReduction}
 use Rattle.column_reduction.specs.declared.under_way.FoundColumn.{FoundColumn}
-use Rattle.sparse_block.specs.Inside.{lists_in}
-use Rattle.column_reduction.specs.UnderWay.{AllLeaveNone, IsFirstFrom, IsFirstLeft, IsFound, IsFreshTable, IsNext, IsReductionOf, IsUnderWay, LeaveNone, last_degree, live_numbers}
+use Rattle.column_reduction.specs.UnderWay.{AllLeaveNone, IsFirstFrom, IsFirstLeft, IsFound, IsFreshTable, IsNext, IsUnderWay, LeaveNone, last_degree, live_numbers}
 use Rattle.column_reduction.proofs.FirstReduced.{left-agree}
 use Rattle.column_reduction.proofs.Marks.{alive-number}
 use Rattle.column_reduction.proofs.Onward.{distance_to, entry-later, is-pivot, under_way-all, under_way-column, under_way-degree}

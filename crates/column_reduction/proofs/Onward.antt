@@ -1,28 +1,27 @@
 -- A column reduction under way: how it goes on. Nothing is left of a column, and the next one is at hand. A degree has no further column,
 -- and the next degree is. And a pivot is found: what the stored columns of a patch leave of its column, those of the block leave too, and
 -- of the columns between nothing is left.
-use Rattle.std.proofs.Common.{◌≡◌, ◌≢◌, ℕ, zero, suc, ◌+◌, ◌<◌, ◌≤◌, ◌∙◌, inl, inr, List, [], ◌∷◌, ◌++◌, ℤ, pos, ◌+ℤ◌, ◌<ℤ◌, length, refl, ap, ap₂, sym, subst, arith, Bool, true, false, true≢false, append-nil, append_assoc, ◌||◌}
-use Rattle.std.specs.Prelude.{slice_index_or, if◌then◌else◌, nat_eq}
+use Rattle.std.proofs.Common.{◌≡◌, ℕ, zero, suc, ◌+◌, ◌<◌, ◌≤◌, ◌∙◌, inl, inr, List, [], ◌∷◌, ◌++◌, ℤ, pos, ◌+ℤ◌, ◌<ℤ◌, length, refl, ap, sym, subst, arith, Bool, true, false, append-nil, append_assoc}
+use Rattle.std.specs.Prelude.{if◌then◌else◌, nat_eq}
 use Rattle.std.specs.List.{AllByRecursion}
 use Rattle.std.proofs.lemmas.Bool.{or_from}
 use Rattle.std.proofs.lemmas.Bool.Decides.{eqb_tells, leb_tells}
 use Rattle.std.proofs.lemmas.Int.{ints}
-use Rattle.std.proofs.lemmas.List.{length-append, map_push}
-use Rattle.kh_types.specs.Complex.{Complex, IsComplex, IsPivot, Pivot, cancel, entry_of, is_zero, pivot_at}
+use Rattle.std.proofs.lemmas.List.{map_push}
+use Rattle.kh_types.specs.Complex.{Complex, IsComplex, IsPivot, Pivot, entry_of, is_zero, pivot_at}
 use Rattle.kh_types.specs.History.{IsLegal, replay}
 use Rattle.kh_types.proofs.Lists.{AllByRecursion-append}
 use Rattle.prime_field.specs.Residues.{IsField}
 use Rattle.sparse_block.specs.Complexes.{place_count}
-use Rattle.sparse_block.specs.Entries.{Entry, AreEntries, value_at}
-use Rattle.column_reduction.specs.Reductions.{AreReduced, AreReducedColumns, ComeInOrder, EndsAt, IsLeftOf, IsReducedDegree, IsZeroLine, ReducedColumn, column_numbers, is_last_row, is_pivot_column, is_place_alive, pivots_of}
-use Rattle.column_reduction.specs.StoredColumns.{AreStored, IsFree, IsReducedTo, StoredColumn, alive_in, last_place, reduced_column, reduced_columns, stored_column, stored_pivots, with_pairs}
-use Rattle.column_reduction.specs.UnderWay.{IsNext, IsUnderWay, last_degree}
-use Rattle.column_reduction.proofs.Determined.{LeaveToo, further, leave-push}
+use Rattle.sparse_block.specs.Entries.{value_at}
+use Rattle.column_reduction.specs.Reductions.{AreReduced, ComeInOrder, EndsAt, IsLeftOf, IsReducedDegree, IsZeroLine, ReducedColumn, column_numbers, is_pivot_column, is_place_alive, pivots_of}
+use Rattle.column_reduction.specs.StoredColumns.{IsFree, StoredColumn, alive_in, last_place, reduced_column, reduced_columns, stored_column, stored_pivots, with_pairs}
+use Rattle.column_reduction.specs.UnderWay.{IsNext, IsUnderWay}
+use Rattle.column_reduction.proofs.Determined.{LeaveToo}
 use Rattle.column_reduction.proofs.Ends.{less-own, zero-reduced}
-use Rattle.sparse_block.proofs.HistoryLemmas.{complex-replay, legal-append, legal-push, places-replay, replay-append, replay-push}
-use Rattle.column_reduction.proofs.SameHistories.{last_degree-push, leave-same, parts-once, rows-same}
+use Rattle.sparse_block.proofs.HistoryLemmas.{complex-replay, legal-append, places-replay, replay-push}
+use Rattle.column_reduction.proofs.SameHistories.{leave-same, parts-once, rows-same}
 use Rattle.column_reduction.proofs.LastEntries.{ends-last_place}
-use Rattle.column_reduction.proofs.Lefts.{left-between}
 use Rattle.column_reduction.proofs.Others.{own-alive}
 use Rattle.column_reduction.proofs.ReducedTo.{reduced_to-all, reduced_to-first, reduced_to-same, reduced_to-step}
 use Rattle.column_reduction.proofs.Steps.{pivot-last, pivots-push, reduced-none, reduced-nothing, reduced-pivot}

@@ -1,30 +1,16 @@
 -- Two reductions of one matrix whose histories are the same: they have the same pivots in the degree under way, so what the stored
 -- columns of one leave of a line, those of the other leave too.
-use Rattle.std.proofs.Common.{◌≡◌, ◌≢◌, ℕ, zero, suc, ◌+◌, ◌<◌, ◌≤◌, ◌∙◌, inl, inr, List, [], ◌∷◌, ◌++◌, ℤ, pos, ◌+ℤ◌, ◌<ℤ◌, length, refl, ap, ap₂, sym, subst, arith, Bool, true, false, true≢false, append-nil, append_assoc, ◌||◌}
-use Rattle.std.specs.Prelude.{slice_index_or, if◌then◌else◌, nat_eq}
+use Rattle.std.proofs.Common.{◌≡◌, ◌≢◌, ℕ, ◌+◌, ◌<◌, List, [], ◌∷◌, ◌++◌, ℤ, ◌<ℤ◌, refl, ap, ap₂, sym, subst, arith, Bool, append-nil, append_assoc, ◌||◌}
+use Rattle.std.specs.Prelude.{nat_eq}
 use Rattle.std.specs.List.{AllByRecursion}
-use Rattle.std.proofs.lemmas.Bool.{or_from}
-use Rattle.std.proofs.lemmas.Bool.Decides.{eqb_tells, leb_tells}
 use Rattle.std.proofs.lemmas.Int.{ints}
-use Rattle.std.proofs.lemmas.List.{length-append, map_push}
-use Rattle.kh_types.specs.Complex.{Complex, IsComplex, IsPivot, Pivot, cancel, entry_of, is_zero, pivot_at}
-use Rattle.kh_types.specs.History.{IsLegal, replay}
-use Rattle.kh_types.proofs.Lists.{AllByRecursion-append}
+use Rattle.kh_types.specs.Complex.{Complex, Pivot, pivot_at}
 use Rattle.prime_field.specs.Residues.{IsField}
-use Rattle.sparse_block.specs.Complexes.{place_count}
-use Rattle.sparse_block.specs.Entries.{Entry, AreEntries, value_at}
-use Rattle.column_reduction.specs.Reductions.{AreReduced, AreReducedColumns, ComeInOrder, EndsAt, IsLeftOf, IsReducedDegree, IsZeroLine, ReducedColumn, column_numbers, is_last_row, is_pivot_column, is_place_alive, pivots_of}
-use Rattle.column_reduction.specs.StoredColumns.{AreStored, IsFree, IsReducedTo, StoredColumn, alive_in, last_place, reduced_column, reduced_columns, stored_column, stored_pivots, with_pairs}
-use Rattle.column_reduction.specs.UnderWay.{IsNext, IsUnderWay, last_degree}
+use Rattle.column_reduction.specs.Reductions.{AreReducedColumns, ComeInOrder, IsLeftOf, ReducedColumn, column_numbers, is_last_row, pivots_of}
+use Rattle.column_reduction.specs.StoredColumns.{StoredColumn, stored_pivots}
+use Rattle.column_reduction.specs.UnderWay.{last_degree}
 use Rattle.column_reduction.proofs.Determined.{LeaveToo, further, leave-push}
-use Rattle.column_reduction.proofs.Ends.{less-own, zero-reduced}
-use Rattle.sparse_block.proofs.HistoryLemmas.{complex-replay, legal-append, legal-push, places-replay, replay-append, replay-push}
-use Rattle.column_reduction.proofs.LastEntries.{ends-last_place}
 use Rattle.column_reduction.proofs.Lefts.{left-between}
-use Rattle.column_reduction.proofs.Others.{own-alive}
-use Rattle.column_reduction.proofs.ReducedTo.{reduced_to-all, reduced_to-first, reduced_to-same, reduced_to-step}
-use Rattle.column_reduction.proofs.Steps.{pivot-last, pivots-push, reduced-none, reduced-nothing, reduced-pivot}
-use Rattle.column_reduction.proofs.Stored.{stored-below}
 
 -- the last degree of a history
 pub last_degree-push : (none : ℤ) (history : List Pivot) (pivot : Pivot) → last_degree none (history ++ pivot ∷ []) ≡ pivot.degree

@@ -5,7 +5,7 @@ use Rattle.std.specs.Global.{Vec}
 use Rattle.std.proofs.lemmas.Bool.Decides.{leb_tells}
 use Rattle.std.proofs.lemmas.Int.{ints}
 use Rattle.std.proofs.lemmas.List.{get_or_past, length-append, length-map, length-set}
-use Rattle.kh_types.specs.Complex.{Complex, IsComplex, IsPivot, Pivot, pivot_at}
+use Rattle.kh_types.specs.Complex.{Complex, IsPivot, Pivot, pivot_at}
 use Rattle.kh_types.specs.History.{replay}
 use Rattle.prime_field.specs.Residues.{IsField}
 use Rattle.sparse_block.specs.Clearing.{with_dead}

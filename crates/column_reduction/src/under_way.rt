@@ -154,7 +154,8 @@ impl ColumnReduction {
         requires reduction { IsReductionOf F.P (S.whole source).complex self }
         requires zero { is_zero (replay F.P (S.whole source).complex self.history.items) ≡ true }
         ensures pivots { IfOk result (λ made. made.pivots ≡ self.history) }
-        ensures legal { IfOk result (λ made. IsLegal F.P (S.whole source).complex made.pivots.items) }
+        ensures legal { IfOk result (λ made.
+            IsLegal F.P (S.whole source).complex made.pivots.items) }
         ensures left { IfOk result (λ made.
             made.complex.complex ≡ replay F.P (S.whole source).complex made.pivots.items) }
         ensures names { IfOk result (λ made. made.complex.names ≡ (S.whole source).names) }

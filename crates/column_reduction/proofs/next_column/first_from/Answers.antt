@@ -1,6 +1,5 @@
-use Rattle.std.proofs.Common.{◌≡◌, ◌≤◌, ◌<◌, ◌^◌, ◌+◌, ◌∙◌, [], List, ℕ, ℤ, pos, ◌+ℤ◌, length, refl, ap, sym, subst, subst₂, arith, to_z, of_z, w16, Bool}
+use Rattle.std.proofs.Common.{◌≡◌, ◌<◌, ◌+◌, ◌∙◌, [], List, pos, ◌+ℤ◌, length, refl, ap, sym, subst, subst₂, arith, to_z, of_z, w16, Bool}
 use Rattle.std.specs.Prelude.{slice_index_or, IfNone, IfSome, Option}
-use Rattle.std.specs.Global.{Vec}
 use Rattle.std.proofs.lemmas.Int.{ints}
 use Rattle.sparse_block.specs.Complexes.{NamedComplex, place_count}
 use Rattle.sparse_block.specs.Inside.{lists_in}

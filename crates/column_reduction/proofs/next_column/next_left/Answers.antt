@@ -1,9 +1,8 @@
-use Rattle.std.proofs.Common.{◌≡◌, ◌≢◌, ◌≤◌, ◌∙◌, [], List, ℕ, pos, ◌+ℤ◌, length, refl, ap, sym, subst, arith, false, rules}
+use Rattle.std.proofs.Common.{◌≡◌, ◌≢◌, ◌∙◌, [], List, pos, ◌+ℤ◌, length, refl, ap, subst, arith, false, rules}
 use Rattle.std.specs.Prelude.{slice_index_or}
 use Rattle.sparse_block.specs.Complexes.{NamedComplex}
 use Rattle.sparse_block.specs.Entries.{Entry}
 use Rattle.column_reduction.specs.StoredColumns.{IsLiveColumn, last_place, stored_column}
-use Rattle.column_reduction.specs.UnderWay.{LeaveNone}
 use Rattle.column_reduction.proofs.Looked.{leave-fewer, left-first, left-nothing}
 use Rattle.column_reduction.proofs.next_column.next_left.Goals as goal
 

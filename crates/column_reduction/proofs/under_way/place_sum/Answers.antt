@@ -1,4 +1,4 @@
-use Rattle.std.proofs.Common.{◌≡◌, length, arith}
+use Rattle.std.proofs.Common.{arith}
 use Rattle.column_reduction.proofs.Ended.{sum-more}
 use Rattle.column_reduction.proofs.under_way.place_sum.Goals as goal
 

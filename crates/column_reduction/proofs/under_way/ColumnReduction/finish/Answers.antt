@@ -1,4 +1,4 @@
-use Rattle.std.proofs.Common.{◌≡◌, ◌∙◌, ◌+◌, ◌/◌, ◌≤◌, List, ℤ, map, length, vec_capacity, ap, sym, subst, arith, to_z, of_z, w16}
+use Rattle.std.proofs.Common.{◌≡◌, ◌∙◌, ◌+◌, ◌/◌, ◌≤◌, ℤ, map, length, vec_capacity, ap, sym, subst, arith, to_z, of_z, w16}
 use Rattle.std.proofs.lemmas.Int.{ints}
 use Rattle.kh_types.specs.Complex.{Complex}
 use Rattle.sparse_block.specs.Complexes.{NamedComplex, complex_from, no_columns}

@@ -1,4 +1,4 @@
-use Rattle.std.proofs.Common.{◌≡◌, ◌≢◌, ◌<◌, ◌≤◌, ◌+◌, ◌∙◌, [], List, ℕ, ℤ, pos, ◌+ℤ◌, map, length, refl, ap, sym, subst, subst₂, arith, to_z, of_z, w16, Bool, true}
+use Rattle.std.proofs.Common.{◌≡◌, ◌<◌, ◌+◌, ◌∙◌, [], List, pos, ◌+ℤ◌, map, length, refl, ap, sym, subst, subst₂, arith, to_z, of_z, w16, Bool, true}
 use Rattle.std.specs.Prelude.{slice_index_or, IfNone, IfOk, IfSome, Option}
 use Rattle.std.specs.Global.{Vec}
 use Rattle.std.proofs.lemmas.Int.{ints}
