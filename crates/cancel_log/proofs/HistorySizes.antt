@@ -25,7 +25,7 @@ use Rattle.circle_smoothing.specs.GeneratorCounts.{generator_count}
 use Rattle.circle_smoothing.proofs.GeneratorLemmas.{length-generators}
 use Rattle.square_laws.proofs.BlockComplexes.{IsComplex-block}
 use Rattle.cube_signs.specs.Blocks.{block_degrees, has_block}
-use Rattle.history_laws.specs.RankSums.{live_places}
+use Rattle.sparse_block.specs.Complexes.{live_places}
 use Rattle.history_laws.proofs.HistoryEnds.{length-half}
 use Rattle.shared_block.specs.AllBlocks.{AreBlocksOf, degrees_of_blocks}
 use Rattle.shared_block.specs.BlockHistories.{BlockHistory, HasLegalHistory}

@@ -92,10 +92,10 @@ module _ (p : ℕ) (reduced : List ReducedColumn) (field : IsField p) (columns :
         ]
 
 -- what the first columns leave of a line, the second leave too
-abbrev LeaveToo : ℕ → List ReducedColumn → List ReducedColumn → Type 0
+abbrev pub LeaveToo : ℕ → List ReducedColumn → List ReducedColumn → Type 0
 LeaveToo p first second = (whole left : ℕ → ℕ) → IsLeftOf p first whole left → IsLeftOf p second whole left
 
-leave-push : (p : ℕ) (first second : List ReducedColumn) (one two : ReducedColumn) → LeaveToo p first second
+pub leave-push : (p : ℕ) (first second : List ReducedColumn) (one two : ReducedColumn) → LeaveToo p first second
     → is_last_row two.row second ≡ false → IsLeftOf p first one.values two.values → LeaveToo p (first ++ one ∷ []) (second ++ two ∷ [])
 leave-push p first second one two too free between whole left is_left =
     let c = is_left.factor one.row in
@@ -142,12 +142,12 @@ ends-free (other ∷ first) lines line apart =
     ((parts.0, rest.0), or_from (nat_eq line.row other.row) (is_last_row line.row first) (turned other.row line.row differ) rest.1)
 
 -- such columns
-record Further (p : ℕ) (first : List ReducedColumn) (line : ReducedColumn) : Type 0 where
-  columns : AreReducedColumns p first
-  free : is_last_row line.row first ≡ false
-  own : IsReducedColumn p line
+pub record Further (p : ℕ) (first : List ReducedColumn) (line : ReducedColumn) : Type 0 where
+  pub columns : AreReducedColumns p first
+  pub free : is_last_row line.row first ≡ false
+  pub own : IsReducedColumn p line
 
-further : (p : ℕ) (first lines : List ReducedColumn) (line : ReducedColumn) → AreReducedColumns p (first ++ line ∷ lines)
+pub further : (p : ℕ) (first lines : List ReducedColumn) (line : ReducedColumn) → AreReducedColumns p (first ++ line ∷ lines)
     → Further p first line
 further p first lines line columns =
     let ends = ends-free first lines line columns.apart in

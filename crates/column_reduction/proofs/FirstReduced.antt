@@ -23,7 +23,7 @@ replayed : (p : ℕ) (before after : Complex) (i : ℤ) (count : ℕ) (reduced :
 replayed p before after i count reduced are = subst (AreReduced p before i count reduced) are.replayed are
 
 -- a line is left of each line with the same numbers
-left-agree : (p : ℕ) (reduced : List ReducedColumn) (first second left : ℕ → ℕ) → ((row : ℕ) → second row ≡ first row)
+pub left-agree : (p : ℕ) (reduced : List ReducedColumn) (first second left : ℕ → ℕ) → ((row : ℕ) → second row ≡ first row)
     → IsLeftOf p reduced first left → IsLeftOf p reduced second left
 left-agree p reduced first second left same is_left =
     record { factor = is_left.factor; sum = λ row. same-equal p (second row) (first row) (same row) ∙ is_left.sum row }

@@ -16,6 +16,11 @@ pub mod Storing
 pub mod FirstReduced
 pub mod Marks
 pub mod ReducedTo
+pub mod SameHistories
+pub mod Onward
+pub mod Taken
+pub mod Looked
+pub mod Ended
 pub mod ZeroLeft
 pub mod Openings
 pub mod WorkedInputs

@@ -99,6 +99,16 @@ module _ (p : ℕ) (named : NamedComplex) (field : IsField p) (opening : IsOpeni
       → IsReducedComplex p named.complex pivots (replay p named.complex pivots)
   all-opening k places pivots all = reduced_to-all p k complex places pivots (all ∙ sym count)
 
+-- degrees in memory that are as many as names, with as many places each
+module _ (names : List (List Generator)) (alive : List (Vec Bool)) (sizes : map length (lists_in alive) ≡ map length names) where
+  pub count-names : length alive ≡ length names
+  count-names =
+      sym (length-map alive (λ (degree : Vec Bool). degree.items)) ∙ sym (length-map (lists_in alive) length) ∙ ap length sizes
+      ∙ length-map names length
+
+  pub size-names : (k : ℕ) → length (slice_index_or (lists_in alive) k []) ≡ length (slice_index_or names k [])
+  size-names k = length-at (lists_in alive) names k sizes
+
 -- there are as many degrees in memory as names are given for
 pub length-opening : (names : List (List Generator)) (alive : List (Vec Bool)) → lists_in alive ≡ all_alive names
     → length alive ≡ length names

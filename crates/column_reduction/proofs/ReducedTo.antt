@@ -18,7 +18,7 @@ use Rattle.sparse_block.specs.Complexes.{place_count}
 use Rattle.sparse_block.proofs.CancelledDegrees.{Where, where_is}
 use Rattle.sparse_block.proofs.ComplexMatrices.{entry-stands}
 use Rattle.column_reduction.proofs.Chains.{greatest-longer, reduced-longer}
-use Rattle.column_reduction.proofs.Commuting.{come-first}
+use Rattle.column_reduction.proofs.Commuting.{ComeFirst, come-first}
 use Rattle.sparse_block.proofs.HistoryLemmas.{complex-replay, low-replay}
 use Rattle.column_reduction.specs.Reductions.{AreReduced, AreReducedUp, HaveNoEntryBelow, IsReducedComplex, IsReducedDegree, is_last_row, is_place_alive}
 use Rattle.column_reduction.specs.StoredColumns.{AreFirstReduced, HasColumns, IsReducedTo, StoredColumn, alive_in, reduced_columns, stored_pivots, with_pairs}
@@ -63,11 +63,12 @@ pub reduced_to-all : (p k : ℕ) (complex : Complex) (places : List (List Bool))
 reduced_to-all p k complex places pivots all reduced =
     record { degrees = reduced.degrees; count = reduced.count ∙ all; up = reduced.up; listed = reduced.listed }
 
--- one degree more
+-- one degree more, of which the stored columns are what reduction makes
 module _ (p k : ℕ) (complex : Complex) (i : ℤ) (places : List (List Bool)) (pivots : List Pivot) (stored : List StoredColumn)
     (field : IsField p) (is : IsComplex p complex) (so_far : IsReducedTo p complex k places pivots)
     (here : i ≡ complex.low +ℤ pos k)
-    (are : AreFirstReduced p complex i (slice_index_or places k []) (length (slice_index_or places k [])) stored) where
+    (step : IsReducedDegree p (replay p complex pivots) i (reduced_columns stored)
+    (replay p (replay p complex pivots) (stored_pivots i stored))) where
   abbrev now : Complex
   now = replay p complex pivots
 
@@ -79,25 +80,6 @@ module _ (p k : ℕ) (complex : Complex) (i : ℤ) (places : List (List Bool)) (
 
   low_now : now.low ≡ complex.low
   low_now = low-replay p complex pivots
-
-  alive_here : slice_index_or places k [] ≡ (degree_of now i).alive
-  alive_here =
-      let same : now.low +ℤ pos k ≡ i = omega (arith, ints, here, low_now) in
-      ap (λ (places : List (List Bool)). slice_index_or places k []) so_far.alive ∙ alive-number now k
-      ∙ ap (λ (j : ℤ). (degree_of now j).alive) same
-
-  has : HasColumns now complex i (slice_index_or places k [])
-  has =
-      record {
-        count = ap length (sym alive_here);
-        entries = λ row column.
-            so_far.above i (omega (arith, ints, here)) row column
-            ∙ ap (λ (alive : List Bool). if slice_index_or alive column false then entry_of complex i row column else 0)
-            (sym alive_here);
-      }
-
-  step : IsReducedDegree p now i (reduced_columns stored) after
-  step = subst (λ (n : ℕ). AreReduced p now i n (reduced_columns stored) after) (sym has.count) (are now is_now has)
 
   chosen : (b a : Bool) (x : ℕ) → (if b then 0 else (if a then x else 0)) ≡ (if (if b then false else a) then x else 0)
   chosen true a x = refl
@@ -135,11 +117,16 @@ module _ (p k : ℕ) (complex : Complex) (i : ℤ) (places : List (List Bool)) (
       subst (AllByRecursion (λ pivot. pivot.degree <ℤ i)) (sym so_far.listed)
       (less-degrees i complex.low so_far.degrees (omega (arith, ints, here, so_far.count)))
 
-  pub reduced_to-next : IsReducedTo p complex (k + 1) (with_pairs k places stored) (stored_pivots i stored ++ pivots)
-  reduced_to-next =
-      let both =
+  both : ComeFirst p complex (stored_pivots i stored) pivots
+  both =
       come-first p complex i (stored_pivots i stored) pivots field is smaller (own-degrees i i (reduced_columns stored) (omega (arith, ints))) so_far.legal
-      step.legal in
+      step.legal
+
+  pub reduced_to-same : replay p complex (stored_pivots i stored ++ pivots) ≡ replay p (replay p complex pivots) (stored_pivots i stored)
+  reduced_to-same = both.same
+
+  pub reduced_to-step : IsReducedTo p complex (k + 1) (with_pairs k places stored) (stored_pivots i stored ++ pivots)
+  reduced_to-step =
       let last : i ≡ complex.low +ℤ pos (length so_far.degrees) = omega (arith, ints, here, so_far.count) in
       let next : i +ℤ pos 1 ≡ complex.low +ℤ pos (k + 1) = omega (arith, ints, here) in
       record {
@@ -162,3 +149,34 @@ module _ (p k : ℕ) (complex : Complex) (i : ℤ) (places : List (List Bool)) (
             entry_of made j row column ≡ (if is_place_alive made j column then entry_of complex j row column else 0)) (sym both.same)
             (above_after j (omega (arith, ints, later, here)) row column);
       }
+
+-- so where its columns are those of the places alive
+module _ (p k : ℕ) (complex : Complex) (i : ℤ) (places : List (List Bool)) (pivots : List Pivot) (stored : List StoredColumn)
+    (field : IsField p) (is : IsComplex p complex) (so_far : IsReducedTo p complex k places pivots)
+    (here : i ≡ complex.low +ℤ pos k)
+    (are : AreFirstReduced p complex i (slice_index_or places k []) (length (slice_index_or places k [])) stored) where
+  abbrev left_now : Complex
+  left_now = replay p complex pivots
+
+  alive_here : slice_index_or places k [] ≡ (degree_of left_now i).alive
+  alive_here =
+      let low : left_now.low ≡ complex.low = low-replay p complex pivots in
+      let same : left_now.low +ℤ pos k ≡ i = omega (arith, ints, here, low) in
+      ap (λ (places : List (List Bool)). slice_index_or places k []) so_far.alive ∙ alive-number left_now k
+      ∙ ap (λ (j : ℤ). (degree_of left_now j).alive) same
+
+  has : HasColumns left_now complex i (slice_index_or places k [])
+  has =
+      record {
+        count = ap length (sym alive_here);
+        entries = λ row column.
+            so_far.above i (omega (arith, ints, here)) row column
+            ∙ ap (λ (alive : List Bool). if slice_index_or alive column false then entry_of complex i row column else 0)
+            (sym alive_here);
+      }
+
+  pub reduced_to-next : IsReducedTo p complex (k + 1) (with_pairs k places stored) (stored_pivots i stored ++ pivots)
+  reduced_to-next =
+      reduced_to-step p k complex i places pivots stored field is so_far here
+      (subst (λ (n : ℕ). AreReduced p left_now i n (reduced_columns stored) (replay p left_now (stored_pivots i stored))) (sym has.count)
+      (are left_now (complex-replay p complex pivots field is so_far.legal) has))

@@ -40,7 +40,7 @@ degrees-zeros (degree ∷ degrees) (suc k) row column zeros =
     (and_parts (are_zeros degree.matrix) (list_all (λ degree. are_zeros degree.matrix) degrees) zeros).1
 
 module _ (complex : Complex) (zeros : is_zero complex ≡ true) where
-  entry-from : (distance : ℤ) (row column : ℕ) → entry_in (degree_from complex distance).matrix row column ≡ 0
+  pub entry-from : (distance : ℤ) (row column : ℕ) → entry_in (degree_from complex distance).matrix row column ≡ 0
   entry-from (pos k) row column = degrees-zeros complex.degrees k row column zeros
   entry-from (negsuc k) row column = refl
 

@@ -1,3 +1,4 @@
 pub mod Reductions
 pub mod StoredColumns
 pub mod WorkedColumns
+pub mod UnderWay

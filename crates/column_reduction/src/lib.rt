@@ -2,10 +2,13 @@
 #![tactic(auto)]
 
 mod entries;
+mod next_column;
 mod reduced_column;
 mod reduced_degree;
 mod reducing;
 pub mod reduction_laws;
 mod stored_column;
+mod under_way;
 
 pub use reducing::{Reduced, reduce};
+pub use under_way::{ColumnReduction, FoundColumn};

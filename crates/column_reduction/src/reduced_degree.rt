@@ -42,7 +42,7 @@ pub(crate) fn reduce_degree<F: PrimeField, S: ColumnSource<F>>(
 }
 
 /// Puts the entries of a column in place of others, by its place; none where this is dead.
-fn put_live<F: PrimeField, S: ColumnSource<F>>(
+pub(crate) fn put_live<F: PrimeField, S: ColumnSource<F>>(
     source: &mut S,
     column: &mut Vec<Entry>,
     k: usize,

@@ -21,7 +21,7 @@ use crate::stored_column::StoredColumn;
 use kh_types::NoMemory;
 use prime_field::PrimeField;
 use prime_field::laws::element_laws;
-use sparse_block::{ColumnSource, Complex, Generator, Pivot};
+use sparse_block::{ColumnSource, Complex, Generator, OwnedSource, Pivot};
 use std::alloc::Global;
 
 /// What `reduce` makes of a complex: the complex that is left, and the pivots that leave it, the
@@ -34,7 +34,7 @@ pub struct Reduced<F: PrimeField> {
 
 /// Reduces the columns of a complex until it is zero. Pivots are listed from the greatest degree
 /// down, those of each degree in the order of their columns; no other list is one of a reduction.
-pub fn reduce<F: PrimeField, S: ColumnSource<F>>(
+pub fn reduce<F: PrimeField, S: OwnedSource<F>>(
     alloc: Global,
     source: S,
 ) -> Result<Reduced<F>, NoMemory>
@@ -114,7 +114,7 @@ fn all_pivots(alloc: Global, pivots: Vec<Vec<Pivot>>) -> Result<Vec<Pivot>, NoMe
 }
 
 /// Marks every place alive.
-fn all_alive(alloc: Global, names: &[Vec<Generator>]) -> Result<Vec<Vec<bool>>, NoMemory>
+pub(crate) fn all_alive(alloc: Global, names: &[Vec<Generator>]) -> Result<Vec<Vec<bool>>, NoMemory>
     ensures { IfOk result (λ made. lists_in made.items ≡ all_alive (lists_in names.now)) }
 {
     let mut made = Vec::with_capacity(alloc, names.len())?;
@@ -125,7 +125,7 @@ fn all_alive(alloc: Global, names: &[Vec<Generator>]) -> Result<Vec<Vec<bool>>, 
 }
 
 /// The degree of number `k` from the least one on.
-fn degree_at(low: i16, k: usize) -> i16
+pub(crate) fn degree_at(low: i16, k: usize) -> i16
     requires { (low +ℤ pos k) ≤ℤ pos 32767 }
     ensures { result ≡ low +ℤ pos k }
 {
@@ -133,7 +133,7 @@ fn degree_at(low: i16, k: usize) -> i16
 }
 
 /// Which places of degree number `k` are alive; none is past the last degree.
-fn alive_at(alive: &[Vec<bool>], k: usize) -> &[bool]
+pub(crate) fn alive_at(alive: &[Vec<bool>], k: usize) -> &[bool]
     ensures { result.now ≡ slice_index_or (lists_in alive.now) k [] }
 {
     match alive.get(k) {
@@ -170,7 +170,7 @@ fn note_pivots(
 }
 
 /// Marks a place of degree number `k` dead, where there is one.
-fn kill(alive: &mut [Vec<bool>], k: usize, place: u32)
+pub(crate) fn kill(alive: &mut [Vec<bool>], k: usize, place: u32)
     ensures { lists_in alive.new ≡ with_dead k place (lists_in alive.old) }
 {
     if k >= alive.len() || place as usize >= alive[k].len() {

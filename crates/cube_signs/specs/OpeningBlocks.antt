@@ -3,7 +3,10 @@ use Rattle.std.specs.Prelude.{◌≡◌, ℕ, ◌+◌, ◌*◌, ◌<◌, ℤ, po
 use Rattle.kh_types.specs.Code.{Code}
 use Rattle.kh_types.specs.Generators.{Generator, generators_at, states}
 use Rattle.kh_types.specs.History.{first_or_zero, homological_degrees}
+use Rattle.sparse_block.specs.Inside.{lists_in}
 use Rattle.sparse_block.specs.Opening.{IsOpening}
+use Rattle.cube_signs.specs.declared.around.Around.{Around}
+use Rattle.cube_signs.specs.declared.block_places.BlockPlaces.{BlockPlaces}
 use Rattle.cube_signs.specs.declared.limits.TheConstants.{PLACES}
 use Rattle.cube_signs.specs.declared.outs.Out.{Out}
 use Rattle.cube_signs.specs.Blocks.{named_block}
@@ -12,18 +15,21 @@ use Rattle.cube_signs.specs.ChosenParts.{all_places_to, chosen_to}
 use Rattle.cube_signs.specs.Columns.{AreFound}
 use Rattle.cube_signs.specs.Tables.{own_base}
 
--- what is held of the block at j: its least degree, its names, the places of the first generators of states, and the edges out of
--- a state that were found last
-pub record IsOpeningBlock (p : ℕ) (code : Code) (low j : ℤ) (names : List (List Generator)) (bases : List ℕ) (state : ℕ)
-    (outs : List Out) : Type 0 where
+-- what is held of the block at j: its least degree, its names, and the places of the first generators of states
+pub record AreBlockPlaces (p : ℕ) (code : Code) (j : ℤ) (places : BlockPlaces) : Type 0 where
   pub opening : IsOpening p (named_block p code j)
-  pub is_low : low ≡ first_or_zero (homological_degrees code j)
-  pub are_names : names ≡ map (λ i. generators_at code i j) (homological_degrees code j)
-  pub are_bases : bases ≡ map (own_base code j) (states code)
-  pub small : All (λ base. base < PLACES) bases
-  pub found : AreFound p code bases state outs
+  pub is_degree : places.least.j ≡ j
+  pub is_low : places.least.i ≡ first_or_zero (homological_degrees code j)
+  pub are_names : lists_in places.names.items ≡ map (λ i. generators_at code i j) (homological_degrees code j)
+  pub are_bases : places.bases.items ≡ map (own_base code j) (states code)
+  pub small : All (λ base. base < PLACES) places.bases.items
 
--- the same of the block over chosen generators; and how many generators before each are chosen
+-- these, with the edges out of a state that were found last
+pub record IsOpeningBlock (p : ℕ) (code : Code) (places : BlockPlaces) (around : Around) : Type 0 where
+  pub places_are : AreBlockPlaces p code places.least.j places
+  pub found : AreFound p code places.bases.items around.state around.outs.items
+
+-- the same of the block at j over chosen generators; and how many generators before each are chosen
 pub record IsChosenBlock (p : ℕ) (choice : Generator → Bool) (code : Code) (low j : ℤ) (names : List (List Generator))
     (before : List (List ℕ)) (bases : List ℕ) (state : ℕ) (outs : List Out) : Type 0 where
   pub opening : IsOpening p (chosen_block choice p code j)

@@ -11,7 +11,7 @@ use crate::names::Degrees;
 use kh_types::NoMemory;
 use prime_field::PrimeField;
 use prime_field::laws::element_laws;
-use sparse_block::{ColumnSource, Entry, Generator};
+use sparse_block::{ColumnSource, Entry, Generator, OwnedSource};
 use std::alloc::Global;
 use std::marker::{Model, PhantomData};
 
@@ -105,7 +105,9 @@ impl<'a, F: PrimeField> ColumnSource<F> for ChosenBlock<'a, F> {
         renumber(column, list_at(&self.chosen.before, k + 1));
         Ok(())
     }
+}
 
+impl<'a, F: PrimeField> OwnedSource<F> for ChosenBlock<'a, F> {
     fn into_names(self) -> Vec<Vec<Generator>> {
         self.chosen.names
     }

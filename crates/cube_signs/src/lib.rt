@@ -3,7 +3,9 @@
 #![tactic(auto)]
 
 mod around;
+mod block_places;
 mod blocks;
+mod borrowed_block;
 mod by_kind;
 mod chosen;
 mod chosen_opening;
@@ -23,7 +25,9 @@ mod shape;
 mod size;
 mod steps;
 
+pub use block_places::BlockPlaces;
 pub use blocks::block_columns;
+pub use borrowed_block::BorrowedBlock;
 pub use by_kind::kind_shapes;
 pub use chosen_opening::ChosenBlock;
 pub use cube::Cube;

@@ -3,15 +3,15 @@
 ghost use Rattle.std.specs.Prelude.{◌≡◌, IfOk};
 ghost use Rattle.std.specs.List.{Contains};
 ghost use Rattle.cube_signs.specs.Blocks.{block_degrees, named_block};
+ghost use Rattle.cube_signs.specs.OpeningBlocks.{AreBlockPlaces};
 
 use crate::around::Around;
+use crate::block_places::BlockPlaces;
 use crate::cube::Cube;
-use crate::names::Degrees;
-use crate::places::Places;
 use kh_types::NoMemory;
 use prime_field::PrimeField;
 use prime_field::laws::element_laws;
-use sparse_block::{ColumnSource, Entry, Generator};
+use sparse_block::{ColumnSource, Entry, Generator, OwnedSource};
 use std::alloc::Global;
 use std::marker::{Model, PhantomData};
 
@@ -20,27 +20,21 @@ use std::marker::{Model, PhantomData};
 #[derive(Drop)]
 pub struct OpeningBlock<'a, F: PrimeField> {
     cube: &'a Cube,
-    least: Degrees,
-    names: Vec<Vec<Generator>>,
-    // Where the generators of each state begin among those of their degrees.
-    bases: Vec<u32>,
+    places: BlockPlaces,
     around: Around,
     field: PhantomData<F>,
 }
 
 impl<'a, F: PrimeField> Model for OpeningBlock<'a, F> {
     ghost use Rattle.sparse_block.specs.Complexes.{NamedComplex};
-    ghost use Rattle.sparse_block.specs.Inside.{lists_in};
     ghost use Rattle.cube_signs.specs.Blocks.{named_block};
     ghost use Rattle.cube_signs.specs.OpeningBlocks.{IsOpeningBlock};
 
     ghost Value = { NamedComplex };
 
-    ghost view = { λ block. named_block F.P block.cube.now block.least.j };
+    ghost view = { λ block. named_block F.P block.cube.now block.places.least.j };
 
-    ghost invariant = { λ block. IsOpeningBlock F.P block.cube.now block.least.i block.least.j
-        (lists_in block.names.items) block.bases.items block.around.state
-        block.around.outs.items };
+    ghost invariant = { λ block. IsOpeningBlock F.P block.cube.now block.places block.around };
 }
 
 impl Cube {
@@ -53,20 +47,26 @@ impl Cube {
         requires { Contains (block_degrees self.now) j }
         ensures { IfOk result (λ made. made ≡ named_block F.P self.now j) }
     {
-        element_laws::<F>();
-        // (the number of crossings is small, and so is that of generators)
-        let _ = (self.crossing_count(), self.state_count());
-        let Places { bases, sizes } = self.places(alloc, j)?;
-        let span = self.span(alloc, &sizes, self.lowest(j))?;
-        let names = self.all_names(alloc, span.least, span.count)?;
-        Ok(OpeningBlock {
+        let places = self.block_places::<F>(alloc, j)?;
+        Ok(self.opening_at(alloc, places))
+    }
+
+    /// The same, of its places.
+    pub fn opening_at<F: PrimeField>(
+        &self,
+        alloc: Global,
+        places: BlockPlaces,
+    ) -> OpeningBlock<'_, F>
+        requires { (j : ℤ) × AreBlockPlaces F.P self.now j places }
+        ensures { (j : ℤ) → AreBlockPlaces F.P self.now j places
+            → result ≡ named_block F.P self.now j }
+    {
+        OpeningBlock {
             cube: self,
-            least: span.least,
-            names,
-            bases,
+            places,
             around: Around::nowhere(alloc),
             field: PhantomData,
-        })
+        }
     }
 }
 
@@ -74,11 +74,11 @@ impl<'a, F: PrimeField> ColumnSource<F> for OpeningBlock<'a, F> {
     ghost whole = { λ block. block };
 
     fn low(&self) -> i16 {
-        self.least.i
+        self.places.least.i
     }
 
     fn names(&self) -> &[Vec<Generator>] {
-        &self.names
+        &self.places.names
     }
 
     fn put_column(
@@ -87,15 +87,13 @@ impl<'a, F: PrimeField> ColumnSource<F> for OpeningBlock<'a, F> {
         k: usize,
         place: usize,
     ) -> Result<(), NoMemory> {
-        element_laws::<F>();
-        let cube = self.cube;
-        // (what a cube keeps)
-        let _ = cube.state_count();
-        let tail = self.names[k][place];
-        cube.put_column(column, F::P, &self.bases, &mut self.around, tail)
+        self.places
+            .put_column::<F>(self.cube, &mut self.around, column, k, place)
     }
+}
 
+impl<'a, F: PrimeField> OwnedSource<F> for OpeningBlock<'a, F> {
     fn into_names(self) -> Vec<Vec<Generator>> {
-        self.names
+        self.places.names
     }
 }

@@ -15,7 +15,7 @@ use Rattle.sparse_block.proofs.ComplexMatrices.{matrix-of_degree, entry-stands, 
 use Rattle.sparse_block.proofs.CancelledDegrees.{Where, where_is, degree-at_pivot, degree-after_pivot, degree-before_pivot, degree-elsewhere}
 use Rattle.sparse_block.proofs.CancelledMatrices.{pivot-at}
 use Rattle.history_laws.specs.RankSums.{rank_out, rank_into}
-use Rattle.history_laws.proofs.PlaceLemmas.{alive_count-at_pivot, alive_count-after_pivot, alive_count-others}
+use Rattle.sparse_block.proofs.PlaceLemmas.{alive_count-at_pivot, alive_count-after_pivot, alive_count-others}
 
 -- the pivot's matrix
 pub rank-at_pivot : (p : ℕ) (complex : Complex) (pivot : Pivot) → IsField p → IsComplex p complex → IsPivot complex pivot

@@ -5,7 +5,8 @@ use Rattle.kh_types.specs.Complex.{Complex, Pivot, IsComplex, alive_count, dimen
 use Rattle.kh_types.specs.History.{IsLegal, replay}
 use Rattle.prime_field.specs.Residues.{IsField}
 use Rattle.sparse_block.proofs.CancelledComplexes.{complex-cancel}
-use Rattle.history_laws.specs.RankSums.{rank_out, rank_into, rank_sum, live_places}
+use Rattle.sparse_block.specs.Complexes.{live_places}
+use Rattle.history_laws.specs.RankSums.{rank_out, rank_into, rank_sum}
 use Rattle.history_laws.proofs.ZeroLemmas.{rank_out-zero, dimension_of-zero}
 use Rattle.sparse_block.proofs.FindPivot.{find_pivot}
 use Rattle.history_laws.proofs.RankSumLemmas.{rank_sum-cancel, rank_sum-zero}

@@ -4,9 +4,11 @@ use Rattle.kh_types.specs.Complex.{Complex, Pivot, IsComplex, dimension_of, canc
 use Rattle.kh_types.specs.History.{IsLegal, replay}
 use Rattle.prime_field.specs.Residues.{IsField}
 use Rattle.sparse_block.proofs.CancelledComplexes.{complex-cancel}
-use Rattle.history_laws.specs.RankSums.{rank_sum, live_places}
+use Rattle.sparse_block.specs.Complexes.{live_places}
+use Rattle.history_laws.specs.RankSums.{rank_sum}
 use Rattle.history_laws.proofs.DegreeRanks.{LosesAlike, loses-cancel, dimension_of-loses}
-use Rattle.history_laws.proofs.RankSumLemmas.{rank_sum-cancel, live_places-cancel}
+use Rattle.sparse_block.proofs.LivePlaces.{live_places-cancel}
+use Rattle.history_laws.proofs.RankSumLemmas.{rank_sum-cancel}
 
 -- places alive and ranks lose alike
 loses-both : (p : ℕ) (first second third : Complex) (i : ℤ) → LosesAlike p first second i → LosesAlike p second third i

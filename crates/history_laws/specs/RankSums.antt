@@ -1,6 +1,6 @@
--- The ranks of the matrices of a complex, and its places alive.
+-- The ranks of the matrices of a complex.
 use Rattle.std.specs.Prelude.{ℕ, ℤ, pos, ◌-ℤ◌}
-use Rattle.std.specs.List.{count_by, sum_by}
+use Rattle.std.specs.List.{sum_by}
 use Rattle.kh_types.specs.Rank.{rank}
 use Rattle.kh_types.specs.Complex.{Complex, degree_of}
 
@@ -15,7 +15,3 @@ rank_into p complex i = rank_out p complex (i -ℤ pos 1)
 -- the ranks of all matrices together
 abbrev pub rank_sum : ℕ → Complex → ℕ
 rank_sum p complex = sum_by (λ degree. rank p degree.matrix) complex.degrees
-
--- the places alive of all degrees together
-abbrev pub live_places : Complex → ℕ
-live_places complex = sum_by (λ degree. count_by (λ is_alive. is_alive) degree.alive) complex.degrees

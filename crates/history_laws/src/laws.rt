@@ -8,7 +8,8 @@ ghost use Rattle.kh_types.specs.Complex.{degree_of, dimension_of, is_zero};
 ghost use Rattle.kh_types.specs.History.{IsLegal, replay};
 ghost use Rattle.prime_field.specs.Residues.{IsField};
 ghost use Rattle.history_laws.specs.OverFour.{over_four, pivot_two};
-ghost use Rattle.history_laws.specs.RankSums.{live_places, rank_into, rank_out, rank_sum};
+ghost use Rattle.sparse_block.specs.Complexes.{live_places};
+ghost use Rattle.history_laws.specs.RankSums.{rank_into, rank_out, rank_sum};
 
 /// A cancellation takes one from the rank of the pivot's matrix and keeps all others, and so it
 /// keeps the homology dimensions.

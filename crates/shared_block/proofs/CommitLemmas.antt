@@ -19,9 +19,9 @@ use Rattle.sparse_block.specs.Entries.{Entry, entries_of}
 use Rattle.sparse_block.proofs.EntryLemmas.{value_at-entries_of}
 use Rattle.cancel_step.specs.Copies.{Copied, copied, line_across}
 use Rattle.cancel_step.specs.Foreign.{IsForeign, IsOtherColumn, IsOtherRowAt, ShowsAt, ShowsIn}
-use Rattle.history_laws.specs.RankSums.{live_places}
+use Rattle.sparse_block.specs.Complexes.{live_places}
 use Rattle.sparse_block.proofs.HistoryLemmas.{complex-replay, legal-push, replay-push}
-use Rattle.history_laws.proofs.RankSumLemmas.{live_places-cancel}
+use Rattle.sparse_block.proofs.LivePlaces.{live_places-cancel}
 use Rattle.shared_block.specs.BlockHistories.{BlockCopy, BlockHistory, HasLegalHistory, IsCopyOf, IsKeptBlock, block_with, complex_of}
 use Rattle.shared_block.specs.Commits.{with_pivot}
 

@@ -5,7 +5,7 @@ use Rattle.std.proofs.lemmas.List.{take_more}
 use Rattle.std.proofs.lemmas.List.Sums.{sum_by-append, sum_by-cons}
 use Rattle.kh_types.specs.Complex.{Complex, Degree, alive_count, empty_degree}
 use Rattle.kh_types.proofs.ComplexLemmas.{degree_of-number}
-use Rattle.history_laws.specs.RankSums.{live_places}
+use Rattle.sparse_block.specs.Complexes.{live_places}
 
 -- the places alive of the first degrees together, from the least on
 abbrev pub live_places_to : Complex → ℕ → ℕ

@@ -5,7 +5,7 @@ use Rattle.kh_types.specs.Code.{Code}
 use Rattle.kh_types.specs.Complex.{Complex, IsPivot, Pivot}
 use Rattle.kh_types.specs.History.{IsLegal, block, replay}
 use Rattle.cancel_step.specs.Copies.{Copied, copied}
-use Rattle.history_laws.specs.RankSums.{live_places}
+use Rattle.sparse_block.specs.Complexes.{live_places}
 
 -- a diagram, a quantum degree, and the pivots that were cancelled in its block there, the first at place 0
 pub record BlockHistory : Type 0 where

@@ -1,3 +1,4 @@
 pub mod BlockHistories
 pub mod Commits
 pub mod AllBlocks
+pub mod ColumnBlocks

@@ -5,7 +5,7 @@ ghost use Rattle.std.specs.List.{Contains};
 ghost use Rattle.circle_smoothing.specs.GeneratorCounts.{generator_count};
 ghost use Rattle.circle_smoothing.specs.declared.limits.TheConstants.{GENERATORS};
 ghost use Rattle.cube_signs.specs.Blocks.{block_degrees};
-ghost use Rattle.history_laws.specs.RankSums.{live_places};
+ghost use Rattle.sparse_block.specs.Complexes.{live_places};
 ghost use Rattle.shared_block.specs.AllBlocks.{IsFinished};
 ghost use Rattle.shared_block.specs.BlockHistories.{block_with};
 

@@ -5,7 +5,7 @@ ghost use Rattle.kh_types.specs.Acceptance.{accepted};
 ghost use Rattle.kh_types.specs.Complex.{is_zero};
 ghost use Rattle.kh_types.specs.Table.{dimension};
 ghost use Rattle.cancel_step.specs.Foreign.{IsForeign};
-ghost use Rattle.history_laws.specs.RankSums.{live_places};
+ghost use Rattle.sparse_block.specs.Complexes.{live_places};
 ghost use Rattle.shared_block.specs.BlockHistories.{HasLegalHistory, IsCopyOf, complex_of};
 ghost use Rattle.shared_block.specs.Commits.{Answers, IsForeignAnswer, IsOld, IsStale};
 ghost use Rattle.shared_block.specs.Commits.{with_pivot};

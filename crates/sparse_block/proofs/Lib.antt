@@ -32,5 +32,8 @@ pub mod PairLemmas
 pub mod AgreeLemmas
 pub mod CancelledNumbers
 pub mod HistoryLemmas
+pub mod ListSums
+pub mod PlaceLemmas
+pub mod LivePlaces
 pub mod ComesLemmas
 pub mod FindPivot

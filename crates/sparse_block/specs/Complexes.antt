@@ -1,6 +1,6 @@
 -- Complexes whose places have names, and what lists of entries for columns denote.
 use Rattle.std.specs.Prelude.{◌≡◌, ℕ, ◌+◌, ◌<◌, ◌^◌, ℤ, pos, negsuc, ◌+ℤ◌, ◌-ℤ◌, ◌≤ℤ◌, List, [], length, map, Bool, true, slice_index, slice_index_or, All}
-use Rattle.std.specs.List.{range_with_len}
+use Rattle.std.specs.List.{count_by, range_with_len, sum_by}
 use Rattle.kh_types.specs.Complex.{Complex, Degree, degree_of, product_entry}
 use Rattle.kh_types.specs.Generators.{Generator, generator_of}
 use Rattle.sparse_block.specs.Entries.{Entry, value_at, AreEntries}
@@ -17,6 +17,10 @@ high_of complex = complex.low +ℤ pos (length complex.degrees) -ℤ pos 1
 -- how many places degree i has, alive and dead
 abbrev pub place_count : Complex → ℤ → ℕ
 place_count complex i = length (degree_of complex i).alive
+
+-- the places alive of all degrees together
+abbrev pub live_places : Complex → ℕ
+live_places complex = sum_by (λ degree. count_by (λ is_alive. is_alive) degree.alive) complex.degrees
 
 -- a column of a matrix: its entry of each row
 abbrev pub column_in : List (List ℕ) → ℕ → List ℕ

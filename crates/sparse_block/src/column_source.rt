@@ -36,8 +36,11 @@ pub trait ColumnSource<F: PrimeField>: Drop {
         ensures same { whole self.new ≡ whole self.old }
         ensures column { OnOk result (IsColumnOf F.P (whole self.old).complex
             ((whole self.old).complex.low +ℤ pos k) place column.new.items) };
+}
 
+/// A source that has the names of its places for itself.
+pub trait OwnedSource<F: PrimeField>: ColumnSource<F> {
     /// The names alone.
     fn into_names(self) -> Vec<Vec<Generator>>
-        ensures { lists_in result.items ≡ (whole self).names };
+        ensures { lists_in result.items ≡ (Self.whole self).names };
 }

@@ -21,7 +21,7 @@ mod reading;
 pub use building::build;
 pub use change::{Change, Line};
 pub use column_complex::{ColumnComplex, ColumnParts};
-pub use column_source::ColumnSource;
+pub use column_source::{ColumnSource, OwnedSource};
 pub use complex::Complex;
 pub use entry::{Entry, INLINE_ENTRIES, MOST_PLACES, MOST_VALUES};
 pub use generator::Generator;

@@ -1,7 +1,8 @@
 //! The blocks of a diagram, cancelled to zero by the caller one after another, or by workers that
-//! share them: then all blocks are whole in memory together, and the largest are begun first.
+//! share them: then all blocks are open together, and the largest are begun first.
 
 ghost use Rattle.std.specs.Prelude.{◌≡◌, ◌≤◌, All, IfOk, OnOk};
+ghost use Rattle.std.specs.Arc.{arc_value};
 ghost use Rattle.kh_types.specs.declared.limits.TheConstants.{WORKERS};
 ghost use Rattle.worker_pool.specs.Outcomes.{AreBlocksAt, AreDegreesOf, AreDone};
 ghost use Rattle.worker_pool.specs.Slots.{AreDoneSlots};
@@ -20,7 +21,7 @@ use cube_signs::Cube;
 use kh_types::NoMemory;
 use prime_field::PrimeField;
 use std::alloc::Global;
-use std::sync::Wait;
+use std::sync::{Arc, Wait};
 use std::thread::Threads;
 
 /// The blocks at some quantum degrees, cancelled to zero by the caller alone, one after another.
@@ -50,13 +51,13 @@ pub(crate) fn finished_by_workers<
     G: Gate + Sync,
 >(
     crew: &Crew<R, G>,
-    cube: &Cube,
+    cube: &Arc<Cube>,
     degrees: &[i16],
     counted: &CountedDiagram,
 ) -> Result<Finished<F>, NoMemory>
-    requires degrees { AreDegreesOf cube.now degrees.now }
+    requires degrees { AreDegreesOf (arc_value cube.now) degrees.now }
     requires workers { crew.now.workers ≤ WORKERS }
-    ensures blocks { IfOk result (λ done. AreBlocksAt cube.now degrees.now done.blocks.items) }
+    ensures blocks { IfOk result (λ done. AreBlocksAt (arc_value cube.now) degrees.now done.blocks.items) }
     ensures done { IfOk result (AreDone F.P) }
 {
     let alloc = crew.alloc;
@@ -110,19 +111,19 @@ fn push_degree(
     Ok(())
 }
 
-/// Builds the blocks at some places of the quantum degrees, has workers cancel them, finishes each,
-/// and puts it into the slot at its place.
+/// Opens the blocks at some places of the quantum degrees, has workers reduce their columns,
+/// finishes each, and puts it into the slot at its place.
 fn put_all<R: Threads + Wait + Sync, F: PrimeField + Send + Sync, G: Gate + Sync>(
     crew: &Crew<R, G>,
     slots: &mut DoneSlots<F>,
-    cube: &Cube,
+    cube: &Arc<Cube>,
     degrees: &[i16],
     places: &[usize],
 ) -> Result<(), NoMemory>
-    requires degrees { AreDegreesOf cube.now degrees.now }
+    requires degrees { AreDegreesOf (arc_value cube.now) degrees.now }
     requires workers { crew.now.workers ≤ WORKERS }
-    requires slots { AreDoneSlots F.P cube.now degrees.now slots.old.items }
-    ensures { OnOk result (AreDoneSlots F.P cube.now degrees.now slots.new.items) }
+    requires slots { AreDoneSlots F.P (arc_value cube.now) degrees.now slots.old.items }
+    ensures { OnOk result (AreDoneSlots F.P (arc_value cube.now) degrees.now slots.new.items) }
 {
     let (alloc, workers) = (crew.alloc, crew.workers as usize);
     let chosen = degrees_at(alloc, cube, degrees, places)?;

@@ -22,7 +22,7 @@ use prime_field::PrimeField;
 use shared_block::laws::block_laws;
 use shared_block::{SharedBlock, table_of};
 use std::alloc::Global;
-use std::sync::Wait;
+use std::sync::{Arc, Wait};
 use std::thread::Threads;
 
 /// Cancels all blocks of a diagram to zero, one after another on the caller's thread. This
@@ -97,7 +97,7 @@ pub fn cancel_small<R: Threads + Wait + Sync, F: PrimeField + Send + Sync, G: Ga
         return cancel_small_alone(alloc, small);
     }
     let counted = small.counted();
-    let cube = Cube::new(alloc, counted.diagram())?;
+    let cube = Arc::new(alloc, Cube::new(alloc, counted.diagram())?)?;
     let degrees = counted_degrees(alloc, counted)?;
     let crew = Crew {
         rt,

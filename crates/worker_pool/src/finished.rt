@@ -7,8 +7,9 @@ ghost use Rattle.worker_pool.specs.Outcomes.{AreDegreesOf, AreDone, IsDone, orig
 use cube_signs::Cube;
 use kh_types::NoMemory;
 use prime_field::PrimeField;
-use shared_block::SharedBlock;
+use shared_block::{ColumnBlock, SharedBlock};
 use std::alloc::Global;
+use version_lock::Held;
 
 /// A block that is cancelled to zero.
 #[derive(Drop)]
@@ -22,15 +23,14 @@ pub(crate) struct DoneBlock<F: PrimeField> {
 /// Cancels what is left of a block, to which workers committed what its history has.
 pub(crate) fn finished_one<F: PrimeField>(
     alloc: Global,
-    block: SharedBlock<F>,
+    block: ColumnBlock<F>,
 ) -> Result<DoneBlock<F>, NoMemory>
     ensures origin { IfOk result (λ one. origin_of one.block ≡ origin_of block) }
     ensures done { IfOk result (IsDone F.P) }
     ensures count { IfOk result (λ one. one.committed ≡ length block.history) }
 {
-    let mut block = block;
-    let committed = block.version();
-    block.finish(alloc)?;
+    let committed = Held::version(&block);
+    let block = block.finish(alloc)?;
     Ok(DoneBlock { block, committed })
 }
 

@@ -6,10 +6,10 @@ ghost use Rattle.worker_pool.specs.Rows.{IsRowOf};
 
 use crate::crew::Crew;
 use crate::gate::Gate;
-use crate::turns::work;
+use crate::turns::take_turns;
 use kh_types::NoMemory;
 use prime_field::PrimeField;
-use shared_block::SharedBlock;
+use shared_block::ColumnBlock;
 use std::alloc::Global;
 use std::sync::Wait;
 use std::sync::atomic::{AtomicBool, AtomicU64, Ordering};
@@ -63,9 +63,9 @@ impl Course {
 /// Has each row worked at by a thread of its own.
 pub(crate) fn work_rows<R: Threads + Wait + Sync, F: PrimeField + Send + Sync, G: Gate + Sync>(
     crew: &Crew<R, G>,
-    locks: &[Versioned<SharedBlock<F>>],
+    locks: &[Versioned<ColumnBlock<F>>],
     course: &Course,
-    rows: &mut [Vec<WorkSeat<SharedBlock<F>>>],
+    rows: &mut [Vec<WorkSeat<ColumnBlock<F>>>],
 )
     requires few { length rows.old < 2 ^ 32 }
     requires rows { All (λ row. IsRowOf locks.now row.items) rows.old }
@@ -79,7 +79,7 @@ pub(crate) fn work_rows<R: Threads + Wait + Sync, F: PrimeField + Send + Sync, G
         crew.rt,
         rows,
         threads,
-        &|place: usize, row: &mut Vec<WorkSeat<SharedBlock<F>>>|
+        &|place: usize, row: &mut Vec<WorkSeat<ColumnBlock<F>>>|
             requires { (place + 1 < 2 ^ 32) × IsRowOf locks.now row.now.items }
             ensures { IsRowOf locks.entry.now row.exit.now.items }
         {
@@ -92,9 +92,9 @@ pub(crate) fn work_rows<R: Threads + Wait + Sync, F: PrimeField + Send + Sync, G
 /// What one worker does. It stops where memory runs out.
 fn work_row<R: Wait, F: PrimeField + Send, G: Gate>(
     crew: &Crew<R, G>,
-    locks: &[Versioned<SharedBlock<F>>],
+    locks: &[Versioned<ColumnBlock<F>>],
     course: &Course,
-    seats: &mut [WorkSeat<SharedBlock<F>>],
+    seats: &mut [WorkSeat<ColumnBlock<F>>],
     worker: u32,
 )
     requires { IsRowOf locks.now seats.old }
@@ -128,8 +128,8 @@ pub(crate) fn next_number(begun: &AtomicU64) -> Option<usize> {
 /// Works at one block until it is zero: whether there was memory enough.
 fn work_at<R: Wait, F: PrimeField + Send, G: Gate>(
     crew: &Crew<R, G>,
-    locks: &[Versioned<SharedBlock<F>>],
-    seats: &mut [WorkSeat<SharedBlock<F>>],
+    locks: &[Versioned<ColumnBlock<F>>],
+    seats: &mut [WorkSeat<ColumnBlock<F>>],
     place: usize,
     worker: u32,
 ) -> bool
@@ -139,7 +139,7 @@ fn work_at<R: Wait, F: PrimeField + Send, G: Gate>(
     if place >= locks.len() || place >= seats.len() {
         return true;
     }
-    work(
+    take_turns(
         crew.rt,
         crew.alloc,
         &locks[place],

@@ -1,5 +1,5 @@
-use Rattle.history_laws.proofs.PlaceLemmas.{alive_count-at_pivot, alive_count-after_pivot, alive_count-others}
-use Rattle.history_laws.proofs.RankSumLemmas.{live_places-cancel}
+use Rattle.sparse_block.proofs.PlaceLemmas.{alive_count-at_pivot, alive_count-after_pivot, alive_count-others}
+use Rattle.sparse_block.proofs.LivePlaces.{live_places-cancel}
 use Rattle.history_laws.proofs.laws.cancellations_kill_two_places.Goals as goal
 
 pub returns-clause-column : goal.returns-clause-column

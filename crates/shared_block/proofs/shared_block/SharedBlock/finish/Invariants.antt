@@ -1,6 +1,6 @@
 use Rattle.std.proofs.Common.{◌≡◌}
 use mathlib.Core.List.{IsPrefix}
-use Rattle.history_laws.specs.RankSums.{live_places}
+use Rattle.sparse_block.specs.Complexes.{live_places}
 use Rattle.shared_block.specs.BlockHistories.{complex_of}
 use Rattle.shared_block.proofs.shared_block.SharedBlock.finish.Given as goal
 

@@ -2,7 +2,7 @@ use Rattle.std.proofs.Common.{◌∙◌, ap}
 use Rattle.sparse_block.specs.Complexes.{NamedComplex}
 use Rattle.cube_signs.specs.Chosen.{has_minus}
 use Rattle.cube_signs.proofs.BlockSources.{names-chosen}
-use Rattle.cube_signs.proofs.chosen_opening.ChosenBlockColumnSource.into_names.Goals as goal
+use Rattle.cube_signs.proofs.chosen_opening.ChosenBlockOwnedSource.into_names.Goals as goal
 
 pub returns : goal.returns
 returns g c =

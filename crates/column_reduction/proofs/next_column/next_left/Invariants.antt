@@ -1,0 +1,13 @@
+use Rattle.std.proofs.Common.{◌≡◌, ◌≤◌, pos, ◌+ℤ◌}
+use Rattle.column_reduction.specs.UnderWay.{LeaveNone}
+use Rattle.column_reduction.proofs.next_column.next_left.Given as goal
+
+-- of the columns so far nothing is left
+abbrev pub invariant-places : goal.invariant-places
+invariant-places g l =
+    record {
+      same : g.S.ColumnSource.whole l.source ≡ g.S.ColumnSource.whole l.fn.source;
+      after : l.from ≤ l.place;
+      none : LeaveNone g.F.PrimeField.P (g.S.ColumnSource.whole l.fn.source).complex
+          ((g.S.ColumnSource.whole l.fn.source).complex.low +ℤ pos l.k) l.alive l.stored.columns.items l.from l.place;
+    }
