@@ -6,7 +6,7 @@ ghost use Rattle.sparse_block.specs.Complexes.{HaveEntries, MakeComplex, Squares
 ghost use Rattle.sparse_block.specs.Inside.{lines_in, lists_in};
 
 use crate::building::build;
-use crate::{ColumnSource, Complex, Entry, Generator, INLINE_ENTRIES};
+use crate::{ColumnSource, Complex, Entry, Generator, INLINE_ENTRIES, OwnedSource};
 use kh_types::NoMemory;
 use prime_field::PrimeField;
 use prime_field::laws::element_laws;
@@ -123,7 +123,9 @@ impl<F: PrimeField> ColumnSource<F> for ColumnComplex<F> {
         column.extend_from_slice(self.columns[k][place].as_slice())?;
         Ok(())
     }
+}
 
+impl<F: PrimeField> OwnedSource<F> for ColumnComplex<F> {
     fn into_names(self) -> Vec<Vec<Generator>> {
         self.names
     }
