@@ -122,17 +122,20 @@ module _ (p : ℕ) (complex : Complex) (field : IsField p) (held : ColumnReducti
   pub kept_pivot : pivot_of found ≡ pivot_at (complex.low +ℤ pos found.number) found.line.column found.line.row
   kept_pivot = ap (λ (i : ℤ). pivot_at i line.column line.row) is_found.degree_is
 
-  falls : live_places (replay p complex (held.history.items ++ pivot_of found ∷ [])) + 2 ≡ live_places (replay p complex held.history.items)
-  falls =
+  -- and is an entry other than 0 of what the history leaves
+  pub is_pivot-found : IsPivot (replay p complex held.history.items) (pivot_of found)
+  is_pivot-found =
       let next = is_found.next in
-      let pivot : IsPivot (replay p complex history) (pivot_of found) =
       subst (IsPivot (replay p complex history)) (sym kept_pivot)
       (subst (λ (row : ℕ). IsPivot (replay p complex history) (pivot_at i line.column row)) (sym next.row_is)
-      (is-pivot p complex field of.is k line.column next.stored history next.under_way line next)) in
+      (is-pivot p complex field of.is k line.column next.stored history next.under_way line next))
+
+  falls : live_places (replay p complex (held.history.items ++ pivot_of found ∷ [])) + 2 ≡ live_places (replay p complex held.history.items)
+  falls =
       ap (λ (made : Complex). live_places made + 2) (replay-push p complex history (pivot_of found))
       ∙ live_places-cancel p (replay p complex history) (pivot_of found)
       (complex-replay p complex history field of.is
-      (under_way-legal p complex field of.is held.number held.next held.stored.columns.items history of.way)) pivot
+      (under_way-legal p complex field of.is held.number held.next held.stored.columns.items history of.way)) is_pivot-found
 
   pub room-history : length held.history.items < vec_capacity held.history
   room-history = omega (arith, of.spare, half-less _ _ falls)

@@ -5,7 +5,7 @@
 ghost use Rattle.std.specs.Prelude.{◌≡◌, ◌+◌, ◌/◌, ◌<◌, ◌≤◌, ◌^◌, ◌∷◌, ◌++◌, [], ℕ, true, All};
 ghost use Rattle.std.specs.Prelude.{IfNone, IfOk, IfSome, Some, length, slice_set, vec_capacity};
 ghost use Rattle.std.specs.List.{sum_by};
-ghost use Rattle.kh_types.specs.Complex.{Complex as Plain, is_zero};
+ghost use Rattle.kh_types.specs.Complex.{Complex as Plain, IsPivot, is_zero};
 ghost use Rattle.kh_types.specs.History.{IsLegal, replay};
 ghost use Rattle.prime_field.specs.Residues.{IsField};
 ghost use Rattle.sparse_block.specs.Clearing.{with_dead};
@@ -90,7 +90,8 @@ impl ColumnReduction {
         self.history.len() as u64
     }
 
-    /// The next column that has a pivot; `None` exactly where nothing is left. It changes nothing.
+    /// The next column that has a pivot, which is an entry other than zero of what is left; `None`
+    /// exactly where nothing is left. It changes nothing.
     pub fn look<F: PrimeField, S: ColumnSource<F>>(
         &self,
         alloc: Global,
@@ -104,6 +105,8 @@ impl ColumnReduction {
             (replay F.P (S.whole source.old).complex self.now.history.items) ≡ true))) }
         ensures found { IfOk result (λ seen. IfSome seen (IsFound F.P
             (S.whole source.old).complex self.now.history.items)) }
+        ensures pivot { IfOk result (λ seen. IfSome seen (λ found. IsPivot
+            (replay F.P (S.whole source.old).complex self.now.history.items) (pivot_of found))) }
     {
         element_laws::<F>();
         let low = source.low();

@@ -46,6 +46,8 @@ impl Cube {
         ensures { (j : ℤ) → AreBlockPlaces F.P self.now j places.now
             → result ≡ named_block F.P self.now j }
     {
+        // (the number of crossings is small)
+        let _ = self.crossing_count();
         BorrowedBlock {
             cube: self,
             places,

@@ -1,6 +1,6 @@
 //! The block of a cube before any cancellation, with columns that are made one at a time.
 
-ghost use Rattle.std.specs.Prelude.{◌≡◌, IfOk};
+ghost use Rattle.std.specs.Prelude.{◌≡◌, ℤ, IfOk};
 ghost use Rattle.std.specs.List.{Contains};
 ghost use Rattle.cube_signs.specs.Blocks.{block_degrees, named_block};
 ghost use Rattle.cube_signs.specs.OpeningBlocks.{AreBlockPlaces};
@@ -10,7 +10,6 @@ use crate::block_places::BlockPlaces;
 use crate::cube::Cube;
 use kh_types::NoMemory;
 use prime_field::PrimeField;
-use prime_field::laws::element_laws;
 use sparse_block::{ColumnSource, Entry, Generator, OwnedSource};
 use std::alloc::Global;
 use std::marker::{Model, PhantomData};
@@ -61,6 +60,8 @@ impl Cube {
         ensures { (j : ℤ) → AreBlockPlaces F.P self.now j places
             → result ≡ named_block F.P self.now j }
     {
+        // (the number of crossings is small)
+        let _ = self.crossing_count();
         OpeningBlock {
             cube: self,
             places,

@@ -1,13 +1,14 @@
 //! A block whose columns are being reduced, as what a versioned lock holds.
 
-ghost use Rattle.std.specs.Prelude.{◌≡◌, [], true, IfNone, IfOk, IfSome};
+ghost use Rattle.std.specs.Prelude.{◌≡◌, [], true, IfNone, IfOk, IfSome, IsTrue};
 ghost use Rattle.std.specs.Arc.{arc_value};
 ghost use Rattle.std.specs.List.{Contains};
 ghost use mathlib.Core.List.{IsPrefix};
+ghost use Rattle.kh_types.specs.Acceptance.{accepted};
 ghost use Rattle.kh_types.specs.Complex.{is_zero};
 ghost use Rattle.cube_signs.specs.Blocks.{block_degrees};
 ghost use Rattle.shared_block.specs.AllBlocks.{IsFinished};
-ghost use Rattle.shared_block.specs.BlockHistories.{block_with, complex_of};
+ghost use Rattle.shared_block.specs.BlockHistories.{HasLegalHistory, block_with, complex_of};
 ghost use Rattle.shared_block.specs.ColumnBlocks.{IsLookAt, pivot_seen};
 ghost use Rattle.shared_block.specs.Commits.{with_pivot};
 
@@ -87,6 +88,7 @@ impl<F: PrimeField> ColumnBlock<F> {
         element_laws::<F>();
         let mut block = self;
         'turns: while let Some(look) = block.next(alloc)? {
+            column_block_laws(&block);
             block.take_fitting(look);
         }
         block.into_shared(alloc)
@@ -139,6 +141,16 @@ impl<F: PrimeField> ColumnBlock<F> {
             complex,
         })
     }
+}
+
+/// What the type of such a block keeps. It does nothing: a function calls it, and its proof then has
+/// these facts at hand.
+pub fn column_block_laws<F: PrimeField>(block: &ColumnBlock<F>)
+    ensures code { IsTrue (accepted block.now.diagram) }
+    ensures legal { HasLegalHistory F.P block.now }
+{
+    element_laws::<F>();
+    let _ = &block.diagram;
 }
 
 impl<F: PrimeField + Send> Held for ColumnBlock<F> {

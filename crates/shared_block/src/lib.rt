@@ -22,7 +22,7 @@ pub mod table_laws;
 pub use all_blocks::{blocks_of, finish_all};
 pub use block_look::BlockLook;
 pub use block_patch::BlockPatch;
-pub use column_block::ColumnBlock;
+pub use column_block::{ColumnBlock, column_block_laws};
 pub use column_look::ColumnLook;
 pub use commit_answer::CommitAnswer;
 pub use rows::push_rows;

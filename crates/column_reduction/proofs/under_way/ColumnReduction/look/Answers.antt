@@ -3,14 +3,15 @@ use Rattle.std.specs.Prelude.{slice_index_or, IfNone, IfOk, IfSome, Option}
 use Rattle.std.specs.Global.{Vec}
 use Rattle.std.proofs.lemmas.Int.{ints}
 use Rattle.std.proofs.lemmas.List.{length-map}
-use Rattle.kh_types.specs.Complex.{is_zero}
+use Rattle.kh_types.specs.Complex.{IsPivot, is_zero}
 use Rattle.kh_types.specs.History.{replay}
 use Rattle.sparse_block.specs.Complexes.{NamedComplex, place_count}
 use Rattle.sparse_block.specs.Inside.{lists_in}
 use Rattle.column_reduction.specs.StoredColumns.{StoredColumn}
-use Rattle.column_reduction.specs.UnderWay.{AllLeaveNone, IsFirstFrom, IsFirstLeft, IsFound, LeaveNone}
+use Rattle.column_reduction.specs.UnderWay.{AllLeaveNone, IsFirstFrom, IsFirstLeft, IsFound, LeaveNone, pivot_of}
 use Rattle.column_reduction.proofs.Looked.{found-above, found-here, found-none, found-open, none-map, some-map}
 use Rattle.column_reduction.proofs.Openings.{degree-opening, degrees-left, few-opening, places-left, sizes-left}
+use Rattle.column_reduction.proofs.Taken.{is_pivot-found}
 use Rattle.column_reduction.proofs.under_way.ColumnReduction.look.Goals as goal
 
 pub next_left-requires-clause-degree : goal.next_left-requires-clause-degree
@@ -94,6 +95,11 @@ returns-in-Some-clause-open g c =
     found-open g.F.PrimeField.P (g.S.ColumnSource.whole c.args.source.now).complex c.args.self.now.history.items _
     c.element_laws.ensures.field c.requires.is (returns-in-Some-clause-found g c)
 
+pub returns-in-Some-clause-pivot : goal.returns-in-Some-clause-pivot
+returns-in-Some-clause-pivot g c =
+    is_pivot-found g.F.PrimeField.P (g.S.ColumnSource.whole c.args.source.now).complex c.element_laws.ensures.field c.args.self.now
+    c.requires _ (returns-in-Some-clause-found g c)
+
 pub first_from-requires : goal.first_from-requires
 first_from-requires g c =
     let held = c.args.self.now in
@@ -135,6 +141,14 @@ returns-in-None-clause-open g c =
     some-map (IsFound p whole.complex history) (λ found. ¬ (is_zero (replay p whole.complex history) ≡ true))
     (λ found is_found. found-open p whole.complex history found c.element_laws.ensures.field c.requires.is is_found)
     c.first_from.result (returns-in-None-clause-found g c)
+
+pub returns-in-None-clause-pivot : goal.returns-in-None-clause-pivot
+returns-in-None-clause-pivot g c =
+    let p = g.F.PrimeField.P in
+    let complex = (g.S.ColumnSource.whole c.args.source.now).complex in
+    let held = c.args.self.now in
+    some-map (IsFound p complex held.history.items) (λ found. IsPivot (replay p complex held.history.items) (pivot_of found))
+    (is_pivot-found p complex c.element_laws.ensures.field held c.requires) c.first_from.result (returns-in-None-clause-found g c)
 
 pub returns-in-None-clause-none : goal.returns-in-None-clause-none
 returns-in-None-clause-none g c =
