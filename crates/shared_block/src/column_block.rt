@@ -105,8 +105,10 @@ impl<F: PrimeField> ColumnBlock<F> {
         element_laws::<F>();
         let version = self.reduction.version();
         let mut source = self.cube.borrowed_block::<F>(alloc, &self.places);
-        let seen = self.reduction.look::<F, _>(alloc, &mut source)?;
-        Ok(seen.map(|found| ColumnLook { version, found }))
+        match self.reduction.look::<F, _>(alloc, &mut source)? {
+            Some(found) => Ok(Some(ColumnLook { version, found })),
+            None => Ok(None),
+        }
     }
 
     /// Takes a look at the block as it is.

@@ -7,7 +7,7 @@
 /// it: they share the diagram's blocks, and what it has begun the others finish.
 pub trait Gate {
     /// Called by a worker between its patch and its commit, with its number, from 1, and the number
-    /// of its turn, from 1 in each call of `work`.
+    /// of its turn, from 1 each time that it begins at a block.
     fn before_commit(&self, worker: u32, turn: u64);
 }
 
