@@ -39,7 +39,7 @@ fn have_the_same<F: PrimeField + Send>(
                 let Some(look) = block.look_at(alloc, 0)? else {
                     break;
                 };
-                assert_eq!(rt; look.version(), Held::version(&block));
+                assert_eq!(rt; look.version(), block.version());
                 block.take(look);
             }
             let made = block.finish(alloc)?;

@@ -1,6 +1,6 @@
 //! A block whose columns are being reduced, as what a versioned lock holds.
 
-ghost use Rattle.std.specs.Prelude.{◌≡◌, [], true, IfNone, IfOk, IfSome, IsTrue};
+ghost use Rattle.std.specs.Prelude.{◌≡◌, [], length, true, IfNone, IfOk, IfSome, IsTrue};
 ghost use Rattle.std.specs.Arc.{arc_value};
 ghost use Rattle.std.specs.List.{Contains};
 ghost use mathlib.Core.List.{IsPrefix};
@@ -76,6 +76,13 @@ impl<F: PrimeField> ColumnBlock<F> {
             reduction,
             field: PhantomData,
         })
+    }
+
+    /// The length of the history.
+    pub fn version(&self) -> u64
+        ensures { result ≡ length self.now.history }
+    {
+        self.reduction.version()
     }
 
     /// Reduces what is left, and gives the block that is zero then: its history goes on.
@@ -180,7 +187,7 @@ impl<F: PrimeField + Send> Held for ColumnBlock<F> {
         is_zero (complex_of F.P (block_with origin.0 origin.1 history)) ≡ true };
 
     fn version(&self) -> u64 {
-        self.reduction.version()
+        ColumnBlock::version(self)
     }
 
     fn look_at(&self, alloc: Global, _hint: u32) -> Result<Option<ColumnLook>, NoMemory> {

@@ -97,7 +97,8 @@ pub fn cancel_small<R: Threads + Wait + Sync, F: PrimeField + Send + Sync, G: Ga
         return cancel_small_alone(alloc, small);
     }
     let counted = small.counted();
-    let cube = Arc::new(alloc, Cube::new(alloc, counted.diagram())?)?;
+    let made = Cube::new(alloc, counted.diagram())?;
+    let cube = Arc::new(alloc, made)?;
     let degrees = counted_degrees(alloc, counted)?;
     let crew = Crew {
         rt,

@@ -9,7 +9,6 @@ use kh_types::NoMemory;
 use prime_field::PrimeField;
 use shared_block::{ColumnBlock, SharedBlock};
 use std::alloc::Global;
-use version_lock::Held;
 
 /// A block that is cancelled to zero.
 #[derive(Drop)]
@@ -29,7 +28,7 @@ pub(crate) fn finished_one<F: PrimeField>(
     ensures done { IfOk result (IsDone F.P) }
     ensures count { IfOk result (λ one. one.committed ≡ length block.history) }
 {
-    let committed = Held::version(&block);
+    let committed = block.version();
     let block = block.finish(alloc)?;
     Ok(DoneBlock { block, committed })
 }

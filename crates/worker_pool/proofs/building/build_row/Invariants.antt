@@ -1,5 +1,6 @@
+use Rattle.std.specs.Arc.{arc_value}
 use Rattle.worker_pool.specs.Slots.{AreSlotsOf}
 use Rattle.worker_pool.proofs.building.build_row.Given as goal
 
 abbrev pub invariant-begun : goal.invariant-begun
-invariant-begun g l = AreSlotsOf l.cube l.degrees l.slots
+invariant-begun g l = AreSlotsOf (arc_value l.cube) l.degrees l.slots

@@ -1,6 +1,6 @@
 use Rattle.std.proofs.Common.{arith}
 use Rattle.worker_pool.proofs.Working.{looked, committed}
-use Rattle.worker_pool.proofs.turns.work.Goals as goal
+use Rattle.worker_pool.proofs.turns.take_turns.Goals as goal
 
 pub turns-preserved : goal.turns-preserved
 turns-preserved g c =
