@@ -65,8 +65,13 @@ pub record IsFound (p : ℕ) (complex : Complex) (history : List Pivot) (found :
 abbrev pub pivot_of : FoundColumn → Pivot
 pivot_of found = pivot_at found.degree found.line.column found.line.row
 
--- what is in memory is a reduction of a complex, whose degrees have fewer than 2^32 places each: it stands at the degree of the last pivot, knows which places are alive, has the stored
--- columns of this degree and their owners, room for each column of it, and room for half as many pivots more as places are alive
+-- the pivots that a reduction has found, the first at place 0
+abbrev pub history_of : ColumnReduction → List Pivot
+history_of held = held.history.items
+
+-- what is in memory is a reduction of a complex, whose degrees have fewer than 2^32 places each: it stands at the degree of the last
+-- pivot, knows which places are alive, has the stored columns of this degree and their owners, room for each column of it, and room for
+-- half as many pivots more as places are alive
 pub record IsReductionOf (p : ℕ) (complex : Complex) (held : ColumnReduction) : Type 0 where
   pub is : IsComplex p complex
   pub few : (k : ℕ) → place_count complex (complex.low +ℤ pos k) < 2 ^ 32

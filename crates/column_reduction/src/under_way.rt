@@ -11,7 +11,7 @@ ghost use Rattle.prime_field.specs.Residues.{IsField};
 ghost use Rattle.sparse_block.specs.Clearing.{with_dead};
 ghost use Rattle.sparse_block.specs.Inside.{lists_in};
 ghost use Rattle.sparse_block.specs.Complexes.{live_places};
-ghost use Rattle.column_reduction.specs.UnderWay.{IsFound, IsReductionOf, pivot_of};
+ghost use Rattle.column_reduction.specs.UnderWay.{IsFound, IsReductionOf, history_of, pivot_of};
 
 use crate::next_column::{first_from, fresh_table, next_left};
 use crate::reducing::{Reduced, alive_at, all_alive, degree_at, kill};
@@ -66,7 +66,7 @@ impl ColumnReduction {
         source: &S,
     ) -> Result<ColumnReduction, NoMemory>
         ensures reduction { IfOk result (IsReductionOf F.P (S.whole source.now).complex) }
-        ensures none { IfOk result (λ made. made.history.items ≡ []) }
+        ensures none { IfOk result (λ made. history_of made ≡ []) }
     {
         element_laws::<F>();
         source.low();
@@ -84,7 +84,7 @@ impl ColumnReduction {
 
     /// The length of the history.
     pub fn version(&self) -> u64
-        ensures version { result ≡ length self.now.history.items }
+        ensures version { result ≡ length (history_of self.now) }
         ensures short { result < 2 ^ 63 }
     {
         self.history.len() as u64
@@ -100,13 +100,13 @@ impl ColumnReduction {
         requires { IsReductionOf F.P (S.whole source.old).complex self.now }
         ensures same { S.whole source.new ≡ S.whole source.old }
         ensures none { IfOk result (λ seen. IfNone seen (is_zero
-            (replay F.P (S.whole source.old).complex self.now.history.items) ≡ true)) }
+            (replay F.P (S.whole source.old).complex (history_of self.now)) ≡ true)) }
         ensures open { IfOk result (λ seen. IfSome seen (λ _. ¬ (is_zero
-            (replay F.P (S.whole source.old).complex self.now.history.items) ≡ true))) }
+            (replay F.P (S.whole source.old).complex (history_of self.now)) ≡ true))) }
         ensures found { IfOk result (λ seen. IfSome seen (IsFound F.P
-            (S.whole source.old).complex self.now.history.items)) }
+            (S.whole source.old).complex (history_of self.now))) }
         ensures pivot { IfOk result (λ seen. IfSome seen (λ found. IsPivot
-            (replay F.P (S.whole source.old).complex self.now.history.items) (pivot_of found))) }
+            (replay F.P (S.whole source.old).complex (history_of self.now)) (pivot_of found))) }
     {
         element_laws::<F>();
         let low = source.low();
@@ -127,10 +127,10 @@ impl ColumnReduction {
     /// Takes a column that a look at the reduction as it is has found. It takes no memory.
     pub fn take(&mut self, found: FoundColumn)
         requires { (p : ℕ) × (complex : Plain) × IsField p × IsReductionOf p complex self.old
-            × IsFound p complex self.old.history.items found }
-        ensures history { self.new.history.items ≡ self.old.history.items ++ pivot_of found ∷ [] }
+            × IsFound p complex (history_of self.old) found }
+        ensures history { history_of self.new ≡ history_of self.old ++ pivot_of found ∷ [] }
         ensures reduction { (p : ℕ) → (complex : Plain) → IsField p
-            → IsReductionOf p complex self.old → IsFound p complex self.old.history.items found
+            → IsReductionOf p complex self.old → IsFound p complex (history_of self.old) found
             → IsReductionOf p complex self.new }
     {
         let pivot = found.pivot();
@@ -156,8 +156,8 @@ impl ColumnReduction {
         source: S,
     ) -> Result<Reduced<F>, NoMemory>
         requires reduction { IsReductionOf F.P (S.whole source).complex self }
-        requires zero { is_zero (replay F.P (S.whole source).complex self.history.items) ≡ true }
-        ensures pivots { IfOk result (λ made. made.pivots ≡ self.history) }
+        requires zero { is_zero (replay F.P (S.whole source).complex (history_of self)) ≡ true }
+        ensures pivots { IfOk result (λ made. made.pivots.items ≡ history_of self) }
         ensures legal { IfOk result (λ made.
             IsLegal F.P (S.whole source).complex made.pivots.items) }
         ensures left { IfOk result (λ made.

@@ -11,6 +11,10 @@ use Rattle.column_reduction.specs.declared.under_way.ColumnReduction.{ColumnRedu
 use Rattle.shared_block.specs.BlockHistories.{BlockHistory, complex_of, opening_of}
 use Rattle.shared_block.specs.declared.column_look.ColumnLook.{ColumnLook}
 
+-- the version at which a look was made
+abbrev pub version_seen : ColumnLook → ℕ
+version_seen look = look.version
+
 -- the pivot of a look
 abbrev pub pivot_seen : ColumnLook → Pivot
 pivot_seen look = pivot_of look.found
@@ -18,7 +22,7 @@ pivot_seen look = pivot_of look.found
 -- a look is one at a block as it stands: at its version, which is the length of its history and less than 2^63, of the next column of
 -- which something is left, whose pivot is an entry other than 0 of what the history leaves
 pub record IsLookAt (p : ℕ) (held : BlockHistory) (look : ColumnLook) : Type 0 where
-  pub version : look.version ≡ length held.history
+  pub version : version_seen look ≡ length held.history
   pub short : length held.history < 2 ^ 63
   pub pivot : IsPivot (complex_of p held) (pivot_seen look)
   pub found : IsFound p (opening_of p held) held.history look.found

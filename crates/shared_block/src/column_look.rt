@@ -1,7 +1,7 @@
 //! Looks at a block whose columns are being reduced.
 
 ghost use Rattle.std.specs.Prelude.{◌≡◌};
-ghost use Rattle.shared_block.specs.ColumnBlocks.{pivot_seen};
+ghost use Rattle.shared_block.specs.ColumnBlocks.{pivot_seen, version_seen};
 
 use column_reduction::FoundColumn;
 use sparse_block::Pivot;
@@ -17,7 +17,7 @@ pub struct ColumnLook {
 impl ColumnLook {
     /// The version at which the look was made, the length of the history then.
     pub fn version(&self) -> u64
-        ensures { result ≡ self.now.version }
+        ensures { result ≡ version_seen self.now }
     {
         self.version
     }
