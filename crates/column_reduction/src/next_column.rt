@@ -22,6 +22,9 @@ use smallvec::SmallVec;
 use sparse_block::{ColumnSource, Entry};
 use std::alloc::Global;
 
+/// Room for the entries that few columns go beyond.
+const USUAL_ENTRIES: usize = 64;
+
 /// The first column out of degree number `k`, from one place on, of which the stored columns leave
 /// something: its place, and what they leave.
 pub(crate) fn next_left<F: PrimeField, S: ColumnSource<F>>(
@@ -47,7 +50,7 @@ pub(crate) fn next_left<F: PrimeField, S: ColumnSource<F>>(
     element_laws::<F>();
     let alloc = *stored.columns.allocator();
     let mut scratch = Scratch {
-        left: Vec::new(alloc),
+        left: Vec::with_capacity(alloc, USUAL_ENTRIES)?,
         spare: Vec::new(alloc),
     };
     'places: for place in from..alive.len() {

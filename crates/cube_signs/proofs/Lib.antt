@@ -29,3 +29,4 @@ pub mod ChosenColumns
 pub mod ChosenBlocks
 pub mod ChosenLoops
 pub mod BlockSources
+pub mod HeldPlaces

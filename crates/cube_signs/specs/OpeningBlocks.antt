@@ -24,10 +24,19 @@ pub record AreBlockPlaces (p : ℕ) (code : Code) (j : ℤ) (places : BlockPlace
   pub are_bases : places.bases.items ≡ map (own_base code j) (states code)
   pub small : All (λ base. base < PLACES) places.bases.items
 
--- these, with the edges out of a state that were found last
+-- the edges that were found last are those out of their state, at the places of the block at j
+abbrev pub IsAround : ℕ → Code → ℤ → Around → Type 0
+IsAround p code j around = AreFound p code (map (own_base code j) (states code)) around.state around.outs.items
+
+-- these places, with the edges out of a state that were found last
 pub record IsOpeningBlock (p : ℕ) (code : Code) (places : BlockPlaces) (around : Around) : Type 0 where
   pub places_are : AreBlockPlaces p code places.least.j places
   pub found : AreFound p code places.bases.items around.state around.outs.items
+
+-- the same by places that are borrowed, with other edges that were found before
+pub record IsBorrowedBlock (p : ℕ) (code : Code) (places : BlockPlaces) (near around : Around) : Type 0 where
+  pub block_is : IsOpeningBlock p code places around
+  pub near_is : AreFound p code places.bases.items near.state near.outs.items
 
 -- the same of the block at j over chosen generators; and how many generators before each are chosen
 pub record IsChosenBlock (p : ℕ) (choice : Generator → Bool) (code : Code) (low j : ℤ) (names : List (List Generator))

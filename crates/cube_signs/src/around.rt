@@ -1,9 +1,10 @@
 //! The columns of a cube, one at a time: the edges out of a state serve for all its generators.
 
-ghost use Rattle.std.specs.Prelude.{◌≡◌, ℤ, ◌+◌, ◌^◌, ◌<◌, ◌≤◌, length, map, All, OnOk};
+ghost use Rattle.std.specs.Prelude.{◌≡◌, ℕ, ℤ, List, ◌+◌, ◌^◌, ◌<◌, ◌≤◌, length, map, All, OnOk};
 ghost use Rattle.kh_types.specs.Generators.{states};
 ghost use Rattle.sparse_block.specs.declared.entry.TheConstants.{MOST_VALUES};
 ghost use Rattle.cube_signs.specs.Columns.{AreFound, AreOuts, IsColumn, IsTail};
+ghost use Rattle.cube_signs.specs.OpeningBlocks.{IsAround};
 ghost use Rattle.cube_signs.specs.Tables.{own_base};
 ghost use Rattle.cube_signs.specs.declared.limits.TheConstants.{PLACES};
 
@@ -16,7 +17,7 @@ use std::alloc::Global;
 
 /// A state, and the edges out of it that were found last.
 #[derive(Drop)]
-pub(crate) struct Around {
+pub struct Around {
     pub(crate) state: u32,
     pub(crate) outs: Vec<Out>,
 }
@@ -31,9 +32,23 @@ impl Around {
             outs: Vec::new(alloc),
         }
     }
+
+    /// Whether edges were found. No clause rests on it.
+    pub fn is_found(&self) -> bool {
+        self.state != u32::MAX
+    }
 }
 
 impl Cube {
+    /// No edges out of any state.
+    pub fn nowhere(&self, alloc: Global) -> Around
+        ensures { (p : ℕ) (j : ℤ) → IsAround p self.now j result }
+    {
+        // (the number of crossings is small)
+        let _ = self.crossing_count();
+        Around::nowhere(alloc)
+    }
+
     /// Puts the entries of the column of a generator in place of others.
     pub(crate) fn put_column(
         &self,
@@ -54,6 +69,24 @@ impl Cube {
             column.new.items) }
     {
         self.go_to(p, bases, around, tail.state)?;
+        self.put_column_of(column, around, tail)
+    }
+
+    /// The same, where the edges that were found last are those out of the generator's state.
+    pub(crate) fn put_column_of(
+        &self,
+        column: &mut Vec<Entry>,
+        around: &Around,
+        tail: Generator,
+    ) -> Result<(), NoMemory>
+        requires tail { (i : ℤ) × (j : ℤ) × IsTail self.now i j tail }
+        requires outs { (p : ℕ) × (bases : List ℕ)
+            × AreOuts p self.now bases tail.state around.now.outs.items }
+        ensures { OnOk result ((p : ℕ) (bases : List ℕ) (i j : ℤ) → 1 < p
+            → AreOuts p self.now bases tail.state around.now.outs.items
+            → bases ≡ map (own_base self.now j) (states self.now) → IsTail self.now i j tail
+            → IsColumn p self.now i j tail column.new.items) }
+    {
         put_entries(column, &around.outs, self.ranks(), tail.label)
     }
 

@@ -81,4 +81,38 @@ impl BlockPlaces {
         let tail = self.names[k][place];
         cube.put_column(column, F::P, &self.bases, around, tail)
     }
+
+    /// The same, with other edges that were found before.
+    pub(crate) fn put_column_near<F: PrimeField>(
+        &self,
+        cube: &Cube,
+        near: &Around,
+        around: &mut Around,
+        column: &mut Vec<Entry>,
+        k: usize,
+        place: usize,
+    ) -> Result<(), NoMemory>
+        requires places { AreBlockPlaces F.P cube.now self.now.least.j self.now }
+        requires degree { k < length (lists_in self.now.names.items) }
+        requires place { place < length (slice_index_or (lists_in self.now.names.items) k []) }
+        requires near { AreFound F.P cube.now self.now.bases.items near.now.state
+            near.now.outs.items }
+        requires found { AreFound F.P cube.now self.now.bases.items around.old.state
+            around.old.outs.items }
+        ensures found { AreFound F.P cube.now self.now.bases.items around.new.state
+            around.new.outs.items }
+        ensures column { OnOk result (IsColumnOf F.P
+            (named_block F.P cube.now self.now.least.j).complex
+            ((named_block F.P cube.now self.now.least.j).complex.low +ℤ pos k) place
+            column.new.items) }
+    {
+        element_laws::<F>();
+        // (what a cube keeps)
+        let _ = cube.state_count();
+        let tail = self.names[k][place];
+        if tail.state == near.state {
+            return cube.put_column_of(column, near, tail);
+        }
+        cube.put_column(column, F::P, &self.bases, around, tail)
+    }
 }

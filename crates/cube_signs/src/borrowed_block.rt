@@ -2,37 +2,41 @@
 
 ghost use Rattle.std.specs.Prelude.{◌≡◌, ℤ};
 ghost use Rattle.cube_signs.specs.Blocks.{named_block};
-ghost use Rattle.cube_signs.specs.OpeningBlocks.{AreBlockPlaces};
+ghost use Rattle.cube_signs.specs.OpeningBlocks.{AreBlockPlaces, IsAround};
 
 use crate::around::Around;
 use crate::block_places::BlockPlaces;
 use crate::cube::Cube;
 use kh_types::NoMemory;
 use prime_field::PrimeField;
+use prime_field::laws::element_laws;
 use sparse_block::{ColumnSource, Entry, Generator};
 use std::alloc::Global;
 use std::marker::{Model, PhantomData};
 
-/// The block of a cube at a quantum degree, before any cancellation, by places that are borrowed; a
-/// column is made when it is asked for. Contracts see whole matrices.
+/// The block of a cube at a quantum degree, before any cancellation, by places that are borrowed,
+/// and edges that were found before; a column is made when it is asked for. Contracts see the code
+/// and the quantum degree.
 #[derive(Drop)]
 pub struct BorrowedBlock<'a, F: PrimeField> {
     cube: &'a Cube,
     places: &'a BlockPlaces,
+    near: &'a Around,
     around: Around,
     field: PhantomData<F>,
 }
 
 impl<'a, F: PrimeField> Model for BorrowedBlock<'a, F> {
-    ghost use Rattle.sparse_block.specs.Complexes.{NamedComplex};
-    ghost use Rattle.cube_signs.specs.Blocks.{named_block};
-    ghost use Rattle.cube_signs.specs.OpeningBlocks.{IsOpeningBlock};
+    ghost use Rattle.std.specs.Prelude.{ℤ};
+    ghost use Rattle.kh_types.specs.Code.{Code};
+    ghost use Rattle.cube_signs.specs.OpeningBlocks.{IsBorrowedBlock};
 
-    ghost Value = { NamedComplex };
+    ghost Value = { Code × ℤ };
 
-    ghost view = { λ block. named_block F.P block.cube.now block.places.now.least.j };
+    ghost view = { λ block. (block.cube.now, block.places.now.least.j) };
 
-    ghost invariant = { λ block. IsOpeningBlock F.P block.cube.now block.places.now block.around };
+    ghost invariant = { λ block. IsBorrowedBlock F.P block.cube.now block.places.now block.near.now
+        block.around };
 }
 
 impl Cube {
@@ -41,24 +45,36 @@ impl Cube {
         &'a self,
         alloc: Global,
         places: &'a BlockPlaces,
+        near: &'a Around,
     ) -> BorrowedBlock<'a, F>
-        requires { (j : ℤ) × AreBlockPlaces F.P self.now j places.now }
-        ensures { (j : ℤ) → AreBlockPlaces F.P self.now j places.now
-            → result ≡ named_block F.P self.now j }
+        requires { (j : ℤ) × AreBlockPlaces F.P self.now j places.now
+            × IsAround F.P self.now j near.now }
+        ensures { (j : ℤ) → AreBlockPlaces F.P self.now j places.now → result ≡ (self.now, j) }
     {
         // (the number of crossings is small)
         let _ = self.crossing_count();
         BorrowedBlock {
             cube: self,
             places,
+            near,
             around: Around::nowhere(alloc),
             field: PhantomData,
         }
     }
 }
 
+impl<'a, F: PrimeField> BorrowedBlock<'a, F> {
+    /// The edges that were found last.
+    pub fn into_around(self) -> Around
+        ensures { IsAround F.P self.entry.0 self.entry.1 result }
+    {
+        element_laws::<F>();
+        self.around
+    }
+}
+
 impl<'a, F: PrimeField> ColumnSource<F> for BorrowedBlock<'a, F> {
-    ghost whole = { λ block. block };
+    ghost whole = { λ block. named_block F.P block.0 block.1 };
 
     fn low(&self) -> i16 {
         self.places.least.i
@@ -75,6 +91,6 @@ impl<'a, F: PrimeField> ColumnSource<F> for BorrowedBlock<'a, F> {
         place: usize,
     ) -> Result<(), NoMemory> {
         self.places
-            .put_column::<F>(self.cube, &mut self.around, column, k, place)
+            .put_column_near::<F>(self.cube, self.near, &mut self.around, column, k, place)
     }
 }

@@ -25,6 +25,7 @@ mod shape;
 mod size;
 mod steps;
 
+pub use around::Around;
 pub use block_places::BlockPlaces;
 pub use blocks::block_columns;
 pub use borrowed_block::BorrowedBlock;

@@ -46,6 +46,7 @@ pub(crate) fn find_outs(
     ensures small { OnOk result (All IsSmallOut outs.new.items) }
 {
     outs.clear();
+    outs.reserve(steps.len())?;
     let mut sign = 1;
     'places: for place in 0..steps.len() {
         push_out(outs, steps[place], bases, From { state, place, sign })?;

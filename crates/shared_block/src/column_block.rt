@@ -15,7 +15,7 @@ ghost use Rattle.shared_block.specs.Commits.{with_pivot};
 use crate::SharedBlock;
 use crate::column_look::ColumnLook;
 use column_reduction::{ColumnReduction, Reduced};
-use cube_signs::{BlockPlaces, Cube};
+use cube_signs::{Around, BlockPlaces, Cube};
 use kh_types::laws::diagrams::diagram_laws;
 use kh_types::{Diagram, NoMemory};
 use prime_field::PrimeField;
@@ -34,6 +34,8 @@ pub struct ColumnBlock<F: PrimeField> {
     diagram: Diagram,
     degree: i16,
     places: BlockPlaces,
+    // The edges out of the state whose column was made last.
+    near: Around,
     reduction: ColumnReduction,
     field: PhantomData<F>,
 }
@@ -49,7 +51,8 @@ impl<F: PrimeField> Model for ColumnBlock<F> {
     ghost view = { λ held. block_with held.diagram held.degree held.reduction.history.items };
 
     ghost invariant = { λ held. (arc_value held.cube ≡ held.diagram)
-        × IsColumnBlock F.P held.diagram held.degree held.places held.reduction };
+        × IsColumnBlock F.P held.diagram held.degree held.places held.near
+        held.reduction };
 }
 
 impl<F: PrimeField> ColumnBlock<F> {
@@ -66,13 +69,16 @@ impl<F: PrimeField> ColumnBlock<F> {
         let diagram = *cube.diagram();
         diagram_laws(&diagram);
         let places = cube.block_places::<F>(alloc, j)?;
-        let reduction =
-            ColumnReduction::start::<F, _>(alloc, &cube.borrowed_block::<F>(alloc, &places))?;
+        let near = cube.nowhere(alloc);
+        let source = cube.borrowed_block::<F>(alloc, &places, &near);
+        let reduction = ColumnReduction::start::<F, _>(alloc, &source)?;
+        drop(source);
         Ok(ColumnBlock {
             cube: Arc::try_clone(cube)?,
             diagram,
             degree: j,
             places,
+            near,
             reduction,
             field: PhantomData,
         })
@@ -111,9 +117,13 @@ impl<F: PrimeField> ColumnBlock<F> {
     {
         element_laws::<F>();
         let version = self.reduction.version();
-        let mut source = self.cube.borrowed_block::<F>(alloc, &self.places);
+        let mut source = self.cube.borrowed_block::<F>(alloc, &self.places, &self.near);
         match self.reduction.look::<F, _>(alloc, &mut source)? {
-            Some(found) => Ok(Some(ColumnLook { version, found })),
+            Some(found) => Ok(Some(ColumnLook {
+                version,
+                found,
+                near: source.into_around(),
+            })),
             None => Ok(None),
         }
     }
@@ -124,7 +134,11 @@ impl<F: PrimeField> ColumnBlock<F> {
         ensures { self.new ≡ with_pivot self.old (pivot_seen look) }
     {
         element_laws::<F>();
-        self.reduction.take(look.found);
+        let ColumnLook { found, near, .. } = look;
+        self.reduction.take(found);
+        if near.is_found() {
+            self.near = near;
+        }
     }
 
     /// The block with its pivots, where nothing is left.

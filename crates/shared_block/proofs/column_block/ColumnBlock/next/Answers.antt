@@ -1,16 +1,26 @@
-use Rattle.std.proofs.Common.{◌≡◌, ◌∙◌, length, ap, sym, subst, arith}
+use Rattle.std.proofs.Common.{◌≡◌, ◌∙◌, ℤ, length, ap, sym, subst, arith}
 use Rattle.std.specs.Option.{IfSome}
 use Rattle.std.specs.Prelude.{Option}
 use Rattle.kh_types.specs.Code.{Code}
 use Rattle.kh_types.specs.Complex.{IsPivot}
 use Rattle.kh_types.specs.History.{block, replay}
-use Rattle.sparse_block.specs.Complexes.{NamedComplex}
 use Rattle.cube_signs.specs.Blocks.{named_block}
-use Rattle.cube_signs.specs.OpeningBlocks.{AreBlockPlaces}
+use Rattle.cube_signs.specs.OpeningBlocks.{AreBlockPlaces, IsAround}
 use Rattle.column_reduction.specs.UnderWay.{IsFound, pivot_of}
 use Rattle.column_reduction.specs.declared.under_way.FoundColumn.{FoundColumn}
 use Rattle.shared_block.specs.BlockHistories.{BlockHistory, complex_of, opening_of}
 use Rattle.shared_block.proofs.column_block.ColumnBlock.next.Goals as goal
+
+pub borrowed_block-requires : goal.borrowed_block-requires
+borrowed_block-requires g c κs within =
+    let p = g.F.PrimeField.P in
+    let held = c.self.inside in
+    let is = c.self.invariant.1 in
+    let cube = sym (c.deref.ensures ∙ c.self.invariant.0) in (
+      held.degree,
+      subst (λ (code : Code). AreBlockPlaces p code held.degree held.places) cube is.are_places,
+      subst (λ (code : Code). IsAround p code held.degree held.near) cube is.near_is,
+    )
 
 pub returns-in-Some-clause-look : goal.returns-in-Some-clause-look
 returns-in-Some-clause-look g c =
@@ -18,15 +28,16 @@ returns-in-Some-clause-look g c =
     let held = c.self.inside in
     let history = held.reduction.history.items in
     let is = c.self.invariant.1 in
+    let of = c.borrowed_block-source.result in
     let cube : c.deref.result.now ≡ held.diagram = c.deref.ensures ∙ c.self.invariant.0 in
-    let whole : c.borrowed_block-source.result ≡ named_block p held.diagram held.degree =
+    let whole : of ≡ (held.diagram, held.degree) =
     c.borrowed_block-source.ensures held.degree
     (subst (λ (code : Code). AreBlockPlaces p code held.degree held.places) (sym cube) is.are_places)
-    ∙ ap (λ (code : Code). named_block p code held.degree) cube in
+    ∙ ap (λ (code : Code). (code, held.degree)) cube in
     let seen = subst (λ (seen : Option FoundColumn).
-    IfSome seen (IsFound p c.borrowed_block-source.result.complex history)) c.in-Some.is c.in_ok-found.ensures.found in
+    IfSome seen (IsFound p (named_block p of.0 of.1).complex history)) c.in-Some.is c.in_ok-found.ensures.found in
     let pivot = subst (λ (seen : Option FoundColumn).
-    IfSome seen (λ found. IsPivot (replay p c.borrowed_block-source.result.complex history) (pivot_of found))) c.in-Some.is
+    IfSome seen (λ found. IsPivot (replay p (named_block p of.0 of.1).complex history) (pivot_of found))) c.in-Some.is
     c.in_ok-found.ensures.pivot in
     let found = c.in-Some.found in
     let size = ap (λ (held : BlockHistory). length held.history) c.self.view_is in
@@ -34,7 +45,9 @@ returns-in-Some-clause-look g c =
       version = c.version-version.ensures.version ∙ size;
       short = omega (arith, size, c.version-version.ensures.version, c.version-version.ensures.short);
       pivot = subst (λ (held : BlockHistory). IsPivot (complex_of p held) (pivot_of found)) c.self.view_is
-          (subst (λ (named : NamedComplex). IsPivot (replay p named.complex history) (pivot_of found)) whole pivot);
+          (subst (λ (of : Code × ℤ). IsPivot (replay p (named_block p of.0 of.1).complex history) (pivot_of found)) whole pivot);
       found = subst (λ (held : BlockHistory). IsFound p (opening_of p held) held.history found) c.self.view_is
-          (subst (λ (named : NamedComplex). IsFound p named.complex history found) whole seen);
+          (subst (λ (of : Code × ℤ). IsFound p (named_block p of.0 of.1).complex history found) whole seen);
+      near = subst (λ (held : BlockHistory). IsAround p held.diagram held.degree c.into_around.result) c.self.view_is
+          (subst (λ (of : Code × ℤ). IsAround p of.0 of.1 c.into_around.result) whole c.into_around.ensures);
     }
