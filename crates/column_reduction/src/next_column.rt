@@ -40,7 +40,7 @@ pub(crate) fn next_left<F: PrimeField, S: ColumnSource<F>>(
     requires height { length stored.now.owners.items ≡ place_count (S.whole source.old).complex
         ((S.whole source.old).complex.low +ℤ pos k +ℤ pos 1) }
     requires stored { AreStored F.P stored.now.columns.items stored.now.owners.items }
-    ensures same { S.whole source.new ≡ S.whole source.old }
+    ensures same { source.new ≡ source.old }
     ensures none { IfOk result (λ seen. IfNone seen (LeaveNone F.P (S.whole source.old).complex
         ((S.whole source.old).complex.low +ℤ pos k) alive.now stored.now.columns.items from
         (length alive.now))) }
@@ -71,7 +71,7 @@ pub(crate) fn first_from<F: PrimeField, S: ColumnSource<F>>(
     from: usize,
 ) -> Result<Option<FoundColumn>, NoMemory>
     requires { map length (lists_in alive.now) ≡ map length (S.whole source.old).names }
-    ensures same { S.whole source.new ≡ S.whole source.old }
+    ensures same { source.new ≡ source.old }
     ensures none { IfOk result (λ seen. IfNone seen (AllLeaveNone F.P
         (S.whole source.old).complex (lists_in alive.now) from (length alive.now))) }
     ensures first { IfOk result (λ seen. IfSome seen (IsFirstFrom F.P

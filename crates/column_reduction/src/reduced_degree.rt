@@ -26,7 +26,7 @@ pub(crate) fn reduce_degree<F: PrimeField, S: ColumnSource<F>>(
     requires count { length alive.now < 2 ^ 32 }
     requires height { height ≡ place_count (S.whole source.old).complex
         ((S.whole source.old).complex.low +ℤ pos k +ℤ pos 1) }
-    ensures same { S.whole source.new ≡ S.whole source.old }
+    ensures same { source.new ≡ source.old }
     ensures reduced { IfOk result (λ made. AreFirstReduced F.P (S.whole source.old).complex
         ((S.whole source.old).complex.low +ℤ pos k) alive.now (length alive.now) made.items) }
 {
@@ -51,7 +51,7 @@ pub(crate) fn put_live<F: PrimeField, S: ColumnSource<F>>(
 ) -> Result<(), NoMemory>
     requires degree { k < length (S.whole source.old).names }
     requires place { place < length (slice_index_or (S.whole source.old).names k []) }
-    ensures same { S.whole source.new ≡ S.whole source.old }
+    ensures same { source.new ≡ source.old }
     ensures column { OnOk result (IsLiveColumn F.P (S.whole source.old).complex
         ((S.whole source.old).complex.low +ℤ pos k) is_alive place column.new.items) }
 {

@@ -68,7 +68,7 @@ fn reduce_columns<F: PrimeField, S: ColumnSource<F>>(
     alloc: Global,
     source: &mut S,
 ) -> Result<Reduction, NoMemory>
-    ensures same { S.whole source.new ≡ S.whole source.old }
+    ensures same { source.new ≡ source.old }
     ensures reduced { IfOk result (λ made. IsReducedComplex F.P (S.whole source.old).complex
         (from_greatest (pivots_in made.pivots.items)) (replay F.P (S.whole source.old).complex
         (from_greatest (pivots_in made.pivots.items)))) }

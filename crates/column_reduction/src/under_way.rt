@@ -98,7 +98,7 @@ impl ColumnReduction {
         source: &mut S,
     ) -> Result<Option<FoundColumn>, NoMemory>
         requires { IsReductionOf F.P (S.whole source.old).complex self.now }
-        ensures same { S.whole source.new ≡ S.whole source.old }
+        ensures same { source.new ≡ source.old }
         ensures none { IfOk result (λ seen. IfNone seen (is_zero
             (replay F.P (S.whole source.old).complex (history_of self.now)) ≡ true)) }
         ensures open { IfOk result (λ seen. IfSome seen (λ _. ¬ (is_zero

@@ -33,7 +33,7 @@ pub trait ColumnSource<F: PrimeField>: Drop {
     ) -> Result<(), NoMemory>
         requires degree { k < length (whole self.old).names }
         requires place { place < length (slice_index_or (whole self.old).names k []) }
-        ensures same { whole self.new ≡ whole self.old }
+        ensures same { self.new ≡ self.old }
         ensures column { OnOk result (IsColumnOf F.P (whole self.old).complex
             ((whole self.old).complex.low +ℤ pos k) place column.new.items) };
 }

@@ -20,7 +20,7 @@ next_left-requires-clause-degree g c =
       arith,
       c.degrees-test.true,
       count-names whole.names c.args.alive.now c.requires,
-      ap (λ (named : NamedComplex). length named.names) c.degrees.invariant.same,
+      ap (λ (named : NamedComplex). length named.names) (ap g.S.ColumnSource.whole c.degrees.invariant.same),
     )
 
 pub next_left-requires-clause-places : goal.next_left-requires-clause-places
@@ -28,7 +28,7 @@ next_left-requires-clause-places g c =
     let whole = g.S.ColumnSource.whole c.args.source.now in
     let k = c.degrees.k in
     ap length c.alive_at-own.ensures ∙ size-names whole.names c.args.alive.now c.requires k
-    ∙ ap (λ (named : NamedComplex). length (slice_index_or named.names k [])) (sym c.degrees.invariant.same)
+    ∙ ap (λ (named : NamedComplex). length (slice_index_or named.names k [])) (sym (ap g.S.ColumnSource.whole c.degrees.invariant.same))
 
 pub next_left-requires-clause-count : goal.next_left-requires-clause-count
 next_left-requires-clause-count g c =
@@ -51,7 +51,7 @@ next_left-requires-clause-height g c =
     ∙ size-names whole.names c.args.alive.now c.requires (k + 1)
     ∙ sym (places-opening g.F.PrimeField.P whole c.element_laws.ensures.field c.low-low.ensures.opening (k + 1))
     ∙ ap (place_count whole.complex) next
-    ∙ ap (λ (named : NamedComplex). place_count named.complex (named.complex.low +ℤ pos k +ℤ pos 1)) (sym c.degrees.invariant.same)
+    ∙ ap (λ (named : NamedComplex). place_count named.complex (named.complex.low +ℤ pos k +ℤ pos 1)) (sym (ap g.S.ColumnSource.whole c.degrees.invariant.same))
 
 pub next_left-requires-clause-stored : goal.next_left-requires-clause-stored
 next_left-requires-clause-stored g c =
@@ -83,7 +83,7 @@ degrees-preserved g c =
     c.in_ok-seen.ensures.none in
     let at_whole : LeaveNone p whole.complex (whole.complex.low +ℤ pos k) own stored 0 (length own) =
     subst (λ (named : NamedComplex). LeaveNone p named.complex (named.complex.low +ℤ pos k) own stored 0 (length own))
-    c.degrees.invariant.same left in
+    (ap g.S.ColumnSource.whole c.degrees.invariant.same) left in
     let here : LeaveNone p whole.complex (whole.complex.low +ℤ pos k) (slice_index_or alive k []) [] 0 (length (slice_index_or alive k [])) =
     subst₂ (λ (marks : List Bool) (stored : List StoredColumn).
     LeaveNone p whole.complex (whole.complex.low +ℤ pos k) marks stored 0 (length marks)) c.alive_at-own.ensures
@@ -113,7 +113,7 @@ returns-in-Some-clause-first g c =
     c.in_ok-seen.ensures.first in
     let at_whole : IsFirstLeft p whole.complex (whole.complex.low +ℤ pos k) own stored 0 line =
     subst (λ (named : NamedComplex). IsFirstLeft p named.complex (named.complex.low +ℤ pos k) own stored 0 line)
-    c.degrees.invariant.same left in
+    (ap g.S.ColumnSource.whole c.degrees.invariant.same) left in
     let first : IsFirstLeft p whole.complex (whole.complex.low +ℤ pos k) (slice_index_or alive k []) [] 0 line =
     subst₂ (λ (marks : List Bool) (stored : List StoredColumn).
     IsFirstLeft p whole.complex (whole.complex.low +ℤ pos k) marks stored 0 line) c.alive_at-own.ensures

@@ -7,7 +7,7 @@ use Rattle.column_reduction.proofs.next_column.first_from.Given as goal
 abbrev pub invariant-degrees : goal.invariant-degrees
 invariant-degrees g l =
     record {
-      same : g.S.ColumnSource.whole l.source ≡ g.S.ColumnSource.whole l.fn.source;
+      same : l.source ≡ l.fn.source;
       after : l.from ≤ l.k;
       none : AllLeaveNone g.F.PrimeField.P (g.S.ColumnSource.whole l.fn.source).complex (lists_in l.alive) l.from l.k;
     }

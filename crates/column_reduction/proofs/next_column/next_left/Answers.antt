@@ -24,7 +24,7 @@ places-preserved g c =
     let live : IsLiveColumn p whole.complex i is_alive place line =
     subst
     (λ (named : NamedComplex). IsLiveColumn p named.complex (named.complex.low +ℤ pos c.args.k) is_alive place line)
-    c.places.invariant.same c.in_ok-put_live.ensures.column in
+    (ap g.S.ColumnSource.whole c.places.invariant.same) c.in_ok-put_live.ensures.column in
     let left = c.reduce_line.new.scratch.left.items in
     let reduced = c.in_ok-reduce_line.ensures in
     let h1 = c.is_empty.ensures in
@@ -58,7 +58,7 @@ returns-then-not-is_empty-clause-first g c =
     let live : IsLiveColumn p whole.complex i is_alive place line =
     subst
     (λ (named : NamedComplex). IsLiveColumn p named.complex (named.complex.low +ℤ pos c.args.k) is_alive place line)
-    c.places.invariant.same c.in_ok-put_live.ensures.column in
+    (ap g.S.ColumnSource.whole c.places.invariant.same) c.in_ok-put_live.ensures.column in
     let left = c.reduce_line.new.scratch.left.items in
     let h1 = c.is_empty.ensures in
     let h2 = c.if-not-is_empty.true in

@@ -6,7 +6,7 @@ use Rattle.column_reduction.proofs.next_column.next_left.Given as goal
 abbrev pub invariant-places : goal.invariant-places
 invariant-places g l =
     record {
-      same : g.S.ColumnSource.whole l.source ≡ g.S.ColumnSource.whole l.fn.source;
+      same : l.source ≡ l.fn.source;
       after : l.from ≤ l.place;
       none : LeaveNone g.F.PrimeField.P (g.S.ColumnSource.whole l.fn.source).complex
           ((g.S.ColumnSource.whole l.fn.source).complex.low +ℤ pos l.k) l.alive l.stored.columns.items l.from l.place;

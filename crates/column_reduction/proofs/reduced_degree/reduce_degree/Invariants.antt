@@ -6,7 +6,7 @@ use Rattle.column_reduction.proofs.reduced_degree.reduce_degree.Given as goal
 abbrev pub invariant-places : goal.invariant-places
 invariant-places g l =
     record {
-      same : g.S.ColumnSource.whole l.source ≡ g.S.ColumnSource.whole l.fn.source;
+      same : l.source ≡ l.fn.source;
       reduced : AreFirstReduced g.F.PrimeField.P (g.S.ColumnSource.whole l.fn.source).complex
           ((g.S.ColumnSource.whole l.fn.source).complex.low +ℤ pos l.k) l.alive l.place l.stored.columns.items;
       stored : AreStored g.F.PrimeField.P l.stored.columns.items l.stored.owners.items;

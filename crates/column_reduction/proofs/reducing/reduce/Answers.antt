@@ -17,7 +17,7 @@ zero-requires-clause-sizes g c =
     let alive = lists_in c.in_ok-alive.field-0.alive.items in
     sizes-left p whole c.element_laws.ensures.field c.low-low.ensures.opening alive
     (from_greatest (pivots_in c.in_ok-alive.field-0.pivots.items)) c.in_ok-alive.ensures.alive
-    ∙ ap (map length) (sym (c.into_names.ensures ∙ ap (λ (named : NamedComplex). named.names) c.in_ok-alive.ensures.same))
+    ∙ ap (map length) (sym (c.into_names.ensures ∙ ap (λ (named : NamedComplex). named.names) (ap g.S.ColumnSource.whole c.in_ok-alive.ensures.same)))
 
 pub returns-clause-left : goal.returns-clause-left
 returns-clause-left g c =

@@ -36,7 +36,7 @@ reduce_degree-requires-clause-places g c =
     ap length is_alive
     ∙ places-left p whole c.element_laws.ensures.field c.low-low.ensures.opening places
     (from_greatest (pivots_in c.degrees.made.pivots.items)) c.degrees.invariant.reduced.alive k
-    ∙ ap (λ (named : NamedComplex). length (slice_index_or named.names k [])) (sym c.degrees.invariant.same)
+    ∙ ap (λ (named : NamedComplex). length (slice_index_or named.names k [])) (sym (ap g.S.ColumnSource.whole c.degrees.invariant.same))
 
 pub reduce_degree-requires-clause-count : goal.reduce_degree-requires-clause-count
 reduce_degree-requires-clause-count g c =
@@ -47,7 +47,7 @@ reduce_degree-requires-clause-count g c =
     let within : k < length whole.names =
     omega (arith, c.degrees-test.true, c.len-count.ensures, c.in_ok-alive.alive.ok.0, count) in
     let size = reduce_degree-requires-clause-places g c in
-    let same = ap (λ (named : NamedComplex). length (slice_index_or named.names k [])) c.degrees.invariant.same in
+    let same = ap (λ (named : NamedComplex). length (slice_index_or named.names k [])) (ap g.S.ColumnSource.whole c.degrees.invariant.same) in
     omega (arith, size, same, few-opening p whole c.element_laws.ensures.field c.low-low.ensures.opening k within)
 
 pub reduce_degree-requires-clause-height : goal.reduce_degree-requires-clause-height
@@ -65,7 +65,7 @@ reduce_degree-requires-clause-height g c =
     ∙ places-left p whole field opening places (from_greatest (pivots_in c.degrees.made.pivots.items)) c.degrees.invariant.reduced.alive
     (k + 1)
     ∙ sym (places-opening p whole field opening (k + 1)) ∙ ap (place_count whole.complex) next
-    ∙ ap (λ (named : NamedComplex). place_count named.complex (named.complex.low +ℤ pos k +ℤ pos 1)) (sym c.degrees.invariant.same)
+    ∙ ap (λ (named : NamedComplex). place_count named.complex (named.complex.low +ℤ pos k +ℤ pos 1)) (sym (ap g.S.ColumnSource.whole c.degrees.invariant.same))
 
 pub degree_at-requires : goal.degree_at-requires
 degree_at-requires g c =
@@ -101,7 +101,7 @@ degrees-preserved g c =
     let from_low : AreFirstReduced p whole.complex (whole.complex.low +ℤ pos k) alive (length alive) stored =
     subst
     (λ (named : NamedComplex). AreFirstReduced p named.complex (named.complex.low +ℤ pos k) alive (length alive) stored)
-    c.degrees.invariant.same c.in_ok-stored.ensures.reduced in
+    (ap g.S.ColumnSource.whole c.degrees.invariant.same) c.in_ok-stored.ensures.reduced in
     let are : AreFirstReduced p whole.complex i alive (length alive) stored =
     subst (λ (i : ℤ). AreFirstReduced p whole.complex i alive (length alive) stored) (sym here) from_low in
     let lists_after : pivots_in c.note_pivots.new.made.pivots.items ≡ lists ++ stored_pivots i stored ∷ [] =

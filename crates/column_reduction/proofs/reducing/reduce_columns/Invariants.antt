@@ -7,7 +7,7 @@ use Rattle.column_reduction.proofs.reducing.reduce_columns.Given as goal
 abbrev pub invariant-degrees : goal.invariant-degrees
 invariant-degrees g l =
     record {
-      same : g.S.ColumnSource.whole l.source ≡ g.S.ColumnSource.whole l.fn.source;
+      same : l.source ≡ l.fn.source;
       count : length l.made.pivots.items ≡ l.k;
       reduced : IsReducedTo g.F.PrimeField.P (g.S.ColumnSource.whole l.fn.source).complex l.k (lists_in l.made.alive.items)
           (from_greatest (pivots_in l.made.pivots.items));

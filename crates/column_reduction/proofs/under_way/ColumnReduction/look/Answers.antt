@@ -106,7 +106,7 @@ first_from-requires g c =
     ap (λ (marks : List (Vec Bool)). map length (lists_in marks)) c.deref-in-None.ensures.value
     ∙ sizes-left g.F.PrimeField.P (g.S.ColumnSource.whole c.args.source.now) c.element_laws.ensures.field c.low-low.ensures.opening
     (lists_in held.alive.items) held.history.items c.requires.alive_is
-    ∙ ap (λ (named : NamedComplex). map length named.names) (sym c.in_ok-seen.ensures.same)
+    ∙ ap (λ (named : NamedComplex). map length named.names) (sym (ap g.S.ColumnSource.whole c.in_ok-seen.ensures.same))
 
 pub returns-in-None-clause-found : goal.returns-in-None-clause-found
 returns-in-None-clause-found g c =
@@ -130,7 +130,7 @@ returns-in-None-clause-found g c =
     (found-above p whole.complex c.element_laws.ensures.field of.is alive held.history.items of.alive_is k held.next stored of.way of.here
     of.within none) c.first_from.result
     (subst₂ (λ (named : NamedComplex) (marks : List (Vec Bool)).
-    IfOk c.first_from.result (λ seen. IfSome seen (IsFirstFrom p named.complex (lists_in marks) (k + 1)))) c.in_ok-seen.ensures.same
+    IfOk c.first_from.result (λ seen. IfSome seen (IsFirstFrom p named.complex (lists_in marks) (k + 1)))) (ap g.S.ColumnSource.whole c.in_ok-seen.ensures.same)
     c.deref-in-None.ensures.value c.first_from.ensures.first)
 
 pub returns-in-None-clause-open : goal.returns-in-None-clause-open
@@ -177,4 +177,4 @@ returns-in-None-clause-none g c =
     c.first_from.result
     (subst₂ (λ (named : NamedComplex) (marks : List (Vec Bool)).
     IfOk c.first_from.result (λ seen. IfNone seen (AllLeaveNone p named.complex (lists_in marks) (k + 1) (length marks))))
-    c.in_ok-seen.ensures.same c.deref-in-None.ensures.value c.first_from.ensures.none)
+    (ap g.S.ColumnSource.whole c.in_ok-seen.ensures.same) c.deref-in-None.ensures.value c.first_from.ensures.none)

@@ -11,17 +11,6 @@ use Rattle.column_reduction.specs.declared.under_way.FoundColumn.{FoundColumn}
 use Rattle.shared_block.specs.BlockHistories.{BlockHistory, complex_of, opening_of}
 use Rattle.shared_block.proofs.column_block.ColumnBlock.next.Goals as goal
 
-pub borrowed_block-requires : goal.borrowed_block-requires
-borrowed_block-requires g c κs within =
-    let p = g.F.PrimeField.P in
-    let held = c.self.inside in
-    let is = c.self.invariant.1 in
-    let cube = sym (c.deref.ensures ∙ c.self.invariant.0) in (
-      held.degree,
-      subst (λ (code : Code). AreBlockPlaces p code held.degree held.places) cube is.are_places,
-      subst (λ (code : Code). IsAround p code held.degree held.near) cube is.near_is,
-    )
-
 pub returns-in-Some-clause-look : goal.returns-in-Some-clause-look
 returns-in-Some-clause-look g c =
     let p = g.F.PrimeField.P in
@@ -49,5 +38,5 @@ returns-in-Some-clause-look g c =
       found = subst (λ (held : BlockHistory). IsFound p (opening_of p held) held.history found) c.self.view_is
           (subst (λ (of : Code × ℤ). IsFound p (named_block p of.0 of.1).complex history found) whole seen);
       near = subst (λ (held : BlockHistory). IsAround p held.diagram held.degree c.into_around.result) c.self.view_is
-          (subst (λ (of : Code × ℤ). IsAround p of.0 of.1 c.into_around.result) whole c.into_around.ensures);
+          (subst (λ (of : Code × ℤ). IsAround p of.0 of.1 c.into_around.result) (c.in_ok-found.ensures.same ∙ whole) c.into_around.ensures);
     }

@@ -5,16 +5,6 @@ use Rattle.cube_signs.specs.OpeningBlocks.{AreBlockPlaces, IsAround}
 use Rattle.column_reduction.specs.UnderWay.{IsReductionOf}
 use Rattle.shared_block.proofs.column_block.ColumnBlock.of_cube.Goals as goal
 
-pub borrowed_block-requires : goal.borrowed_block-requires
-borrowed_block-requires g c κs within =
-    let p = g.F.PrimeField.P in
-    let j = to_z w16 (of_z w16 c.args.j) in
-    let same = c.deref-2.ensures ∙ sym c.deref-4.ensures in (
-      j,
-      subst (λ (code : Code). AreBlockPlaces p code j c.in_ok-places.places) same c.in_ok-places.ensures,
-      subst (λ (code : Code). IsAround p code j c.nowhere-near.result) (c.deref-3.ensures ∙ sym c.deref-4.ensures) (c.nowhere-near.ensures p j),
-    )
-
 pub invariant_of-result : goal.invariant_of-result
 invariant_of-result g c =
     let p = g.F.PrimeField.P in
