@@ -7,8 +7,6 @@ mod blocks;
 #[cfg(test)]
 mod cancellations;
 #[cfg(test)]
-mod column_blocks;
-#[cfg(test)]
 mod column_reductions;
 #[cfg(test)]
 mod cores;

@@ -57,11 +57,7 @@ impl<F: PrimeField> Model for ColumnBlock<F> {
 
 impl<F: PrimeField> ColumnBlock<F> {
     /// The block of a cube at a quantum degree, of which no column is reduced yet.
-    pub fn of_cube(
-        alloc: Global,
-        cube: &Arc<Cube>,
-        j: i16,
-    ) -> Result<ColumnBlock<F>, NoMemory>
+    pub fn of_cube(alloc: Global, cube: &Arc<Cube>, j: i16) -> Result<ColumnBlock<F>, NoMemory>
         requires { Contains (block_degrees (arc_value cube.now)) j }
         ensures { IfOk result (λ made. made ≡ block_with (arc_value cube.now) j []) }
     {
@@ -117,7 +113,9 @@ impl<F: PrimeField> ColumnBlock<F> {
     {
         element_laws::<F>();
         let version = self.reduction.version();
-        let mut source = self.cube.borrowed_block::<F>(alloc, &self.places, &self.near);
+        let mut source = self
+            .cube
+            .borrowed_block::<F>(alloc, &self.places, &self.near);
         match self.reduction.look::<F, _>(alloc, &mut source)? {
             Some(found) => Ok(Some(ColumnLook {
                 version,

@@ -1,9 +1,7 @@
 use Rattle.std.proofs.Common.{◌≡◌, ◌<◌, ◌∙◌, ℤ, pos, ◌+ℤ◌, ◌≤ℤ◌, length, map, ap, sym, subst, arith, w16}
-use Rattle.std.specs.List.{Contains}
 use Rattle.std.proofs.lemmas.Int.{ints, to_z-of_z}
 use Rattle.kh_types.specs.Generators.{states}
 use Rattle.kh_types.specs.History.{first_or_zero, homological_degrees}
-use Rattle.cube_signs.specs.Blocks.{block_degrees}
 use Rattle.cube_signs.specs.Columns.{generators_from}
 use Rattle.cube_signs.specs.Tables.{own_base}
 use Rattle.cube_signs.proofs.BlockSources.{names-block, opening-block}

@@ -1,4 +1,4 @@
-use Rattle.std.proofs.Common.{◌≡◌, ◌∙◌, ◌+◌, ◌/◌, ◌≤◌, ℤ, length, ap, sym, subst, arith, to_z, of_z, w16, vec_capacity}
+use Rattle.std.proofs.Common.{◌≡◌, ◌∙◌, ap, sym, subst, arith, to_z, of_z, w16}
 use Rattle.std.proofs.lemmas.Int.{ints}
 use Rattle.kh_types.specs.Code.{Code}
 use Rattle.kh_types.specs.History.{IsLegal, replay}

@@ -3,7 +3,7 @@ use Rattle.std.specs.Option.{IfSome}
 use Rattle.std.specs.Prelude.{Option}
 use Rattle.kh_types.specs.Code.{Code}
 use Rattle.kh_types.specs.Complex.{IsPivot}
-use Rattle.kh_types.specs.History.{block, replay}
+use Rattle.kh_types.specs.History.{replay}
 use Rattle.cube_signs.specs.Blocks.{named_block}
 use Rattle.cube_signs.specs.OpeningBlocks.{AreBlockPlaces, IsAround}
 use Rattle.column_reduction.specs.UnderWay.{IsFound, pivot_of}

@@ -1,4 +1,4 @@
-use Rattle.std.proofs.Common.{◌≡◌, sym, subst}
+use Rattle.std.proofs.Common.{sym, subst}
 use Rattle.kh_types.specs.History.{block}
 use Rattle.cube_signs.specs.OpeningBlocks.{IsAround}
 use Rattle.column_reduction.specs.UnderWay.{IsFound}
