@@ -21,6 +21,7 @@ IsSeamAlong way seam = IsSeamOf way.from.now.partners way.over.now.partners way.
 abbrev pub IsKeptSeam : KeptSeam → Type 0
 IsKeptSeam kept = IsSeamOf kept.from.partners kept.over.partners kept.to.partners kept.seam
 
+-- all seams of a list lead along the pairings that they are kept with
 abbrev pub AreKeptSeams : List KeptSeam → Type 0
 AreKeptSeams list = All IsKeptSeam list
 

@@ -20,6 +20,7 @@ IsKeptProduct p seam product = IsProduct p seam product.dots product.others prod
 abbrev pub AreProductsOver : ℕ → Seam → List Product → Type 0
 AreProductsOver p seam made = All (IsKeptProduct p seam) made
 
+-- so are those that a store has, over its own number of elements
 abbrev pub AreProducts : Seam → Products → Type 0
 AreProducts seam products = AreProductsOver products.elements seam products.made.items
 
