@@ -37,3 +37,4 @@ pub mod PlaceLemmas
 pub mod LivePlaces
 pub mod ComesLemmas
 pub mod FindPivot
+pub mod LastLemmas

@@ -1,5 +1,6 @@
 -- Complexes before any cancellation, with names for their places.
-use Rattle.std.specs.Prelude.{◌≡◌, ℕ, ◌<◌, ◌^◌, ℤ, pos, ◌+ℤ◌, ◌≤ℤ◌, List, length, map, All}
+use Rattle.std.specs.Prelude.{◌≡◌, ℕ, ◌<◌, ◌^◌, ℤ, pos, ◌+ℤ◌, ◌≤ℤ◌, List, length, map, Option, None, All}
+use Rattle.std.specs.List.{last_or}
 use Rattle.kh_types.specs.Complex.{Complex, IsComplex, entry_of}
 use Rattle.sparse_block.specs.Complexes.{NamedComplex, all_alive, place_count}
 use Rattle.sparse_block.specs.Entries.{Entry, AreEntries, value_at}
@@ -17,3 +18,9 @@ pub record IsOpening (p : ℕ) (named : NamedComplex) : Type 0 where
 pub record IsColumnOf (p : ℕ) (complex : Complex) (i : ℤ) (column : ℕ) (entries : List Entry) : Type 0 where
   pub are : AreEntries p (place_count complex (i +ℤ pos 1)) entries
   pub values : (row : ℕ) → value_at entries row ≡ entry_of complex i row column
+
+-- the last entry of a column of the matrix out of degree i, which is that of the greatest row; none where it has no entry
+pub record IsLastEntry (p : ℕ) (complex : Complex) (i : ℤ) (column : ℕ) (last : Option Entry) : Type 0 where
+  pub entries : List Entry
+  pub are : IsColumnOf p complex i column entries
+  pub is : last ≡ last_or None entries

@@ -1,6 +1,7 @@
 //! A complex before any cancellation, by its columns alone.
 
 ghost use Rattle.std.specs.Prelude.{◌≡◌, ℕ, ◌<◌, ◌^◌, pos, ◌+ℤ◌, ◌≤ℤ◌, length, map, All, IfOk};
+ghost use Rattle.std.specs.List.{last_or};
 ghost use Rattle.sparse_block.specs.Complexes.{sparse_complex};
 ghost use Rattle.sparse_block.specs.Complexes.{HaveEntries, MakeComplex, SquaresToZero};
 ghost use Rattle.sparse_block.specs.Inside.{lines_in, lists_in};
@@ -123,6 +124,21 @@ impl<F: PrimeField> ColumnSource<F> for ColumnComplex<F> {
         column.extend_from_slice(self.columns[k][place].as_slice())?;
         Ok(())
     }
+
+    fn last_entry(&mut self, k: usize, place: usize) -> Result<Option<Entry>, NoMemory> {
+        element_laws::<F>();
+        Ok(last_of(self.columns[k][place].as_slice()))
+    }
+}
+
+/// The last of some entries.
+fn last_of(entries: &[Entry]) -> Option<Entry>
+    ensures { result ≡ last_or None entries.now }
+{
+    if entries.is_empty() {
+        return None;
+    }
+    Some(entries[entries.len() - 1])
 }
 
 impl<F: PrimeField> OwnedSource<F> for ColumnComplex<F> {

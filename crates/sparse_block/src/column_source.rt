@@ -1,9 +1,9 @@
 //! Complexes whose columns are made one at a time, when their turn comes.
 
-ghost use Rattle.std.specs.Prelude.{◌≡◌, ◌<◌, pos, ◌+ℤ◌, [], length, slice_index_or, OnOk};
+ghost use Rattle.std.specs.Prelude.{◌≡◌, ◌<◌, pos, ◌+ℤ◌, [], length, slice_index_or, IfOk, OnOk};
 ghost use Rattle.sparse_block.specs.Complexes.{NamedComplex};
 ghost use Rattle.sparse_block.specs.Inside.{lists_in};
-ghost use Rattle.sparse_block.specs.Opening.{IsColumnOf, IsOpening};
+ghost use Rattle.sparse_block.specs.Opening.{IsColumnOf, IsLastEntry, IsOpening};
 
 use crate::{Entry, Generator};
 use kh_types::NoMemory;
@@ -36,6 +36,15 @@ pub trait ColumnSource<F: PrimeField>: Drop {
         ensures same { self.new ≡ self.old }
         ensures column { OnOk result (IsColumnOf F.P (whole self.old).complex
             ((whole self.old).complex.low +ℤ pos k) place column.new.items) };
+
+    /// The last entry of a column out of degree number `k`, by its place; none where the column has
+    /// no entry. It takes less time than the whole column.
+    fn last_entry(&mut self, k: usize, place: usize) -> Result<Option<Entry>, NoMemory>
+        requires degree { k < length (whole self.old).names }
+        requires place { place < length (slice_index_or (whole self.old).names k []) }
+        ensures same { self.new ≡ self.old }
+        ensures last { IfOk result (IsLastEntry F.P (whole self.old).complex
+            ((whole self.old).complex.low +ℤ pos k) place) };
 }
 
 /// A source that has the names of its places for itself.
