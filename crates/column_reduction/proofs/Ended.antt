@@ -18,7 +18,7 @@ use Rattle.sparse_block.proofs.BuildLemmas.{sizes-all_alive}
 use Rattle.sparse_block.proofs.DegreeLemmas.{length-at}
 use Rattle.sparse_block.proofs.HistoryLemmas.{complex-replay, low-replay}
 use Rattle.sparse_block.specs.Complexes.{live_places}
-use Rattle.column_reduction.specs.StoredColumns.{alive_in}
+use Rattle.column_reduction.specs.StoredColumns.{alive_in, full_columns}
 use Rattle.column_reduction.specs.declared.under_way.ColumnReduction.{ColumnReduction}
 use Rattle.column_reduction.specs.UnderWay.{IsFreshTable, IsReductionOf, IsUnderWay}
 use Rattle.column_reduction.proofs.Onward.{under_way-first, under_way-legal}
@@ -94,8 +94,9 @@ started p named made field opening all number next table none enough =
     λ k. places-left p named field opening alive [] marks k ∙ sym (places-opening p named field opening k) in
     let size : length alive ≡ length made.alive.items = length-map made.alive.items (λ (degree : Vec Bool). degree.items) in
     let first : IsUnderWay p complex 0 0 [] [] = under_way-first p complex is in
-    let way : IsUnderWay p complex made.number made.next made.stored.columns.items made.history.items =
-    rw (number, next, table.empty, none) first in
+    let empty : full_columns complex made.number made.stored.columns.items ≡ [] = ap (full_columns complex made.number) table.empty in
+    let way : IsUnderWay p complex made.number made.next (full_columns complex made.number made.stored.columns.items) made.history.items =
+    rw (empty, number, next, none) first in
     let at : complex.low +ℤ pos made.number ≡ complex.low +ℤ pos 0 = ap (λ (n : ℕ). complex.low +ℤ pos n) number in
     let after : complex.low +ℤ pos (made.number + 1) ≡ complex.low +ℤ pos 1 = ap (λ (n : ℕ). complex.low +ℤ pos (n + 1)) number in
     record {
@@ -105,7 +106,7 @@ started p named made field opening all number next table none enough =
       here = rw (number, none) (omega (arith, ints));
       number = omega (arith, number, size, degrees-left p named field opening alive [] marks, opening.some);
       alive_is = rw none marks;
-      are_stored = rw table.empty (table.none p);
+      are_stored = rw empty (table.none p);
       height = table.height ∙ count 1 ∙ ap (place_count complex) (sym after);
       count = omega (arith, ap length table.empty);
       within = omega (arith, next);
@@ -122,7 +123,8 @@ started p named made field opening all number next table none enough =
 -- behind the last column
 module _ (p : ℕ) (complex : Complex) (field : IsField p) (held : ColumnReduction) (of : IsReductionOf p complex held) where
   pub legal-held : IsLegal p complex held.history.items
-  legal-held = under_way-legal p complex field of.is held.number held.next held.stored.columns.items held.history.items of.way
+  legal-held = under_way-legal p complex field of.is held.number held.next (full_columns complex held.number held.stored.columns.items) held.history.items
+      of.way
 
   -- where nothing is left, what is left is made anew
   pub zero-held : is_zero (replay p complex held.history.items) ≡ true

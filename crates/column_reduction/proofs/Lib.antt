@@ -13,6 +13,7 @@ pub mod Stored
 pub mod LastEntries
 pub mod Taking
 pub mod Storing
+pub mod FullColumns
 pub mod FirstReduced
 pub mod Marks
 pub mod ReducedTo

@@ -1,8 +1,9 @@
 -- What a look at a reduction under way comes to. Of the columns of the degree under way, from the next one on, the stored columns leave
 -- nothing, up to one of which they leave something; or they leave nothing of any, and the degree is done. Then the columns of the next
 -- degree, of which none is stored yet, either have no entry, or one has.
-use Rattle.std.proofs.Common.{◌≡◌, ◌≢◌, ℕ, zero, suc, ◌+◌, ◌<◌, ◌≤◌, ◌∙◌, inl, inr, List, [], ◌∷◌, ℤ, pos, ◌+ℤ◌, ◌-ℤ◌, length, refl, ap, sym, subst, arith, Bool, true, false, Result, Ok, Err}
+use Rattle.std.proofs.Common.{◌≡◌, ◌≢◌, ℕ, zero, suc, ◌+◌, ◌<◌, ◌≤◌, ◌∙◌, inl, inr, List, [], ℤ, pos, ◌+ℤ◌, ◌-ℤ◌, length, refl, ap, sym, subst, arith, Bool, true, false, Result, Ok, Err}
 use Rattle.std.specs.Prelude.{slice_index_or, if◌then◌else◌, Option, Some, None, IfOk, IfSome, IfNone}
+use Rattle.std.specs.Option.{is_some}
 use Rattle.std.proofs.lemmas.Bool.Decides.{eqb_tells}
 use Rattle.std.proofs.lemmas.Int.{ints}
 use Rattle.std.proofs.lemmas.List.{length-map}
@@ -13,7 +14,7 @@ use Rattle.sparse_block.specs.Complexes.{place_count}
 use Rattle.sparse_block.specs.Entries.{Entry, AreEntries, value_at}
 use Rattle.sparse_block.proofs.HistoryLemmas.{degrees-replay, low-replay, places-replay}
 use Rattle.column_reduction.specs.Reductions.{IsLeftOf, column_numbers}
-use Rattle.column_reduction.specs.StoredColumns.{IsLiveColumn, IsReducedLine, StoredColumn, alive_in, last_place, reduced_columns, stored_column}
+use Rattle.column_reduction.specs.StoredColumns.{IsLeftOfColumn, IsLiveColumn, IsReducedLine, StoredColumn, alive_in, full_column, full_columns, last_place, reduced_columns}
 use Rattle.column_reduction.specs.declared.stored_column.StoredColumns.{StoredColumns}
 use Rattle.column_reduction.specs.declared.under_way.FoundColumn.{FoundColumn}
 use Rattle.column_reduction.specs.UnderWay.{AllLeaveNone, IsFirstFrom, IsFirstLeft, IsFound, IsFreshTable, IsNext, IsUnderWay, LeaveNone, last_degree, live_numbers}
@@ -46,35 +47,40 @@ left-number p size column complex i alive stored line left live reduced =
     (λ row. sym (live.values row)) reduced.left
 
 -- where they leave nothing
-pub left-nothing : (p size column from : ℕ) (complex : Complex) (i : ℤ) (alive : List Bool) (stored : List StoredColumn)
-    (line left : List Entry) → LeaveNone p complex i alive stored from column
-    → IsLiveColumn p complex i (slice_index_or alive column false) column line → IsReducedLine p size stored line left → length left ≡ 0
-    → LeaveNone p complex i alive stored from (column + 1)
-left-nothing p size column from complex i alive stored line left before live reduced none =
-    leave-more p column from complex i alive stored before
-    (subst (λ (left : List Entry). IsLeftOf p (reduced_columns stored) (live_numbers complex i alive column) (value_at left))
-    (none-length left none) (left-number p size column complex i alive stored line left live reduced))
+pub leave-left : (p k column from : ℕ) (complex : Complex) (alive : List Bool) (stored : List StoredColumn) (found : Option StoredColumn)
+    → IsLeftOfColumn p complex k (slice_index_or alive column false) column stored found → is_some found ≡ false
+    → LeaveNone p complex (complex.low +ℤ pos k) alive (full_columns complex k stored) from column
+    → LeaveNone p complex (complex.low +ℤ pos k) alive (full_columns complex k stored) from (column + 1)
+leave-left p k column from complex alive stored (Some found) left none before = absurd (clash none)
   where
-    none-length : (es : List Entry) → length es ≡ 0 → es ≡ []
-    none-length [] none = refl
-    none-length (e ∷ es) none = absurd (omega (arith, none))
+    clash : true ≡ false → ⊥
+    clash is = cc
+leave-left p k column from complex alive stored None left none before =
+    let i = complex.low +ℤ pos k in
+    let full = full_columns complex k stored in
+    leave-more p column from complex i alive full before
+    (subst (λ (left : List Entry). IsLeftOf p (reduced_columns full) (live_numbers complex i alive column) (value_at left)) left.kept
+    (left-number p (place_count complex (i +ℤ pos 1)) column complex i alive full left.line left.left left.live left.reduced))
 
--- and where they leave something
-pub left-first : (p size column from : ℕ) (complex : Complex) (i : ℤ) (alive : List Bool) (stored : List StoredColumn)
-    (line left : List Entry) (found : StoredColumn) → LeaveNone p complex i alive stored from column → from ≤ column → column < length alive
-    → size ≡ place_count complex (i +ℤ pos 1) → IsLiveColumn p complex i (slice_index_or alive column false) column line
-    → IsReducedLine p size stored line left → left ≢ [] → found ≡ stored_column column (last_place left) left
-    → IsFirstLeft p complex i alive stored from found
-left-first p size column from complex i alive stored line left found before later within height live reduced some is_found =
-    subst (IsFirstLeft p complex i alive stored from) (sym is_found)
+-- where they leave something
+pub first-left : (p k column from : ℕ) (complex : Complex) (alive : List Bool) (stored : List StoredColumn) (found : Option StoredColumn)
+    → IsLeftOfColumn p complex k (slice_index_or alive column false) column stored found
+    → LeaveNone p complex (complex.low +ℤ pos k) alive (full_columns complex k stored) from column → from ≤ column → column < length alive
+    → IfSome found (λ line.
+    IsFirstLeft p complex (complex.low +ℤ pos k) alive (full_columns complex k stored) from (full_column complex k line))
+first-left p k column from complex alive stored None left before later within = tt
+first-left p k column from complex alive stored (Some line) left before later within =
+    let i = complex.low +ℤ pos k in
+    let full = full_columns complex k stored in
+    subst (IsFirstLeft p complex i alive full from) (sym left.kept.1)
     (record {
       later = later;
       within = within;
       before = before;
-      entries = subst (λ (n : ℕ). AreEntries p n left) height reduced.entries;
-      some = some;
-      left = left-number p size column complex i alive stored line left live reduced;
-      free = reduced.free;
+      entries = left.reduced.entries;
+      some = left.kept.0;
+      left = left-number p (place_count complex (i +ℤ pos 1)) column complex i alive full left.line left.left left.live left.reduced;
+      free = left.reduced.free;
       row_is = refl;
     })
 
@@ -202,12 +208,13 @@ module _ (p : ℕ) (complex : Complex) (field : IsField p) (is : IsComplex p com
       (here : (complex.low +ℤ pos k) ≡ last_degree complex.low history) (within : next ≤ place_count complex (complex.low +ℤ pos k)) where
     -- a column of the degree under way
     pub found-here : (found : FoundColumn)
-        → IsFirstLeft p complex (complex.low +ℤ pos k) (slice_index_or alive k []) stored next found.line
+        → IsFirstLeft p complex (complex.low +ℤ pos k) (slice_index_or alive k []) stored next (full_column complex k found.line)
         → found.number ≡ k → found.degree ≡ complex.low +ℤ pos k → found.fresh ≡ None → IsFound p complex history found
     found-here found first number degree fresh =
         record {
           degree_is = degree ∙ ap (λ (n : ℕ). complex.low +ℤ pos n) (sym number);
-          next = subst (λ (n : ℕ). IsNext p complex history n found.line) (sym number) (next-found k next stored found.line way first);
+          next = subst (λ (n : ℕ). IsNext p complex history n (full_column complex n found.line)) (sym number)
+              (next-found k next stored (full_column complex k found.line) way first);
           here = subst (λ (fresh : Option StoredColumns). IfNone fresh (found.degree ≡ last_degree complex.low history)) (sym fresh)
               (degree ∙ here);
           above = subst (λ (fresh : Option StoredColumns). IfSome fresh (λ table. (found.degree ≢ last_degree complex.low history)
@@ -230,7 +237,7 @@ module _ (p : ℕ) (complex : Complex) (field : IsField p) (is : IsComplex p com
           omega (arith, ints, equal, made.degree_is, made.later) in
           record {
             degree_is = made.degree_is;
-            next = next-found m 0 [] found.line found_way made.first;
+            next = next-found m 0 [] (full_column complex m found.line) found_way made.first;
             here = parts.0;
             above = parts.1 other;
           }
@@ -270,7 +277,7 @@ pub found-open : (p : ℕ) (complex : Complex) (history : List Pivot) (found : F
     → IsFound p complex history found → is_zero (replay p complex history) ≡ true → ⊥
 found-open p complex history found field is is_found none =
     let next = is_found.next in
-    let line = found.line in
+    let line = full_column complex found.number found.line in
     let pivot = is-pivot p complex field is found.number line.column next.stored history next.under_way line next in
     pivot (entry-from (replay p complex history) none ((complex.low +ℤ pos found.number) -ℤ (replay p complex history).low)
     (last_place line.entries) line.column)

@@ -1,6 +1,6 @@
 -- The owners of rows: which stored column ends where a line ends, and how one column more is stored.
-use Rattle.std.proofs.Common.{◌≡◌, ◌≢◌, ℕ, ◌+◌, ◌<◌, ◌∙◌, inl, inr, List, [], ◌∷◌, ◌++◌, length, get_or, set, refl, ap, sym, subst, arith, false, ◌||◌, Result, Ok, Err}
-use Rattle.std.specs.Prelude.{Option, Some, None, IfSome, OnOk, nat_eq, slice_index_or, All}
+use Rattle.std.proofs.Common.{◌≡◌, ◌≢◌, ℕ, ◌+◌, ◌<◌, ◌∙◌, inl, inr, List, [], ◌∷◌, ◌++◌, length, get_or, set, refl, ap, sym, subst, arith, false, ◌||◌}
+use Rattle.std.specs.Prelude.{Option, Some, None, nat_eq, slice_index_or, All}
 use Rattle.std.proofs.Math.ListN.{get_or-append}
 use Rattle.std.proofs.Math.Seq.{get_or-append_seam}
 use Rattle.std.proofs.lemmas.Bool.Decides.{eqb_tells}
@@ -11,30 +11,44 @@ use Rattle.kh_types.proofs.Lists.{AllByRecursion-append}
 use Rattle.prime_field.specs.Residues.{IsField}
 use Rattle.sparse_block.specs.Entries.{Entry, AreEntries, value_at}
 use Rattle.column_reduction.specs.Reductions.{AreReducedColumns, EndsAt, IsReducedColumn, is_last_row}
-use Rattle.column_reduction.specs.StoredColumns.{AreStored, IsFree, StoredColumn, last_place, no_column, reduced_column, reduced_columns, stored_column}
+use Rattle.column_reduction.specs.StoredColumns.{AreStored, IsFree, StoredColumn, last_place, no_column, owner_in, reduced_column, reduced_columns, stored_column, stored_with}
 use Rattle.column_reduction.proofs.Combinations.{apart-push, is_last_row-append}
-use Rattle.column_reduction.proofs.LastEntries.{ends-last_place, ends-once, last_place-within}
+use Rattle.column_reduction.proofs.LastEntries.{ends-last_place, last_place-ends, last_place-within, some-ends}
 use Rattle.column_reduction.proofs.Stored.{stored-below}
 
-module _ (p q row : ℕ) (stored : List StoredColumn) (owners : List (Option ℕ)) (line : List Entry) (are : AreStored p stored owners)
-    (entries : AreEntries q (length owners) line) (some : line ≢ []) (last : row ≡ last_place line) where
-  ends : EndsAt row (value_at line)
-  ends = subst (λ (n : ℕ). EndsAt n (value_at line)) (sym last) (ends-last_place q (length owners) line entries some)
+-- the owner of the row where a line with an entry ends
+pub owner-at : (owners : List (Option ℕ)) (line : List Entry) → line ≢ []
+    → owner_in owners line ≡ slice_index_or owners (last_place line) None
+owner-at owners [] some = absurd (some refl)
+owner-at owners (first ∷ rest) some = refl
 
-  pub owner-found : (found : Option ℕ) → found ≡ slice_index_or owners row None
-      → IfSome found (λ number. (number < length stored) × EndsAt (get_or stored number no_column).row (value_at line))
-  owner-found None is = tt
-  owner-found (Some number) is =
-      let own = are.some row number (sym is) in (
+module _ (p q : ℕ) (stored : List StoredColumn) (owners : List (Option ℕ)) (are : AreStored p stored owners) where
+  -- it ends there
+  pub owner-ends : (line : List Entry) (number : ℕ) → AreEntries q (length owners) line → owner_in owners line ≡ Some number
+      → (number < length stored) × EndsAt (get_or stored number no_column).row (value_at line)
+  owner-ends [] number entries is = absurd (clash number is)
+    where
+      clash : (n : ℕ) → None ≡ Some n → ⊥
+      clash n is = cc
+  owner-ends (first ∷ rest) number entries is =
+      let own = are.some (last_place (first ∷ rest)) number is in (
         own.0,
-        subst (λ (n : ℕ). EndsAt n (value_at line)) (sym own.1) ends,
+        subst (λ (n : ℕ). EndsAt n (value_at (first ∷ rest))) (sym own.1)
+            (ends-last_place q (length owners) (first ∷ rest) entries (λ empty. some first rest empty)),
       )
+    where
+      some : (first : Entry) (rest : List Entry) → first ∷ rest ≡ [] → ⊥
+      some first rest empty = cc
 
-  pub owner-none : (found : Option ℕ) → found ≡ slice_index_or owners row None → found ≡ None → IsFree (reduced_columns stored) (value_at line)
-  owner-none found is none other other_ends =
-      let within : row < length owners = omega (arith, last, last_place-within q (length owners) line entries some) in
-      ap (λ (n : ℕ). is_last_row n (reduced_columns stored)) (ends-once other row (value_at line) other_ends ends)
-      ∙ are.none row within (sym is ∙ none)
+  -- where there is none, no stored column does
+  pub owner-free : (line : List Entry) → AreEntries q (length owners) line → owner_in owners line ≡ None
+      → IsFree (reduced_columns stored) (value_at line)
+  owner-free [] entries is row ends = absurd (ends.other refl)
+  owner-free (first ∷ rest) entries is row ends =
+      let line = first ∷ rest in
+      let same : last_place line ≡ row = last_place-ends q (length owners) row line entries ends in
+      ap (λ (n : ℕ). is_last_row n (reduced_columns stored)) (sym same)
+      ∙ are.none (last_place line) (last_place-within q (length owners) line entries (some-ends row line ends)) is
 
 -- one stored column more
 module _ (p column row : ℕ) (stored : List StoredColumn) (owners : List (Option ℕ)) (left : List Entry) (field : IsField p)
@@ -118,14 +132,8 @@ module _ (p column row : ℕ) (stored : List StoredColumn) (owners : List (Optio
         some = owned;
       }
 
--- where there may be no memory for it
-pub stored-try : {T E : Type 0} (row column : ℕ) (stored stored_after : List StoredColumn) (owners owners_after : List (Option ℕ))
-    (left : List Entry) (result : Result T E) → left ≢ [] → row ≡ last_place left
-    → OnOk result (stored_after ≡ stored ++ stored_column column row left ∷ [])
-    → OnOk result (owners_after ≡ set owners row (Some (length stored)))
-    → OnOk result ((p : ℕ) → IsField p → AreStored p stored owners → AreEntries p (length owners) left
-    → IsFree (reduced_columns stored) (value_at left) → AreStored p stored_after owners_after)
-stored-try row column stored stored_after owners owners_after left (Ok done) some last columns_are owners_are =
-    λ p field are entries free.
-    rw (columns_are, owners_are) (stored-pushed p column row stored owners left field are entries some last free)
-stored-try row column stored stored_after owners owners_after left (Err stop) some last columns_are owners_are = tt
+-- where something is left
+pub stored_with-some : (column : ℕ) (stored : List StoredColumn) (left : List Entry) → left ≢ []
+    → stored_with stored column left ≡ stored ++ stored_column column (last_place left) left ∷ []
+stored_with-some column stored [] some = absurd (some refl)
+stored_with-some column stored (first ∷ rest) some = refl

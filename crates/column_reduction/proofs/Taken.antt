@@ -4,7 +4,7 @@ use Rattle.std.specs.Prelude.{slice_index_or, Option, Some, None, IfNone, IfSome
 use Rattle.std.specs.Global.{Vec}
 use Rattle.std.proofs.lemmas.Bool.Decides.{leb_tells}
 use Rattle.std.proofs.lemmas.Int.{ints}
-use Rattle.std.proofs.lemmas.List.{get_or_past, length-append, length-map, length-set}
+use Rattle.std.proofs.lemmas.List.{get_or_past, length-append, length-map, length-set, map_push}
 use Rattle.kh_types.specs.Complex.{Complex, IsPivot, Pivot, pivot_at}
 use Rattle.kh_types.specs.History.{replay}
 use Rattle.prime_field.specs.Residues.{IsField}
@@ -15,7 +15,7 @@ use Rattle.sparse_block.specs.Inside.{lists_in}
 use Rattle.sparse_block.proofs.HistoryLemmas.{complex-replay, low-replay, replay-push}
 use Rattle.sparse_block.specs.Complexes.{live_places}
 use Rattle.sparse_block.proofs.LivePlaces.{live_places-cancel}
-use Rattle.column_reduction.specs.StoredColumns.{AreStored, StoredColumn, alive_in, last_place, stored_column}
+use Rattle.column_reduction.specs.StoredColumns.{AreStored, StoredColumn, alive_in, full_column, full_columns, last_place, stored_column}
 use Rattle.column_reduction.specs.declared.stored_column.StoredColumns.{StoredColumns}
 use Rattle.column_reduction.specs.declared.under_way.ColumnReduction.{ColumnReduction}
 use Rattle.column_reduction.specs.declared.under_way.FoundColumn.{FoundColumn}
@@ -30,12 +30,12 @@ use Rattle.column_reduction.proofs.Storing.{stored-pushed}
 -- a reduction whose history this is, and a table, are ready to take a column of degree number k
 pub record IsReady (p : ℕ) (complex : Complex) (k : ℕ) (table : StoredColumns) (history : List Pivot) (line : StoredColumn) : Type 0 where
   pub count : ℕ
-  pub way : IsUnderWay p complex k count table.columns.items history
-  pub are_stored : AreStored p table.columns.items table.owners.items
+  pub way : IsUnderWay p complex k count (full_columns complex k table.columns.items) history
+  pub are_stored : AreStored p (full_columns complex k table.columns.items) table.owners.items
   pub height : length table.owners.items ≡ place_count complex (complex.low +ℤ pos (k + 1))
   pub room_is : place_count complex (complex.low +ℤ pos k) ≤ vec_capacity table.columns
   pub few : length table.columns.items ≤ line.column
-  pub next : IsNext p complex history k line
+  pub next : IsNext p complex history k (full_column complex k line)
 
 -- half of what is two less is one less
 half-less : (x y : ℕ) → x + 2 ≡ y → x / 2 + 1 ≡ y / 2
@@ -59,14 +59,16 @@ module _ (p : ℕ) (complex : Complex) (field : IsField p) (held : ColumnReducti
       → IsReady p complex found.number held.stored held.history.items found.line
   ready-here same_degree =
       let same : held.number ≡ k = omega (arith, ints, of.here, is_found.degree_is, same_degree) in
-      let way : IsUnderWay p complex k held.next held.stored.columns.items history =
-      subst (λ (k : ℕ). IsUnderWay p complex k held.next held.stored.columns.items history) same of.way in
+      let way : IsUnderWay p complex k held.next (full_columns complex k held.stored.columns.items) history =
+      subst (λ (k : ℕ). IsUnderWay p complex k held.next (full_columns complex k held.stored.columns.items) history) same of.way in
       let later : held.next ≤ line.column =
-      not_earlier p complex field of.is k held.next held.stored.columns.items history way line is_found.next in
+      not_earlier p complex field of.is k held.next (full_columns complex k held.stored.columns.items) history way (full_column complex k line)
+      is_found.next in
       record {
         count = held.next;
         way = way;
-        are_stored = of.are_stored;
+        are_stored = subst (λ (k : ℕ). AreStored p (full_columns complex k held.stored.columns.items) held.stored.owners.items) same
+            of.are_stored;
         height = subst (λ (k : ℕ). length held.stored.owners.items ≡ place_count complex (complex.low +ℤ pos (k + 1))) same of.height;
         room_is = subst (λ (k : ℕ). place_count complex (complex.low +ℤ pos k) ≤ vec_capacity held.stored.columns) same of.room_is;
         few = omega (arith, of.count, later);
@@ -81,11 +83,12 @@ module _ (p : ℕ) (complex : Complex) (field : IsField p) (held : ColumnReducti
       let none : next.stored ≡ [] =
       fresh-none complex.low i next.under_way.earlier next.stored
       (λ same. other (is_found.degree_is ∙ same ∙ ap (last_degree complex.low) (sym next.under_way.listed))) in
-      let empty : next.stored ≡ table.columns.items = none ∙ sym fresh.empty in
+      let nothing : full_columns complex k table.columns.items ≡ [] = ap (full_columns complex k) fresh.empty in
+      let empty : next.stored ≡ full_columns complex k table.columns.items = none ∙ sym nothing in
       record {
         count = line.column;
         way = subst (λ (stored : List StoredColumn). IsUnderWay p complex k line.column stored history) empty next.under_way;
-        are_stored = subst (λ (stored : List StoredColumn). AreStored p stored table.owners.items) (sym fresh.empty) (fresh.none p);
+        are_stored = subst (λ (stored : List StoredColumn). AreStored p stored table.owners.items) (sym nothing) (fresh.none p);
         height = fresh.height;
         room_is = fresh.room_is;
         few = omega (arith, ap length fresh.empty);
@@ -128,24 +131,32 @@ module _ (p : ℕ) (complex : Complex) (field : IsField p) (held : ColumnReducti
       let next = is_found.next in
       subst (IsPivot (replay p complex history)) (sym kept_pivot)
       (subst (λ (row : ℕ). IsPivot (replay p complex history) (pivot_at i line.column row)) (sym next.row_is)
-      (is-pivot p complex field of.is k line.column next.stored history next.under_way line next))
+      (is-pivot p complex field of.is k line.column next.stored history next.under_way (full_column complex k line) next))
 
   falls : live_places (replay p complex (held.history.items ++ pivot_of found ∷ [])) + 2 ≡ live_places (replay p complex held.history.items)
   falls =
       ap (λ (made : Complex). live_places made + 2) (replay-push p complex history (pivot_of found))
       ∙ live_places-cancel p (replay p complex history) (pivot_of found)
       (complex-replay p complex history field of.is
-      (under_way-legal p complex field of.is held.number held.next held.stored.columns.items history of.way)) is_pivot-found
+      (under_way-legal p complex field of.is held.number held.next (full_columns complex held.number held.stored.columns.items) history of.way))
+      is_pivot-found
 
   pub room-history : length held.history.items < vec_capacity held.history
   room-history = omega (arith, of.spare, half-less _ _ falls)
 
   module _ (table : StoredColumns) (now : IsReady p complex found.number table held.history.items found.line) where
-    row_entries : AreEntries p (length table.owners.items) found.line.entries
-    row_entries = subst (λ (n : ℕ). AreEntries p n line.entries) (sym now.height) now.next.entries
+    -- the column that is taken, and those of the table, with all their entries
+    abbrev full : StoredColumn
+    full = full_column complex k line
+
+    abbrev stored : List StoredColumn
+    stored = full_columns complex k table.columns.items
+
+    row_entries : AreEntries p (length table.owners.items) (full_column complex found.number found.line).entries
+    row_entries = subst (λ (n : ℕ). AreEntries p n full.entries) (sym now.height) now.next.entries
 
     pub row-ready : found.line.row < length table.owners.items
-    row-ready = omega (arith, now.next.row_is, last_place-within p (length table.owners.items) line.entries row_entries now.next.some)
+    row-ready = omega (arith, now.next.row_is, last_place-within p (length table.owners.items) full.entries row_entries now.next.some)
 
     pub few-ready : length table.columns.items < 2 ^ 32
     few-ready = omega (arith, now.few, now.next.within, of.few k)
@@ -166,32 +177,42 @@ module _ (p : ℕ) (complex : Complex) (field : IsField p) (held : ColumnReducti
         let pivot : pivot_of found ≡ pivot_at i line.column line.row = kept_pivot in
         let before = lists_in held.alive.items in
         let first = with_dead k line.column before in
-        let is_line : stored_column line.column (last_place line.entries) line.entries ≡ line =
-        ap (λ (row : ℕ). stored_column line.column row line.entries) (sym now.next.row_is) in
+        let is_line : stored_column line.column (last_place full.entries) full.entries ≡ full =
+        ap (λ (row : ℕ). stored_column line.column row full.entries) (sym now.next.row_is) in
         let low : (replay p complex history).low ≡ complex.low = low-replay p complex history in
         let made : after.history.items ≡ history ++ pivot_at i line.column line.row ∷ [] =
         longer ∙ ap (λ (pivot : Pivot). history ++ pivot ∷ []) pivot in
-        let way : IsUnderWay p complex k (line.column + 1) (table.columns.items ++ line ∷ []) after.history.items =
-        subst (λ (longer : List Pivot). IsUnderWay p complex k (line.column + 1) (table.columns.items ++ line ∷ []) longer) (sym made)
+        let way : IsUnderWay p complex k (line.column + 1) (stored ++ full ∷ []) after.history.items =
+        subst (λ (longer : List Pivot). IsUnderWay p complex k (line.column + 1) (stored ++ full ∷ []) longer) (sym made)
         (subst (λ (row : ℕ). IsUnderWay p complex k (line.column + 1)
-        (table.columns.items ++ stored_column line.column row line.entries ∷ []) (history ++ pivot_at i line.column row ∷ []))
+        (stored ++ stored_column line.column row full.entries ∷ []) (history ++ pivot_at i line.column row ∷ []))
         (sym now.next.row_is)
-        (under_way-pivot p complex field of.is k now.count table.columns.items history now.way line now.next)) in
+        (under_way-pivot p complex field of.is k now.count stored history now.way full now.next)) in
+        let columns_full : full_columns complex k after.stored.columns.items ≡ stored ++ full ∷ [] =
+        ap (full_columns complex k) columns ∙ map_push (full_column complex k) table.columns.items line in
+        let count_full : length stored ≡ length table.columns.items = length-map table.columns.items (full_column complex k) in
         let more : length (table.columns.items ++ line ∷ []) ≡ length table.columns.items + 1 =
         length-append table.columns.items (line ∷ []) in
-        let way_there : IsUnderWay p complex after.number after.next after.stored.columns.items after.history.items =
-        subst (λ (k : ℕ). IsUnderWay p complex k after.next after.stored.columns.items after.history.items) (sym number)
+        let way_there : IsUnderWay p complex after.number after.next (full_columns complex after.number after.stored.columns.items)
+        after.history.items =
+        subst (λ (k : ℕ). IsUnderWay p complex k after.next (full_columns complex k after.stored.columns.items) after.history.items)
+        (sym number)
         (subst₂ (λ (count : ℕ) (stored : List StoredColumn). IsUnderWay p complex k count stored after.history.items) (sym next)
-        (sym columns) way) in
-        let stored_there : AreStored p after.stored.columns.items after.stored.owners.items =
-        subst₂ (AreStored p) (sym columns) (sym owners)
-        (subst (λ (line : StoredColumn). AreStored p (table.columns.items ++ line ∷ [])
-        (set table.owners.items found.line.row (Some (length table.columns.items)))) is_line
-        (subst (λ (row : ℕ). AreStored p (table.columns.items ++ stored_column found.line.column row found.line.entries ∷ [])
-        (set table.owners.items found.line.row (Some (length table.columns.items)))) now.next.row_is
-        (stored-pushed p line.column line.row table.columns.items table.owners.items line.entries field now.are_stored row_entries
+        (sym columns_full) way) in
+        let owners_there : set table.owners.items line.row (Some (length stored)) ≡ after.stored.owners.items =
+        ap (λ (count : ℕ). set table.owners.items line.row (Some count)) count_full ∙ sym owners in
+        let stored_here : AreStored p (full_columns complex k after.stored.columns.items) after.stored.owners.items =
+        subst₂ (AreStored p) (sym columns_full) owners_there
+        (subst (λ (line : StoredColumn). AreStored p (stored ++ line ∷ []) (set table.owners.items found.line.row (Some (length stored))))
+        is_line
+        (subst (λ (row : ℕ). AreStored p (stored ++ stored_column line.column row full.entries ∷ [])
+        (set table.owners.items line.row (Some (length stored)))) now.next.row_is
+        (stored-pushed p line.column line.row stored table.owners.items full.entries field now.are_stored row_entries
         now.next.some now.next.row_is
-        (free-here p complex field of.is k now.count table.columns.items history now.way line now.next)))) in
+        (free-here p complex field of.is k now.count stored history now.way full now.next)))) in
+        let stored_there : AreStored p (full_columns complex after.number after.stored.columns.items) after.stored.owners.items =
+        subst (λ (k : ℕ). AreStored p (full_columns complex k after.stored.columns.items) after.stored.owners.items) (sym number)
+        stored_here in
         record {
           is = of.is;
           few = of.few;

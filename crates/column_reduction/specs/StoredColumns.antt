@@ -1,15 +1,17 @@
 -- Reduced columns as they are stored, each with its entries, and what a search among them finds.
-use Rattle.std.specs.Prelude.{◌≡◌, ℕ, ◌+◌, ◌<◌, ℤ, pos, ◌+ℤ◌, ◌≤ℤ◌, List, [], ◌∷◌, ◌++◌, length, map, get_or, slice_index_or, Option, Some, None, Bool, false, All, if◌then◌else◌}
-use Rattle.std.specs.List.{fold}
+use Rattle.std.specs.Prelude.{◌≡◌, ◌≢◌, ℕ, ◌+◌, ◌<◌, ℤ, pos, ◌+ℤ◌, ◌≤ℤ◌, List, [], ◌∷◌, ◌++◌, length, map, get_or, slice_index_or, Option, Some, None, Bool, false, All, if◌then◌else◌}
+use Rattle.std.specs.List.{fold, range_with_len}
 use Rattle.std.specs.Global.{Vec}
 use Rattle.kh_types.specs.Complex.{Complex, IsComplex, Pivot, entry_of}
 use Rattle.kh_types.specs.History.{IsLegal, replay}
 use Rattle.sparse_block.specs.Clearing.{with_dead}
 use Rattle.sparse_block.specs.Complexes.{place_count}
-use Rattle.sparse_block.specs.Entries.{Entry, AreEntries, value_at}
+use Rattle.sparse_block.specs.Entries.{Entry, AreEntries, entries_of, value_at}
+use Rattle.sparse_block.specs.LinePairs.{factor_at, line_less}
 use Rattle.column_reduction.specs.Reductions.{AreReduced, AreReducedColumns, AreReducedUp, EndsAt, HaveNoEntryBelow, IsLeftOf, ReducedColumn, is_last_row, is_place_alive, pivots_from_greatest, pivots_of}
 
--- a reduced column as it is stored: its number in the matrix, the row of its last entry, and its entries
+-- a reduced column as it is stored: its number in the matrix, the row of its last entry, and its entries; none are kept where they are
+-- those of the matrix's own column
 pub record StoredColumn : Type 0 where
   pub column : ℕ
   pub row : ℕ
@@ -22,6 +24,25 @@ stored_column column row entries = record { column = column; row = row; entries 
 -- column 0 with no entry
 abbrev pub no_column : StoredColumn
 no_column = stored_column 0 0 []
+
+-- the entries of a column of the matrix out of degree i
+abbrev pub own_entries : Complex → ℤ → ℕ → List Entry
+own_entries complex i column =
+    entries_of (map (λ row. entry_of complex i row column) (range_with_len 0 (place_count complex (i +ℤ pos 1))))
+
+-- the entries that are kept, and others where none are
+abbrev pub kept_or : List Entry → List Entry → List Entry
+kept_or [] own = own
+kept_or (first ∷ rest) own = first ∷ rest
+
+-- a stored column of degree number k with all its entries: where none are kept, with those of the matrix's own column
+abbrev pub full_column : Complex → ℕ → StoredColumn → StoredColumn
+full_column complex k stored =
+    stored_column stored.column stored.row (kept_or stored.entries (own_entries complex (complex.low +ℤ pos k) stored.column))
+
+-- stored columns with all their entries
+abbrev pub full_columns : Complex → ℕ → List StoredColumn → List StoredColumn
+full_columns complex k stored = map (full_column complex k) stored
 
 -- the reduced column that is stored
 abbrev pub reduced_column : StoredColumn → ReducedColumn
@@ -54,6 +75,11 @@ abbrev pub end_of : List Entry → ℕ
 end_of [] = 0
 end_of (first ∷ rest) = last_place (first ∷ rest) + 1
 
+-- the owner of the row where a line ends; none where it has no entry
+abbrev pub owner_in : List (Option ℕ) → List Entry → Option ℕ
+owner_in owners [] = None
+owner_in owners (first ∷ rest) = slice_index_or owners (last_place (first ∷ rest)) None
+
 -- a line ends at the last row of no reduced column
 abbrev pub IsFree : List ReducedColumn → (ℕ → ℕ) → Type 0
 IsFree reduced values = (row : ℕ) → EndsAt row values → is_last_row row reduced ≡ false
@@ -73,6 +99,30 @@ stored_with stored column (first ∷ rest) = stored ++ stored_column column (las
 pub record IsLiveColumn (p : ℕ) (complex : Complex) (i : ℤ) (is_alive : Bool) (column : ℕ) (entries : List Entry) : Type 0 where
   pub are : AreEntries p (place_count complex (i +ℤ pos 1)) entries
   pub values : (row : ℕ) → value_at entries row ≡ (if is_alive then entry_of complex i row column else 0)
+
+-- the entries of a line less the multiple of another that makes it 0 at a row
+abbrev pub entries_less : ℕ → ℕ → ℕ → List Entry → List Entry → List Entry
+entries_less p size row line others = entries_of (line_less p size line (factor_at p others line row) others)
+
+-- what is stored of a line, with its entries: nothing where it has none
+abbrev pub IsStoredAs : ℕ → List Entry → Option StoredColumn → Type 0
+IsStoredAs column left None = left ≡ []
+IsStoredAs column left (Some found) = (left ≢ []) × (found ≡ stored_column column (last_place left) left)
+
+-- what is stored of a column is what is left of it: nothing where nothing is
+abbrev pub IsKept : Complex → ℕ → ℕ → List Entry → Option StoredColumn → Type 0
+IsKept complex k column left None = left ≡ []
+IsKept complex k column left (Some found) = (left ≢ []) × (full_column complex k found ≡ stored_column column (last_place left) left)
+
+-- what is stored of a column out of degree number k, or of an empty one where its place is dead: what is left of it as the stored columns
+-- are taken away
+pub record IsLeftOfColumn (p : ℕ) (complex : Complex) (k : ℕ) (is_alive : Bool) (column : ℕ) (stored : List StoredColumn)
+    (found : Option StoredColumn) : Type 0 where
+  pub line : List Entry
+  pub left : List Entry
+  pub live : IsLiveColumn p complex (complex.low +ℤ pos k) is_alive column line
+  pub reduced : IsReducedLine p (place_count complex (complex.low +ℤ pos k +ℤ pos 1)) (full_columns complex k stored) line left
+  pub kept : IsKept complex k column left found
 
 -- the matrix out of degree i has the columns of another complex, but those of dead places are 0
 pub record HasColumns (complex whole : Complex) (i : ℤ) (alive : List Bool) : Type 0 where

@@ -12,7 +12,7 @@ use Rattle.column_reduction.specs.Reductions.{AreReduced, IsLeftOf, column_numbe
 use Rattle.column_reduction.specs.declared.stored_column.StoredColumns.{StoredColumns}
 use Rattle.column_reduction.specs.declared.under_way.ColumnReduction.{ColumnReduction}
 use Rattle.column_reduction.specs.declared.under_way.FoundColumn.{FoundColumn}
-use Rattle.column_reduction.specs.StoredColumns.{AreStored, IsFree, IsReducedTo, StoredColumn, alive_in, last_place, reduced_columns, stored_pivots}
+use Rattle.column_reduction.specs.StoredColumns.{AreStored, IsFree, IsReducedTo, StoredColumn, alive_in, full_column, full_columns, last_place, reduced_columns, stored_pivots}
 
 -- the degree of the last pivot, and another one where there is none
 abbrev pub last_degree : ℤ → List Pivot → ℤ
@@ -55,7 +55,7 @@ pub record IsFreshTable (rows columns : ℕ) (table : StoredColumns) : Type 0 wh
 -- a found column is the next one of its degree: with a fresh table exactly where its degree is not that of the last pivot
 pub record IsFound (p : ℕ) (complex : Complex) (history : List Pivot) (found : FoundColumn) : Type 0 where
   pub degree_is : found.degree ≡ complex.low +ℤ pos found.number
-  pub next : IsNext p complex history found.number found.line
+  pub next : IsNext p complex history found.number (full_column complex found.number found.line)
   pub here : IfNone found.fresh (found.degree ≡ last_degree complex.low history)
   pub above : IfSome found.fresh (λ table. (found.degree ≢ last_degree complex.low history)
       × IsFreshTable (place_count complex (complex.low +ℤ pos (found.number + 1))) (place_count complex (complex.low +ℤ pos found.number))
@@ -75,11 +75,12 @@ history_of held = held.history.items
 pub record IsReductionOf (p : ℕ) (complex : Complex) (held : ColumnReduction) : Type 0 where
   pub is : IsComplex p complex
   pub few : (k : ℕ) → place_count complex (complex.low +ℤ pos k) < 2 ^ 32
-  pub way : IsUnderWay p complex held.number held.next held.stored.columns.items held.history.items
+  pub way : IsUnderWay p complex held.number held.next (full_columns complex held.number held.stored.columns.items)
+      held.history.items
   pub here : (complex.low +ℤ pos held.number) ≡ last_degree complex.low held.history.items
   pub number : held.number < length held.alive.items
   pub alive_is : lists_in held.alive.items ≡ alive_in (replay p complex held.history.items)
-  pub are_stored : AreStored p held.stored.columns.items held.stored.owners.items
+  pub are_stored : AreStored p (full_columns complex held.number held.stored.columns.items) held.stored.owners.items
   pub height : length held.stored.owners.items ≡ place_count complex (complex.low +ℤ pos (held.number + 1))
   pub count : length held.stored.columns.items ≤ held.next
   pub within : held.next ≤ place_count complex (complex.low +ℤ pos held.number)
@@ -118,7 +119,8 @@ pub record IsFirstFrom (p : ℕ) (complex : Complex) (alive : List (List Bool)) 
   pub degree_is : found.degree ≡ complex.low +ℤ pos found.number
   pub later : from ≤ found.number
   pub before : AllLeaveNone p complex alive from found.number
-  pub first : IsFirstLeft p complex (complex.low +ℤ pos found.number) (slice_index_or alive found.number []) [] 0 found.line
+  pub first : IsFirstLeft p complex (complex.low +ℤ pos found.number) (slice_index_or alive found.number []) [] 0
+      (full_column complex found.number found.line)
   pub table : IfSome found.fresh
       (IsFreshTable (length (slice_index_or alive (found.number + 1) [])) (length (slice_index_or alive found.number [])))
   pub none : IfNone found.fresh ⊥

@@ -2,6 +2,7 @@
 #![tactic(auto)]
 
 mod entries;
+mod left_column;
 mod next_column;
 mod reduced_column;
 mod reduced_degree;

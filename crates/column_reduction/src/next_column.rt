@@ -1,29 +1,23 @@
 //! The next column of which something is left, in one degree and in the degrees above it.
 
-ghost use Rattle.std.specs.Prelude.{◌≡◌, ◌≢◌, ◌<◌, ◌^◌, [], pos, ◌+ℤ◌, length, map};
-ghost use Rattle.std.specs.Prelude.{IfNone, IfOk, IfSome, OnOk, slice_index_or};
+ghost use Rattle.std.specs.Prelude.{◌≡◌, ◌<◌, ◌^◌, [], pos, ◌+ℤ◌, length, map};
+ghost use Rattle.std.specs.Prelude.{IfNone, IfOk, IfSome, slice_index_or};
 ghost use Rattle.sparse_block.specs.Complexes.{place_count};
 ghost use Rattle.sparse_block.specs.Inside.{lists_in};
-ghost use Rattle.column_reduction.specs.StoredColumns.{AreStored, IsReducedLine, last_place};
-ghost use Rattle.column_reduction.specs.StoredColumns.{IsLiveColumn, stored_column};
+ghost use Rattle.column_reduction.specs.StoredColumns.{AreStored, full_column, full_columns};
 ghost use Rattle.column_reduction.specs.UnderWay.{AllLeaveNone, IsFirstFrom, IsFirstLeft};
 ghost use Rattle.column_reduction.specs.UnderWay.{IsFreshTable, LeaveNone};
 
-use crate::entries::last_row;
-use crate::reduced_column::{Scratch, reduce_line};
-use crate::reduced_degree::put_live;
+use crate::left_column::left_of_column;
+use crate::reduced_column::Scratch;
 use crate::reducing::{alive_at, degree_at};
 use crate::stored_column::{StoredColumn, StoredColumns};
 use crate::under_way::FoundColumn;
 use kh_types::NoMemory;
 use prime_field::PrimeField;
 use prime_field::laws::element_laws;
-use smallvec::SmallVec;
-use sparse_block::{ColumnSource, Entry};
+use sparse_block::ColumnSource;
 use std::alloc::Global;
-
-/// Room for the entries that few columns go beyond.
-const USUAL_ENTRIES: usize = 64;
 
 /// The first column out of degree number `k`, from one place on, of which the stored columns leave
 /// something: its place, and what they leave.
@@ -39,25 +33,24 @@ pub(crate) fn next_left<F: PrimeField, S: ColumnSource<F>>(
     requires count { length alive.now < 2 ^ 32 }
     requires height { length stored.now.owners.items ≡ place_count (S.whole source.old).complex
         ((S.whole source.old).complex.low +ℤ pos k +ℤ pos 1) }
-    requires stored { AreStored F.P stored.now.columns.items stored.now.owners.items }
+    requires stored { AreStored F.P (full_columns (S.whole source.old).complex k
+        stored.now.columns.items) stored.now.owners.items }
     ensures same { source.new ≡ source.old }
     ensures none { IfOk result (λ seen. IfNone seen (LeaveNone F.P (S.whole source.old).complex
-        ((S.whole source.old).complex.low +ℤ pos k) alive.now stored.now.columns.items from
-        (length alive.now))) }
-    ensures first { IfOk result (λ seen. IfSome seen (IsFirstLeft F.P (S.whole source.old).complex
-        ((S.whole source.old).complex.low +ℤ pos k) alive.now stored.now.columns.items from)) }
+        ((S.whole source.old).complex.low +ℤ pos k) alive.now
+        (full_columns (S.whole source.old).complex k stored.now.columns.items)
+        from (length alive.now))) }
+    ensures first { IfOk result (λ seen. IfSome seen (λ line. IsFirstLeft F.P
+        (S.whole source.old).complex ((S.whole source.old).complex.low +ℤ pos k) alive.now
+        (full_columns (S.whole source.old).complex k stored.now.columns.items) from
+        (full_column (S.whole source.old).complex k line))) }
 {
     element_laws::<F>();
-    let alloc = *stored.columns.allocator();
-    let mut scratch = Scratch {
-        left: Vec::with_capacity(alloc, USUAL_ENTRIES)?,
-        spare: Vec::new(alloc),
-    };
+    let mut scratch = Scratch::new(*stored.columns.allocator());
     'places: for place in from..alive.len() {
-        put_live::<F, S>(source, &mut scratch.left, k, place, alive[place])?;
-        reduce_line::<F>(&mut scratch, stored)?;
-        if !scratch.left.is_empty() {
-            return Ok(Some(line_of(alloc, place, &scratch.left)?));
+        let found = left_of_column::<F, S>(source, &mut scratch, stored, k, place, alive[place])?;
+        if found.is_some() {
+            return Ok(found);
         }
     }
     Ok(None)
@@ -96,22 +89,6 @@ pub(crate) fn first_from<F: PrimeField, S: ColumnSource<F>>(
         }
     }
     Ok(None)
-}
-
-/// A line as a column to be stored.
-fn line_of(alloc: Global, column: usize, left: &[Entry]) -> Result<StoredColumn, NoMemory>
-    requires some { left.now ≢ [] }
-    requires few { column < 2 ^ 32 }
-    ensures { IfOk result (λ line. line ≡ stored_column column (last_place left.now) left.now) }
-{
-    let Some(row) = last_row(left) else {
-        unreachable!()
-    };
-    Ok(StoredColumn {
-        column: column as u32,
-        row,
-        entries: SmallVec::from_slice(alloc, left)?,
-    })
 }
 
 /// No reduced column, rows that none owns, and room for so many columns.

@@ -83,10 +83,7 @@ fn reduce_columns<F: PrimeField, S: ColumnSource<F>>(
         alive,
         pivots: Vec::with_capacity(alloc, count)?,
     };
-    let mut scratch = Scratch {
-        left: Vec::new(alloc),
-        spare: Vec::new(alloc),
-    };
+    let mut scratch = Scratch::new(alloc);
     'degrees: for k in 0..count {
         let height = alive_at(&made.alive, k + 1).len();
         let stored = reduce_degree::<F, S>(

@@ -1,27 +1,22 @@
 //! Reduced columns in memory, and which row each of them owns.
 
-ghost use Rattle.std.specs.Prelude.{◌≡◌, ◌+◌, ◌<◌, ◌^◌, ℕ, [], ◌∷◌, ◌++◌, length, get_or, IfOk};
-ghost use Rattle.std.specs.Prelude.{IfSome, OnOk, slice_index_or, slice_set};
-ghost use Rattle.prime_field.specs.Residues.{IsField};
-ghost use Rattle.sparse_block.specs.Entries.{AreEntries, value_at};
-ghost use Rattle.column_reduction.specs.Reductions.{AreReducedColumns, EndsAt};
-ghost use Rattle.column_reduction.specs.Reductions.{is_last_row};
-ghost use Rattle.column_reduction.specs.StoredColumns.{AreStored, IsFree, no_column};
-ghost use Rattle.column_reduction.specs.StoredColumns.{reduced_columns, stored_column, stored_with};
+ghost use Rattle.std.specs.Prelude.{◌≡◌, ◌<◌, ◌^◌, ℕ, [], ◌∷◌, ◌++◌, length, IfNone, IfOk, IfSome};
+ghost use Rattle.std.specs.Prelude.{OnOk, Some, slice_index_or, slice_set};
+ghost use Rattle.column_reduction.specs.StoredColumns.{AreStored, owner_in};
 
 use crate::entries::last_row;
 use kh_types::NoMemory;
-use smallvec::SmallVec;
-use sparse_block::{Entry, INLINE_ENTRIES};
+use sparse_block::Entry;
 use std::alloc::Global;
 use std::marker::Model;
 
-/// A reduced column: its number, the row of its last entry, and its entries.
+/// A reduced column: its number, the row of its last entry, and its entries. None are kept where
+/// they are those of the complex's own column, which is made anew when it is asked for.
 #[derive(Drop)]
 pub(crate) struct StoredColumn {
     pub(crate) column: u32,
     pub(crate) row: u32,
-    pub(crate) entries: SmallVec<Entry, INLINE_ENTRIES>,
+    pub(crate) entries: Vec<Entry>,
 }
 
 impl Model for StoredColumn {
@@ -54,12 +49,7 @@ pub(crate) fn no_columns(alloc: Global, rows: usize) -> Result<StoredColumns, No
 /// The number of the column that ends where a line ends; none where no one does, or the line has no
 /// entry.
 pub(crate) fn owner_of(stored: &StoredColumns, line: &[Entry]) -> Option<u32>
-    requires stored { (p : ℕ) × AreStored p stored.now.columns.items stored.now.owners.items }
-    requires line { (p : ℕ) × AreEntries p (length stored.now.owners.items) line.now }
-    ensures some { IfSome result (λ number. (number < length stored.now.columns.items)
-        × EndsAt (get_or stored.now.columns.items number no_column).row (value_at line.now)) }
-    ensures none { result ≡ None
-        → IsFree (reduced_columns stored.now.columns.items) (value_at line.now) }
+    ensures { result ≡ owner_in stored.now.owners.items line.now }
 {
     match last_row(line) {
         Some(row) => owner_at(&stored.owners, row),
@@ -68,7 +58,7 @@ pub(crate) fn owner_of(stored: &StoredColumns, line: &[Entry]) -> Option<u32>
 }
 
 /// The owner of a row.
-fn owner_at(owners: &[Option<u32>], row: u32) -> Option<u32>
+pub(crate) fn owner_at(owners: &[Option<u32>], row: u32) -> Option<u32>
     ensures { result ≡ slice_index_or owners.now row None }
 {
     match owners.get(row as usize) {
@@ -77,47 +67,22 @@ fn owner_at(owners: &[Option<u32>], row: u32) -> Option<u32>
     }
 }
 
-/// Stores what is left of a column, if it has an entry.
-pub(crate) fn store(stored: &mut StoredColumns, column: u32, left: &[Entry]) -> Result<(), NoMemory>
+/// Stores a column, if there is one, and makes it the owner of the row where it ends.
+pub(crate) fn store(stored: &mut StoredColumns, found: Option<StoredColumn>) -> Result<(), NoMemory>
     requires room { length stored.old.columns.items < 2 ^ 32 }
-    requires left { (p : ℕ) × AreEntries p (length stored.old.owners.items) left.now }
-    ensures columns { OnOk result
-        (stored.new.columns.items ≡ stored_with stored.old.columns.items column left.now) }
-    ensures owners { OnOk result
-        (length stored.new.owners.items ≡ length stored.old.owners.items) }
-    ensures stored { OnOk result ((p : ℕ) → IsField p
-        → AreStored p stored.old.columns.items stored.old.owners.items
-        → AreEntries p (length stored.old.owners.items) left.now
-        → IsFree (reduced_columns stored.old.columns.items) (value_at left.now)
-        → AreStored p stored.new.columns.items stored.new.owners.items) }
+    requires row { IfSome found (λ line. line.row < length stored.old.owners.items) }
+    ensures none { IfNone found (stored.new ≡ stored.old) }
+    ensures columns { OnOk result (IfSome found (λ line.
+        stored.new.columns.items ≡ stored.old.columns.items ++ line ∷ [])) }
+    ensures owners { OnOk result (IfSome found (λ line. stored.new.owners.items
+        ≡ slice_set stored.old.owners.items line.row (Some (length stored.old.columns.items)))) }
 {
-    match last_row(left) {
-        Some(row) => store_at(stored, column, row, left),
-        None => Ok(()),
-    }
-}
-
-/// Stores a column that ends at a row, and makes it the row's owner.
-fn store_at(
-    stored: &mut StoredColumns,
-    column: u32,
-    row: u32,
-    left: &[Entry],
-) -> Result<(), NoMemory>
-    requires room { length stored.old.columns.items < 2 ^ 32 }
-    requires row { row < length stored.old.owners.items }
-    ensures columns { OnOk result (stored.new.columns.items
-        ≡ stored.old.columns.items ++ stored_column column row left.now ∷ []) }
-    ensures owners { OnOk result (stored.new.owners.items
-        ≡ slice_set stored.old.owners.items row (Some (length stored.old.columns.items))) }
-{
+    let Some(line) = found else {
+        return Ok(());
+    };
+    let row = line.row as usize;
     let number = stored.columns.len() as u32;
-    let entries = SmallVec::from_slice(*stored.columns.allocator(), left)?;
-    stored.columns.push(StoredColumn {
-        column,
-        row,
-        entries,
-    })?;
-    stored.owners[row as usize] = Some(number);
+    stored.columns.push(line)?;
+    stored.owners[row] = Some(number);
     Ok(())
 }

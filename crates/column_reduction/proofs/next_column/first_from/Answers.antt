@@ -3,7 +3,7 @@ use Rattle.std.specs.Prelude.{slice_index_or, IfNone, IfSome, Option}
 use Rattle.std.proofs.lemmas.Int.{ints}
 use Rattle.sparse_block.specs.Complexes.{NamedComplex, place_count}
 use Rattle.sparse_block.specs.Inside.{lists_in}
-use Rattle.column_reduction.specs.StoredColumns.{AreStored, StoredColumn}
+use Rattle.column_reduction.specs.StoredColumns.{AreStored, StoredColumn, full_column, full_columns}
 use Rattle.column_reduction.specs.UnderWay.{IsFirstLeft, IsFreshTable, LeaveNone}
 use Rattle.column_reduction.proofs.Looked.{all-more}
 use Rattle.column_reduction.proofs.Openings.{count-names, degree-opening, few-opening, places-opening, size-names}
@@ -56,8 +56,9 @@ next_left-requires-clause-height g c =
 pub next_left-requires-clause-stored : goal.next_left-requires-clause-stored
 next_left-requires-clause-stored g c =
     let fresh = c.in_ok-fresh.fresh in
-    subst (λ (stored : List StoredColumn). AreStored g.F.PrimeField.P stored fresh.owners.items) (sym c.in_ok-fresh.ensures.empty)
-    (c.in_ok-fresh.ensures.none g.F.PrimeField.P)
+    let complex = (g.S.ColumnSource.whole c.degrees.source).complex in
+    subst (λ (stored : List StoredColumn). AreStored g.F.PrimeField.P stored fresh.owners.items)
+    (sym (ap (full_columns complex c.degrees.k) c.in_ok-fresh.ensures.empty)) (c.in_ok-fresh.ensures.none g.F.PrimeField.P)
 
 pub degree_at-requires : goal.degree_at-requires
 degree_at-requires g c =
@@ -76,18 +77,18 @@ degrees-preserved g c =
     let k = c.degrees.k in
     let alive = lists_in c.args.alive.now in
     let own = c.alive_at-own.result.now in
-    let stored = c.in_ok-fresh.fresh.columns.items in
-    let left : LeaveNone p there.complex (there.complex.low +ℤ pos k) own stored 0 (length own) =
+    let stored : NamedComplex → List StoredColumn = λ named. full_columns named.complex k c.in_ok-fresh.fresh.columns.items in
+    let left : LeaveNone p there.complex (there.complex.low +ℤ pos k) own (stored there) 0 (length own) =
     subst (λ (seen : Option StoredColumn).
-    IfNone seen (LeaveNone p there.complex (there.complex.low +ℤ pos k) own stored 0 (length own))) c.in-None.is
+    IfNone seen (LeaveNone p there.complex (there.complex.low +ℤ pos k) own (stored there) 0 (length own))) c.in-None.is
     c.in_ok-seen.ensures.none in
-    let at_whole : LeaveNone p whole.complex (whole.complex.low +ℤ pos k) own stored 0 (length own) =
-    subst (λ (named : NamedComplex). LeaveNone p named.complex (named.complex.low +ℤ pos k) own stored 0 (length own))
+    let at_whole : LeaveNone p whole.complex (whole.complex.low +ℤ pos k) own (stored whole) 0 (length own) =
+    subst (λ (named : NamedComplex). LeaveNone p named.complex (named.complex.low +ℤ pos k) own (stored named) 0 (length own))
     (ap g.S.ColumnSource.whole c.degrees.invariant.same) left in
     let here : LeaveNone p whole.complex (whole.complex.low +ℤ pos k) (slice_index_or alive k []) [] 0 (length (slice_index_or alive k [])) =
     subst₂ (λ (marks : List Bool) (stored : List StoredColumn).
     LeaveNone p whole.complex (whole.complex.low +ℤ pos k) marks stored 0 (length marks)) c.alive_at-own.ensures
-    c.in_ok-fresh.ensures.empty at_whole in
+    (ap (full_columns whole.complex k) c.in_ok-fresh.ensures.empty) at_whole in
     record {
       same = c.in_ok-seen.ensures.same ∙ c.degrees.invariant.same;
       after = omega (arith, c.degrees.invariant.after);
@@ -106,18 +107,19 @@ returns-in-Some-clause-first g c =
     let alive = lists_in c.args.alive.now in
     let own = c.alive_at-own.result.now in
     let fresh = c.in_ok-fresh.fresh in
-    let stored = fresh.columns.items in
-    let line = c.in-Some.line in
-    let left : IsFirstLeft p there.complex (there.complex.low +ℤ pos k) own stored 0 line =
-    subst (λ (seen : Option StoredColumn). IfSome seen (IsFirstLeft p there.complex (there.complex.low +ℤ pos k) own stored 0)) c.in-Some.is
+    let stored : NamedComplex → List StoredColumn = λ named. full_columns named.complex k fresh.columns.items in
+    let line : NamedComplex → StoredColumn = λ named. full_column named.complex k c.in-Some.line in
+    let left : IsFirstLeft p there.complex (there.complex.low +ℤ pos k) own (stored there) 0 (line there) =
+    subst (λ (seen : Option StoredColumn). IfSome seen (λ line.
+    IsFirstLeft p there.complex (there.complex.low +ℤ pos k) own (stored there) 0 (full_column there.complex k line))) c.in-Some.is
     c.in_ok-seen.ensures.first in
-    let at_whole : IsFirstLeft p whole.complex (whole.complex.low +ℤ pos k) own stored 0 line =
-    subst (λ (named : NamedComplex). IsFirstLeft p named.complex (named.complex.low +ℤ pos k) own stored 0 line)
+    let at_whole : IsFirstLeft p whole.complex (whole.complex.low +ℤ pos k) own (stored whole) 0 (line whole) =
+    subst (λ (named : NamedComplex). IsFirstLeft p named.complex (named.complex.low +ℤ pos k) own (stored named) 0 (line named))
     (ap g.S.ColumnSource.whole c.degrees.invariant.same) left in
-    let first : IsFirstLeft p whole.complex (whole.complex.low +ℤ pos k) (slice_index_or alive k []) [] 0 line =
+    let first : IsFirstLeft p whole.complex (whole.complex.low +ℤ pos k) (slice_index_or alive k []) [] 0 (line whole) =
     subst₂ (λ (marks : List Bool) (stored : List StoredColumn).
-    IsFirstLeft p whole.complex (whole.complex.low +ℤ pos k) marks stored 0 line) c.alive_at-own.ensures
-    c.in_ok-fresh.ensures.empty at_whole in
+    IsFirstLeft p whole.complex (whole.complex.low +ℤ pos k) marks stored 0 (line whole)) c.alive_at-own.ensures
+    (ap (full_columns whole.complex k) c.in_ok-fresh.ensures.empty) at_whole in
     let within : k < length whole.names = omega (arith, c.degrees-test.true, count-names whole.names c.args.alive.now c.requires) in
     let end = degree-opening p whole c.element_laws.ensures.field c.low-low.ensures.opening k within in
     let fits : to_z w16 (of_z w16 c.low-low.result) ≡ c.low-low.result = omega (arith, ints, c.low-low.type_inv) in

@@ -1,4 +1,5 @@
 use Rattle.std.proofs.Common.{◌≡◌, ◌≤◌, pos, ◌+ℤ◌}
+use Rattle.column_reduction.specs.StoredColumns.{full_columns}
 use Rattle.column_reduction.specs.UnderWay.{LeaveNone}
 use Rattle.column_reduction.proofs.next_column.next_left.Given as goal
 
@@ -9,5 +10,6 @@ invariant-places g l =
       same : l.source ≡ l.fn.source;
       after : l.from ≤ l.place;
       none : LeaveNone g.F.PrimeField.P (g.S.ColumnSource.whole l.fn.source).complex
-          ((g.S.ColumnSource.whole l.fn.source).complex.low +ℤ pos l.k) l.alive l.stored.columns.items l.from l.place;
+          ((g.S.ColumnSource.whole l.fn.source).complex.low +ℤ pos l.k) l.alive
+          (full_columns (g.S.ColumnSource.whole l.fn.source).complex l.k l.stored.columns.items) l.from l.place;
     }

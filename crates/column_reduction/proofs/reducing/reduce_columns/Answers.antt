@@ -6,7 +6,8 @@ use Rattle.std.proofs.lemmas.List.{length-append, length-map}
 use Rattle.kh_types.specs.Complex.{Pivot}
 use Rattle.sparse_block.specs.Complexes.{NamedComplex, all_alive, place_count}
 use Rattle.sparse_block.specs.Inside.{lists_in}
-use Rattle.column_reduction.specs.StoredColumns.{AreFirstReduced, IsReducedTo, StoredColumn, from_greatest, pivots_in, stored_pivots, with_pairs}
+use Rattle.column_reduction.specs.StoredColumns.{AreFirstReduced, IsReducedTo, StoredColumn, from_greatest, full_columns, pivots_in, stored_pivots, with_pairs}
+use Rattle.column_reduction.proofs.FullColumns.{pairs-full, pivots-full}
 use Rattle.column_reduction.proofs.Greatest.{from_greatest-push}
 use Rattle.column_reduction.proofs.Openings.{degree-opening, few-opening, first-opening, length-opening, next-opening, places-left, places-opening}
 use Rattle.column_reduction.proofs.reducing.reduce_columns.Goals as goal
@@ -98,17 +99,21 @@ degrees-preserved g c =
     let i : ℤ = to_z w16 (of_z w16 c.degree_at.result) in
     let here : i ≡ whole.complex.low +ℤ pos k =
     omega (arith, ints, c.degree_at.ensures, end, fits, c.low-low.ensures.low, c.low-low.type_inv) in
-    let from_low : AreFirstReduced p whole.complex (whole.complex.low +ℤ pos k) alive (length alive) stored =
+    let full = full_columns whole.complex k stored in
+    let from_low : AreFirstReduced p whole.complex (whole.complex.low +ℤ pos k) alive (length alive) full =
     subst
-    (λ (named : NamedComplex). AreFirstReduced p named.complex (named.complex.low +ℤ pos k) alive (length alive) stored)
+    (λ (named : NamedComplex).
+    AreFirstReduced p named.complex (named.complex.low +ℤ pos k) alive (length alive) (full_columns named.complex k stored))
     (ap g.S.ColumnSource.whole c.degrees.invariant.same) c.in_ok-stored.ensures.reduced in
-    let are : AreFirstReduced p whole.complex i alive (length alive) stored =
-    subst (λ (i : ℤ). AreFirstReduced p whole.complex i alive (length alive) stored) (sym here) from_low in
-    let lists_after : pivots_in c.note_pivots.new.made.pivots.items ≡ lists ++ stored_pivots i stored ∷ [] =
+    let are : AreFirstReduced p whole.complex i alive (length alive) full =
+    subst (λ (i : ℤ). AreFirstReduced p whole.complex i alive (length alive) full) (sym here) from_low in
+    let lists_after : pivots_in c.note_pivots.new.made.pivots.items ≡ lists ++ stored_pivots i full ∷ [] =
     c.in_ok-note_pivots.ensures.pivots
-    ∙ ap (λ (stored : List StoredColumn). lists ++ stored_pivots i stored ∷ []) c.deref-in-degrees-2.ensures.value in
-    let are_places : lists_in c.note_pivots.new.made.alive.items ≡ with_pairs k places stored =
-    c.in_ok-note_pivots.ensures.alive ∙ ap (with_pairs k places) c.deref-in-degrees-2.ensures.value in
+    ∙ ap (λ (stored : List StoredColumn). lists ++ stored_pivots i stored ∷ []) c.deref-in-degrees-2.ensures.value
+    ∙ ap (λ (pivots : List Pivot). lists ++ pivots ∷ []) (sym (pivots-full whole.complex k i stored)) in
+    let are_places : lists_in c.note_pivots.new.made.alive.items ≡ with_pairs k places full =
+    c.in_ok-note_pivots.ensures.alive ∙ ap (with_pairs k places) c.deref-in-degrees-2.ensures.value
+    ∙ sym (pairs-full whole.complex k k places stored) in
     let count_of : (pivots : List (Vec Pivot)) → length (pivots_in pivots) ≡ length pivots =
     λ pivots. length-map pivots (λ (degree : Vec Pivot). degree.items) in
     record {
@@ -119,10 +124,10 @@ degrees-preserved g c =
         count_of c.degrees.made.pivots.items,
         c.degrees.invariant.count,
         ap length lists_after,
-        length-append lists (stored_pivots i stored ∷ []),
+        length-append lists (stored_pivots i full ∷ []),
       );
       reduced = next-opening p whole c.element_laws.ensures.field c.low-low.ensures.opening k i places
           (lists_in c.note_pivots.new.made.alive.items) (from_greatest lists)
-          (from_greatest (pivots_in c.note_pivots.new.made.pivots.items)) stored alive here is_alive c.degrees.invariant.reduced are
-          (ap from_greatest lists_after ∙ from_greatest-push lists (stored_pivots i stored)) are_places;
+          (from_greatest (pivots_in c.note_pivots.new.made.pivots.items)) full alive here is_alive c.degrees.invariant.reduced are
+          (ap from_greatest lists_after ∙ from_greatest-push lists (stored_pivots i full)) are_places;
     }

@@ -7,7 +7,7 @@ use Rattle.kh_types.specs.Complex.{IsPivot, is_zero}
 use Rattle.kh_types.specs.History.{replay}
 use Rattle.sparse_block.specs.Complexes.{NamedComplex, place_count}
 use Rattle.sparse_block.specs.Inside.{lists_in}
-use Rattle.column_reduction.specs.StoredColumns.{StoredColumn}
+use Rattle.column_reduction.specs.StoredColumns.{StoredColumn, full_column, full_columns}
 use Rattle.column_reduction.specs.UnderWay.{AllLeaveNone, IsFirstFrom, IsFirstLeft, IsFound, LeaveNone, pivot_of}
 use Rattle.column_reduction.proofs.Looked.{found-above, found-here, found-none, found-open, none-map, some-map}
 use Rattle.column_reduction.proofs.Openings.{degree-opening, degrees-left, few-opening, places-left, sizes-left}
@@ -72,11 +72,13 @@ returns-in-Some-clause-found g c =
     let own : c.alive_at-own.result.now ≡ slice_index_or alive k [] =
     c.alive_at-own.ensures ∙ ap (λ (degrees : List (Vec Bool)). slice_index_or (lists_in degrees) k []) c.deref.ensures.value in
     let i = whole.complex.low +ℤ pos k in
-    let seen = subst (λ (seen : Option StoredColumn).
-    IfSome seen (IsFirstLeft p whole.complex i c.alive_at-own.result.now held.stored.columns.items held.next)) c.in-Some.is
+    let stored = full_columns whole.complex k held.stored.columns.items in
+    let line = full_column whole.complex k c.in-Some.line in
+    let seen = subst (λ (seen : Option StoredColumn). IfSome seen (λ line.
+    IsFirstLeft p whole.complex i c.alive_at-own.result.now stored held.next (full_column whole.complex k line))) c.in-Some.is
     c.in_ok-seen.ensures.first in
-    let first : IsFirstLeft p whole.complex i (slice_index_or alive k []) held.stored.columns.items held.next c.in-Some.line =
-    subst (λ (marks : List Bool). IsFirstLeft p whole.complex i marks held.stored.columns.items held.next c.in-Some.line) own seen in
+    let first : IsFirstLeft p whole.complex i (slice_index_or alive k []) stored held.next line =
+    subst (λ (marks : List Bool). IsFirstLeft p whole.complex i marks stored held.next line) own seen in
     let count =
     degrees-left g.F.PrimeField.P (g.S.ColumnSource.whole c.args.source.now) c.element_laws.ensures.field c.low-low.ensures.opening
     (lists_in c.args.self.now.alive.items) c.args.self.now.history.items c.requires.alive_is in
@@ -88,7 +90,7 @@ returns-in-Some-clause-found g c =
     let degree : to_z w16 (of_z w16 c.degree_at.result) ≡ i =
     omega (arith, ints, c.degree_at.ensures, end, fits, c.low-low.ensures.low, c.low-low.type_inv) in
     found-here p whole.complex c.element_laws.ensures.field of.is alive held.history.items of.alive_is k held.next
-    held.stored.columns.items of.way of.here of.within _ first refl degree refl
+    stored of.way of.here of.within _ first refl degree refl
 
 pub returns-in-Some-clause-open : goal.returns-in-Some-clause-open
 returns-in-Some-clause-open g c =
@@ -117,7 +119,7 @@ returns-in-None-clause-found g c =
     let alive = lists_in held.alive.items in
     let of = c.requires in
     let i = whole.complex.low +ℤ pos k in
-    let stored = held.stored.columns.items in
+    let stored = full_columns whole.complex k held.stored.columns.items in
     let marks = c.alive_at-own.result.now in
     let own : marks ≡ slice_index_or alive k [] =
     c.alive_at-own.ensures ∙ ap (λ (degrees : List (Vec Bool)). slice_index_or (lists_in degrees) k []) c.deref.ensures.value in
@@ -159,7 +161,7 @@ returns-in-None-clause-none g c =
     let alive = lists_in held.alive.items in
     let of = c.requires in
     let i = whole.complex.low +ℤ pos k in
-    let stored = held.stored.columns.items in
+    let stored = full_columns whole.complex k held.stored.columns.items in
     let marks = c.alive_at-own.result.now in
     let own : marks ≡ slice_index_or alive k [] =
     c.alive_at-own.ensures ∙ ap (λ (degrees : List (Vec Bool)). slice_index_or (lists_in degrees) k []) c.deref.ensures.value in
