@@ -1,14 +1,14 @@
--- A column of the block whose places are held, from that of the generator that stands at its place.
+-- A column of the block whose places are held, and its last entry, from those of the generator that stands at its place.
 use Rattle.std.proofs.Common.{◌≡◌, ◌∙◌, ◌<◌, ◌^◌, ℕ, ℤ, pos, ◌+ℤ◌, List, [], length, map, get_or, ap, sym, subst, arith}
 use Rattle.std.specs.Global.{Vec}
-use Rattle.std.specs.Prelude.{slice_index_or}
+use Rattle.std.specs.Prelude.{slice_index_or, Option}
 use Rattle.kh_types.specs.Code.{Code}
 use Rattle.kh_types.specs.Generators.{Generator, generator_of, generators_at, states}
 use Rattle.kh_types.specs.History.{block, first_or_zero, homological_degrees}
 use Rattle.sparse_block.specs.Entries.{Entry}
 use Rattle.sparse_block.specs.Inside.{lists_in}
-use Rattle.sparse_block.specs.Opening.{IsColumnOf}
-use Rattle.cube_signs.specs.Columns.{AreFound, AreOuts, IsColumn, IsTail}
+use Rattle.sparse_block.specs.Opening.{IsColumnOf, IsLastEntry}
+use Rattle.cube_signs.specs.Columns.{AreFound, AreOuts, IsColumn, IsLastOf, IsTail}
 use Rattle.cube_signs.specs.OpeningBlocks.{AreBlockPlaces}
 use Rattle.cube_signs.specs.Tables.{own_base}
 use Rattle.cube_signs.specs.declared.outs.Out.{Out}
@@ -28,16 +28,27 @@ module _ (p : ℕ) (code : Code) (places : BlockPlaces) (are : AreBlockPlaces p 
   pub tail-held : IsTail code (first_or_zero (homological_degrees code places.least.j) +ℤ pos k) places.least.j tail
   tail-held = (place-block code j places.names.items k place degree tail within there at is are.are_names).1.tails
 
-  pub column-held : (entries : List Entry)
-      → ((i j : ℤ) → places.bases.items ≡ map (own_base code j) (states code) → IsTail code i j tail → IsColumn p code i j tail entries)
-      → IsColumnOf p (block p code places.least.j) (first_or_zero (homological_degrees code places.least.j) +ℤ pos k) place entries
-  column-held entries columns =
+  column-at : (entries : List Entry) → IsColumn p code i j tail entries → IsColumnOf p (block p code j) i place entries
+  column-at entries column =
       let here = place-block code j places.names.items k place degree tail within there at is are.are_names in
       let d = generator_of 0 0 in
       let inside : place < length (generators_at code i j) = omega (arith, here.1.within, ap length here.0) in
       let is_tail : tail ≡ get_or (generators_at code i j) place d =
       here.1.is ∙ ap (λ (names : List Generator). get_or names place d) here.0 in
-      column-block p code j i place tail entries inside is_tail (columns i j are.are_bases here.1.tails)
+      column-block p code j i place tail entries inside is_tail column
+
+  pub column-held : (entries : List Entry)
+      → ((i j : ℤ) → places.bases.items ≡ map (own_base code j) (states code) → IsTail code i j tail → IsColumn p code i j tail entries)
+      → IsColumnOf p (block p code places.least.j) (first_or_zero (homological_degrees code places.least.j) +ℤ pos k) place entries
+  column-held entries columns = column-at entries (columns i j are.are_bases tail-held)
+
+  -- the same of its last entry
+  pub last-held : (last : Option Entry)
+      → ((i j : ℤ) → places.bases.items ≡ map (own_base code j) (states code) → IsTail code i j tail → IsLastOf p code i j tail last)
+      → IsLastEntry p (block p code places.least.j) (first_or_zero (homological_degrees code places.least.j) +ℤ pos k) place last
+  last-held last lasts =
+      let own = lasts i j are.are_bases tail-held in
+      record { entries = own.entries; are = column-at own.entries own.are; is = own.is }
 
 -- edges that were found before serve where they are out of a generator's state
 pub outs-near : (p : ℕ) (code : Code) (bases : List ℕ) (i j : ℤ) (tail : Generator) (state : ℕ) (outs : List Out) → tail.state ≡ state

@@ -30,3 +30,5 @@ pub mod ChosenBlocks
 pub mod ChosenLoops
 pub mod BlockSources
 pub mod HeldPlaces
+pub mod HeldChosen
+pub mod LastLemmas

@@ -1,6 +1,6 @@
 -- The columns of a block, as they are read off the edges out of a state, and what they denote.
 use Rattle.std.specs.Prelude.{◌≡◌, ℕ, ◌+◌, ◌-◌, ◌%◌, ◌^◌, ◌<◌, ℤ, pos, neg_ℤ, ◌+ℤ◌, ◌≤ℤ◌, List, [], ◌∷◌, length, map, nat_eq, if◌then◌else◌, slice_index, slice_index_or, Option, None, Some, Bool, true, not, All}
-use Rattle.std.specs.List.{flat_map, range_with_len}
+use Rattle.std.specs.List.{flat_map, last_or, range_with_len}
 use Rattle.kh_types.specs.declared.limits.TheConstants.{CIRCLES}
 use Rattle.kh_types.specs.Bits.{ones}
 use Rattle.kh_types.specs.Code.{Code}
@@ -82,6 +82,12 @@ pub record IsColumn (p : ℕ) (code : Code) (i j : ℤ) (tail : Generator) (entr
   pub are : AreEntries p (length (generators_at code (i +ℤ pos 1) j)) entries
   pub values : (row : ℕ) → row < length (generators_at code (i +ℤ pos 1) j)
       → value_at entries row ≡ coefficient p code tail (slice_index_or (generators_at code (i +ℤ pos 1) j) row (generator_of 0 0))
+
+-- the last entry of the column of a generator of the degrees i and j; none where it has no entry
+pub record IsLastOf (p : ℕ) (code : Code) (i j : ℤ) (tail : Generator) (last : Option Entry) : Type 0 where
+  pub entries : List Entry
+  pub are : IsColumn p code i j tail entries
+  pub is : last ≡ last_or None entries
 
 -- a generator of the degrees i and j
 pub record IsTail (code : Code) (i j : ℤ) (tail : Generator) : Type 0 where

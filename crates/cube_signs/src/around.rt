@@ -1,14 +1,14 @@
 //! The columns of a cube, one at a time: the edges out of a state serve for all its generators.
 
-ghost use Rattle.std.specs.Prelude.{◌≡◌, ℕ, ℤ, List, ◌+◌, ◌^◌, ◌<◌, ◌≤◌, length, map, All, OnOk};
+ghost use Rattle.std.specs.Prelude.{◌≡◌, ℕ, ℤ, List, ◌+◌, ◌^◌, ◌<◌, ◌≤◌, length, map, All, IfOk, OnOk};
 ghost use Rattle.kh_types.specs.Generators.{states};
 ghost use Rattle.sparse_block.specs.declared.entry.TheConstants.{MOST_VALUES};
-ghost use Rattle.cube_signs.specs.Columns.{AreFound, AreOuts, IsColumn, IsTail};
+ghost use Rattle.cube_signs.specs.Columns.{AreFound, AreOuts, IsColumn, IsLastOf, IsTail};
 ghost use Rattle.cube_signs.specs.OpeningBlocks.{IsAround};
 ghost use Rattle.cube_signs.specs.Tables.{own_base};
 ghost use Rattle.cube_signs.specs.declared.limits.TheConstants.{PLACES};
 
-use crate::columns::put_entries;
+use crate::columns::{last_entry, put_entries};
 use crate::cube::Cube;
 use crate::outs::{Out, find_outs};
 use kh_types::NoMemory;
@@ -88,6 +88,40 @@ impl Cube {
             → IsColumn p self.now i j tail column.new.items) }
     {
         put_entries(column, &around.outs, self.ranks(), tail.label)
+    }
+
+    /// The last entry of the column of a generator; none where it has no entry.
+    pub(crate) fn last_entry(
+        &self,
+        p: u8,
+        bases: &[u32],
+        around: &mut Around,
+        tail: Generator,
+    ) -> Result<Option<Entry>, NoMemory>
+        requires prime { 1 < p }
+        requires values { p ≤ MOST_VALUES }
+        requires bases { All (λ base. base < PLACES) bases.now }
+        requires tail { (i : ℤ) × (j : ℤ) × IsTail self.now i j tail }
+        requires found { AreFound p self.now bases.now around.old.state around.old.outs.items }
+        ensures found { AreFound p self.now bases.now around.new.state around.new.outs.items }
+        ensures last { IfOk result (λ last. (i j : ℤ) → bases.now ≡ map (own_base self.now j)
+            (states self.now) → IsTail self.now i j tail → IsLastOf p self.now i j tail last) }
+    {
+        self.go_to(p, bases, around, tail.state)?;
+        Ok(self.last_entry_of(around, tail))
+    }
+
+    /// The same, where the edges that were found last are those out of the generator's state.
+    pub(crate) fn last_entry_of(&self, around: &Around, tail: Generator) -> Option<Entry>
+        requires tail { (i : ℤ) × (j : ℤ) × IsTail self.now i j tail }
+        requires outs { (p : ℕ) × (bases : List ℕ)
+            × AreOuts p self.now bases tail.state around.now.outs.items }
+        ensures { (p : ℕ) (bases : List ℕ) (i j : ℤ) → 1 < p
+            → AreOuts p self.now bases tail.state around.now.outs.items
+            → bases ≡ map (own_base self.now j) (states self.now) → IsTail self.now i j tail
+            → IsLastOf p self.now i j tail result }
+    {
+        last_entry(&around.outs, self.ranks(), tail.label)
     }
 
     /// Finds the edges out of a state, where they are not those that were found last.

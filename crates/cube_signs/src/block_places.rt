@@ -3,7 +3,7 @@
 ghost use Rattle.std.specs.Prelude.{◌≡◌, ℤ, ◌<◌, [], pos, ◌+ℤ◌, length, slice_index_or, IfOk, OnOk};
 ghost use Rattle.std.specs.List.{Contains};
 ghost use Rattle.sparse_block.specs.Inside.{lists_in};
-ghost use Rattle.sparse_block.specs.Opening.{IsColumnOf};
+ghost use Rattle.sparse_block.specs.Opening.{IsColumnOf, IsLastEntry};
 ghost use Rattle.cube_signs.specs.Blocks.{block_degrees, named_block};
 ghost use Rattle.cube_signs.specs.Columns.{AreFound};
 ghost use Rattle.cube_signs.specs.OpeningBlocks.{AreBlockPlaces};
@@ -114,5 +114,63 @@ impl BlockPlaces {
             return cube.put_column_of(column, near, tail);
         }
         cube.put_column(column, F::P, &self.bases, around, tail)
+    }
+    /// The last entry of a column out of degree number `k` of a cube's block, by its place; none
+    /// where it has no entry.
+    pub(crate) fn last_entry<F: PrimeField>(
+        &self,
+        cube: &Cube,
+        around: &mut Around,
+        k: usize,
+        place: usize,
+    ) -> Result<Option<Entry>, NoMemory>
+        requires places { AreBlockPlaces F.P cube.now self.now.least.j self.now }
+        requires degree { k < length (lists_in self.now.names.items) }
+        requires place { place < length (slice_index_or (lists_in self.now.names.items) k []) }
+        requires found { AreFound F.P cube.now self.now.bases.items around.old.state
+            around.old.outs.items }
+        ensures found { AreFound F.P cube.now self.now.bases.items around.new.state
+            around.new.outs.items }
+        ensures last { IfOk result (IsLastEntry F.P
+            (named_block F.P cube.now self.now.least.j).complex
+            ((named_block F.P cube.now self.now.least.j).complex.low +ℤ pos k) place) }
+    {
+        element_laws::<F>();
+        // (what a cube keeps)
+        let _ = cube.state_count();
+        let tail = self.names[k][place];
+        cube.last_entry(F::P, &self.bases, around, tail)
+    }
+
+    /// The same, with other edges that were found before.
+    pub(crate) fn last_entry_near<F: PrimeField>(
+        &self,
+        cube: &Cube,
+        near: &Around,
+        around: &mut Around,
+        k: usize,
+        place: usize,
+    ) -> Result<Option<Entry>, NoMemory>
+        requires places { AreBlockPlaces F.P cube.now self.now.least.j self.now }
+        requires degree { k < length (lists_in self.now.names.items) }
+        requires place { place < length (slice_index_or (lists_in self.now.names.items) k []) }
+        requires near { AreFound F.P cube.now self.now.bases.items near.now.state
+            near.now.outs.items }
+        requires found { AreFound F.P cube.now self.now.bases.items around.old.state
+            around.old.outs.items }
+        ensures found { AreFound F.P cube.now self.now.bases.items around.new.state
+            around.new.outs.items }
+        ensures last { IfOk result (IsLastEntry F.P
+            (named_block F.P cube.now self.now.least.j).complex
+            ((named_block F.P cube.now self.now.least.j).complex.low +ℤ pos k) place) }
+    {
+        element_laws::<F>();
+        // (what a cube keeps)
+        let _ = cube.state_count();
+        let tail = self.names[k][place];
+        if tail.state == near.state {
+            return Ok(cube.last_entry_of(near, tail));
+        }
+        cube.last_entry(F::P, &self.bases, around, tail)
     }
 }

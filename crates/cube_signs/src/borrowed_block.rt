@@ -93,4 +93,9 @@ impl<'a, F: PrimeField> ColumnSource<F> for BorrowedBlock<'a, F> {
         self.places
             .put_column_near::<F>(self.cube, self.near, &mut self.around, column, k, place)
     }
+
+    fn last_entry(&mut self, k: usize, place: usize) -> Result<Option<Entry>, NoMemory> {
+        self.places
+            .last_entry_near::<F>(self.cube, self.near, &mut self.around, k, place)
+    }
 }

@@ -241,7 +241,7 @@ pub(crate) fn renumber(column: &mut [Entry], heads: &[u32])
 }
 
 /// An entry at its new row.
-fn moved(entry: Entry, heads: &[u32]) -> Entry
+pub(crate) fn moved(entry: Entry, heads: &[u32]) -> Entry
     requires { All (λ head. head < PLACES) heads.now }
     ensures { result ≡ moved_entry heads.now entry }
 {

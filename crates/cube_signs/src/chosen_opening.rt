@@ -1,11 +1,15 @@
 //! The blocks over chosen generators before any cancellation, with columns that are made one at a
 //! time.
 
-ghost use Rattle.std.specs.Prelude.{◌≡◌, IfOk};
+ghost use Rattle.std.specs.Prelude.{◌≡◌, ◌<◌, List, map, None, All, IfOk};
+ghost use Rattle.std.specs.List.{last_or};
+ghost use Rattle.sparse_block.specs.Entries.{Entry as Placed};
 ghost use Rattle.cube_signs.specs.Chosen.{chosen_block, has_minus, IsClosed};
+ghost use Rattle.cube_signs.specs.ChosenParts.{moved_entry};
+ghost use Rattle.cube_signs.specs.declared.limits.TheConstants.{PLACES};
 
 use crate::around::Around;
-use crate::chosen::{AllChosen, list_at, renumber};
+use crate::chosen::{AllChosen, list_at, moved, renumber};
 use crate::cube::Cube;
 use crate::names::Degrees;
 use kh_types::NoMemory;
@@ -104,6 +108,28 @@ impl<'a, F: PrimeField> ColumnSource<F> for ChosenBlock<'a, F> {
         cube.put_column(column, F::P, &self.bases, &mut self.around, tail)?;
         renumber(column, list_at(&self.chosen.before, k + 1));
         Ok(())
+    }
+
+    fn last_entry(&mut self, k: usize, place: usize) -> Result<Option<Entry>, NoMemory> {
+        element_laws::<F>();
+        let cube = self.cube;
+        // (what a cube keeps)
+        let _ = cube.state_count();
+        let tail = self.chosen.names[k][place];
+        let last = cube.last_entry(F::P, &self.bases, &mut self.around, tail)?;
+        Ok(moved_last(last, list_at(&self.chosen.before, k + 1)))
+    }
+}
+
+/// A last entry, if there is one, at its new row.
+fn moved_last(last: Option<Entry>, heads: &[u32]) -> Option<Entry>
+    requires { All (λ head. head < PLACES) heads.now }
+    ensures { (entries : List Placed) → last ≡ last_or None entries
+        → result ≡ last_or None (map (moved_entry heads.now) entries) }
+{
+    match last {
+        Some(entry) => Some(moved(entry, heads)),
+        None => None,
     }
 }
 

@@ -1,6 +1,7 @@
 //! The columns of a block.
 
-ghost use Rattle.std.specs.Prelude.{◌≡◌, ◌+◌, ◌^◌, ◌<◌, ◌≤◌, ◌++◌, length, map, All, OnOk};
+ghost use Rattle.std.specs.Prelude.{◌≡◌, ◌+◌, ◌^◌, ◌<◌, ◌≤◌, ◌++◌, length, map, None, All, OnOk};
+ghost use Rattle.std.specs.List.{last_or};
 ghost use Rattle.kh_types.specs.declared.limits.TheConstants.{CIRCLES};
 ghost use Rattle.sparse_block.specs.declared.entry.TheConstants.{MOST_VALUES};
 ghost use Rattle.cube_signs.specs.Columns.{column_along, head_entry, out_entries, IsSmallOut};
@@ -67,8 +68,48 @@ fn push_heads(
         ≡ column.old.items ++ map (head_entry base ranks.now sign) labels.now) }
 {
     'labels: for k in 0..labels.len() {
-        let place = base + number_at(ranks, labels[k] as usize);
-        column.push(Entry::new(place, sign))?;
+        column.push(head(base, ranks, sign, labels[k]))?;
     }
     Ok(())
+}
+
+/// The entry of the generator with a label.
+fn head(base: u32, ranks: &[u32], sign: u8, label: u64) -> Entry
+    requires base { base < PLACES }
+    requires sign { sign < MOST_VALUES }
+    requires ranks { All (λ rank. rank < PLACES) ranks.now }
+    ensures { result ≡ head_entry base ranks.now sign label }
+{
+    Entry::new(base + number_at(ranks, label as usize), sign)
+}
+
+/// The last entry of the column of a generator, given the edges out of its state, and how many
+/// labels before each have as many v-; none where the column has no entry.
+pub fn last_entry(outs: &[Out], ranks: &[u32], label: u64) -> Option<Entry>
+    requires outs { All IsSmallOut outs.now }
+    requires label { label < 2 ^ CIRCLES }
+    requires ranks { All (λ rank. rank < PLACES) ranks.now }
+    ensures { result ≡ last_or None (column_along ranks.now label outs.now) }
+{
+    'outs: for k in 0..outs.len() {
+        let last = last_along(outs[outs.len() - 1 - k], ranks, label);
+        if last.is_some() {
+            return last;
+        }
+    }
+    None
+}
+
+/// The last entry along an edge; none where it leads to no generator.
+fn last_along(out: Out, ranks: &[u32], label: u64) -> Option<Entry>
+    requires out { IsSmallOut out }
+    requires label { label < 2 ^ CIRCLES }
+    requires ranks { All (λ rank. rank < PLACES) ranks.now }
+    ensures { result ≡ last_or None (out_entries ranks.now label out) }
+{
+    let labels = labels_behind(out.change, label);
+    if labels.is_empty() {
+        return None;
+    }
+    Some(head(out.base, ranks, out.sign, labels[labels.len() - 1]))
 }

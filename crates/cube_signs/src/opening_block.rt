@@ -91,6 +91,11 @@ impl<'a, F: PrimeField> ColumnSource<F> for OpeningBlock<'a, F> {
         self.places
             .put_column::<F>(self.cube, &mut self.around, column, k, place)
     }
+
+    fn last_entry(&mut self, k: usize, place: usize) -> Result<Option<Entry>, NoMemory> {
+        self.places
+            .last_entry::<F>(self.cube, &mut self.around, k, place)
+    }
 }
 
 impl<'a, F: PrimeField> OwnedSource<F> for OpeningBlock<'a, F> {
