@@ -15,9 +15,6 @@ use prime_field::laws::element_laws;
 use sparse_block::{ColumnSource, Entry};
 use std::alloc::Global;
 
-/// Room for the entries that few columns go beyond.
-const USUAL_ENTRIES: usize = 64;
-
 /// What stored columns leave of a column out of degree number `k`, by its place, to be stored; none
 /// where they leave nothing, or the place is dead.
 pub(crate) fn left_of_column<F: PrimeField, S: ColumnSource<F>>(
@@ -85,8 +82,7 @@ fn left_of_entries<F: PrimeField, S: ColumnSource<F>>(
         stored.now.columns.items) }
 {
     element_laws::<F>();
-    scratch.left.clear();
-    scratch.left.reserve(USUAL_ENTRIES)?;
+    scratch.make_room()?;
     source.put_column(&mut scratch.left, k, place)?;
     reduce_line::<F, S>(source, scratch, stored, k)?;
     line_of(*stored.columns.allocator(), place, &scratch.left)

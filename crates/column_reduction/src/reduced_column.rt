@@ -17,6 +17,9 @@ use sparse_block::{ColumnSource, Entry, subtract_into};
 use std::alloc::Global;
 use std::mem::swap;
 
+/// Room for the entries that few columns go beyond.
+const USUAL_ENTRIES: usize = 64;
+
 /// What is left of a column, room for what comes next, and room for a column that is made anew.
 #[derive(Drop)]
 pub(crate) struct Scratch {
@@ -33,6 +36,17 @@ impl Scratch {
             spare: Vec::new(alloc),
             own: Vec::new(alloc),
         }
+    }
+
+    /// Makes room for most columns at once, since lists that grow take longer.
+    pub(crate) fn make_room(&mut self) -> Result<(), NoMemory> {
+        self.left.clear();
+        self.left.reserve(USUAL_ENTRIES)?;
+        self.spare.clear();
+        self.spare.reserve(USUAL_ENTRIES)?;
+        self.own.clear();
+        self.own.reserve(USUAL_ENTRIES)?;
+        Ok(())
     }
 }
 
