@@ -20,16 +20,16 @@ use Rattle.cube_signs.specs.OpeningBlocks.{IsChosenBlock}
 use Rattle.cube_signs.specs.Tables.{own_base}
 use Rattle.cube_signs.specs.declared.chosen.AllChosen.{AllChosen}
 use Rattle.cube_signs.specs.declared.limits.TheConstants.{PLACES}
-use Rattle.cube_signs.specs.declared.outs.Out.{Out}
+use Rattle.cube_signs.specs.declared.around.Around.{Around}
 use Rattle.cube_signs.proofs.BlockSources.{IsAtPlace, column-chosen, names-chosen, place-chosen}
 use Rattle.cube_signs.proofs.ChosenBlocks.{places-behind}
 use Rattle.cube_signs.proofs.ChosenColumns.{column-moved}
 use Rattle.cube_signs.proofs.ChosenPlaces.{places-small}
 use Rattle.cube_signs.proofs.GeneratorPlaces.{length-generators_at}
 
-module _ {choice : Generator → Bool} {p : ℕ} {code : Code} {low j : ℤ} {bases : List ℕ} {state : ℕ} {outs : List Out}
+module _ {choice : Generator → Bool} {p : ℕ} {code : Code} {low j : ℤ} {bases : List ℕ} {around beside : Around}
     (chosen : AllChosen)
-    (held : IsChosenBlock p choice code low j (lists_in chosen.names.items) (lists_in chosen.before.items) bases state outs)
+    (held : IsChosenBlock p choice code low j (lists_in chosen.names.items) (lists_in chosen.before.items) bases around beside)
     {named : NamedComplex} (seen : chosen_block choice p code j ≡ named) (k place : ℕ) (degree : Vec Generator)
     (within : k < length named.names) (there : place < length (slice_index_or named.names k []))
     (at : degree ≡ get_or chosen.names.items k degree) where

@@ -8,7 +8,6 @@ use Rattle.sparse_block.specs.Opening.{IsOpening}
 use Rattle.cube_signs.specs.declared.around.Around.{Around}
 use Rattle.cube_signs.specs.declared.block_places.BlockPlaces.{BlockPlaces}
 use Rattle.cube_signs.specs.declared.limits.TheConstants.{PLACES}
-use Rattle.cube_signs.specs.declared.outs.Out.{Out}
 use Rattle.cube_signs.specs.Blocks.{named_block}
 use Rattle.cube_signs.specs.Chosen.{chosen_block, IsClosed}
 use Rattle.cube_signs.specs.ChosenParts.{all_places_to, chosen_to}
@@ -28,19 +27,20 @@ pub record AreBlockPlaces (p : ℕ) (code : Code) (j : ℤ) (places : BlockPlace
 abbrev pub IsAround : ℕ → Code → ℤ → Around → Type 0
 IsAround p code j around = AreFound p code (map (own_base code j) (states code)) around.state around.outs.items
 
--- these places, with the edges out of a state that were found last
-pub record IsOpeningBlock (p : ℕ) (code : Code) (places : BlockPlaces) (around : Around) : Type 0 where
+-- these places, with edges that were found: for last entries, and for whole columns
+pub record IsOpeningBlock (p : ℕ) (code : Code) (places : BlockPlaces) (around beside : Around) : Type 0 where
   pub places_are : AreBlockPlaces p code places.least.j places
-  pub found : AreFound p code places.bases.items around.state around.outs.items
+  pub around_is : AreFound p code places.bases.items around.state around.outs.items
+  pub beside_is : AreFound p code places.bases.items beside.state beside.outs.items
 
 -- the same by places that are borrowed, with other edges that were found before
-pub record IsBorrowedBlock (p : ℕ) (code : Code) (places : BlockPlaces) (near around : Around) : Type 0 where
-  pub block_is : IsOpeningBlock p code places around
+pub record IsBorrowedBlock (p : ℕ) (code : Code) (places : BlockPlaces) (near around beside : Around) : Type 0 where
+  pub block_is : IsOpeningBlock p code places around beside
   pub near_is : AreFound p code places.bases.items near.state near.outs.items
 
 -- the same of the block at j over chosen generators; and how many generators before each are chosen
 pub record IsChosenBlock (p : ℕ) (choice : Generator → Bool) (code : Code) (low j : ℤ) (names : List (List Generator))
-    (before : List (List ℕ)) (bases : List ℕ) (state : ℕ) (outs : List Out) : Type 0 where
+    (before : List (List ℕ)) (bases : List ℕ) (around beside : Around) : Type 0 where
   pub opening : IsOpening p (chosen_block choice p code j)
   pub closed : IsClosed choice p code
   pub is_low : low ≡ neg_ℤ (pos (length code.crossings))
@@ -48,4 +48,5 @@ pub record IsChosenBlock (p : ℕ) (choice : Generator → Bool) (code : Code) (
   pub are_places : before ≡ all_places_to choice code j (2 * length code.crossings + 1)
   pub are_bases : bases ≡ map (own_base code j) (states code)
   pub small : All (λ base. base < PLACES) bases
-  pub found : AreFound p code bases state outs
+  pub around_is : AreFound p code bases around.state around.outs.items
+  pub beside_is : AreFound p code bases beside.state beside.outs.items

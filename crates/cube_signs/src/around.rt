@@ -124,6 +124,60 @@ impl Cube {
         last_entry(&around.outs, self.ranks(), tail.label)
     }
 
+    /// Puts the entries of the column of a generator in place of others, where other edges were found
+    /// before, which serve if they are those out of its state.
+    pub(crate) fn put_column_near(
+        &self,
+        column: &mut Vec<Entry>,
+        p: u8,
+        bases: &[u32],
+        near: &Around,
+        around: &mut Around,
+        tail: Generator,
+    ) -> Result<(), NoMemory>
+        requires prime { 1 < p }
+        requires values { p ≤ MOST_VALUES }
+        requires bases { All (λ base. base < PLACES) bases.now }
+        requires tail { (i : ℤ) × (j : ℤ) × IsTail self.now i j tail }
+        requires near { AreFound p self.now bases.now near.now.state near.now.outs.items }
+        requires found { AreFound p self.now bases.now around.old.state around.old.outs.items }
+        ensures found { AreFound p self.now bases.now around.new.state around.new.outs.items }
+        ensures column { OnOk result ((i j : ℤ) → bases.now ≡ map (own_base self.now j)
+            (states self.now) → IsTail self.now i j tail → IsColumn p self.now i j tail
+            column.new.items) }
+    {
+        if tail.state == near.state {
+            return self.put_column_of(column, near, tail);
+        }
+        self.put_column(column, p, bases, around, tail)
+    }
+
+    /// The last entry of the column of a generator, where other edges were found before; none where
+    /// it has no entry.
+    pub(crate) fn last_entry_near(
+        &self,
+        p: u8,
+        bases: &[u32],
+        near: &Around,
+        around: &mut Around,
+        tail: Generator,
+    ) -> Result<Option<Entry>, NoMemory>
+        requires prime { 1 < p }
+        requires values { p ≤ MOST_VALUES }
+        requires bases { All (λ base. base < PLACES) bases.now }
+        requires tail { (i : ℤ) × (j : ℤ) × IsTail self.now i j tail }
+        requires near { AreFound p self.now bases.now near.now.state near.now.outs.items }
+        requires found { AreFound p self.now bases.now around.old.state around.old.outs.items }
+        ensures found { AreFound p self.now bases.now around.new.state around.new.outs.items }
+        ensures last { IfOk result (λ last. (i j : ℤ) → bases.now ≡ map (own_base self.now j)
+            (states self.now) → IsTail self.now i j tail → IsLastOf p self.now i j tail last) }
+    {
+        if tail.state == near.state {
+            return Ok(self.last_entry_of(near, tail));
+        }
+        self.last_entry(p, bases, around, tail)
+    }
+
     /// Finds the edges out of a state, where they are not those that were found last.
     fn go_to(&self, p: u8, bases: &[u32], around: &mut Around, state: u32) -> Result<(), NoMemory>
         requires prime { 1 < p }

@@ -54,36 +54,8 @@ impl Cube {
 
 impl BlockPlaces {
     /// Puts the entries of a column out of degree number `k` of a cube's block, by its place, in
-    /// place of others.
+    /// place of others; other edges that were found before serve where they can.
     pub(crate) fn put_column<F: PrimeField>(
-        &self,
-        cube: &Cube,
-        around: &mut Around,
-        column: &mut Vec<Entry>,
-        k: usize,
-        place: usize,
-    ) -> Result<(), NoMemory>
-        requires places { AreBlockPlaces F.P cube.now self.now.least.j self.now }
-        requires degree { k < length (lists_in self.now.names.items) }
-        requires place { place < length (slice_index_or (lists_in self.now.names.items) k []) }
-        requires found { AreFound F.P cube.now self.now.bases.items around.old.state
-            around.old.outs.items }
-        ensures found { AreFound F.P cube.now self.now.bases.items around.new.state
-            around.new.outs.items }
-        ensures column { OnOk result (IsColumnOf F.P
-            (named_block F.P cube.now self.now.least.j).complex
-            ((named_block F.P cube.now self.now.least.j).complex.low +ℤ pos k) place
-            column.new.items) }
-    {
-        element_laws::<F>();
-        // (what a cube keeps)
-        let _ = cube.state_count();
-        let tail = self.names[k][place];
-        cube.put_column(column, F::P, &self.bases, around, tail)
-    }
-
-    /// The same, with other edges that were found before.
-    pub(crate) fn put_column_near<F: PrimeField>(
         &self,
         cube: &Cube,
         near: &Around,
@@ -110,42 +82,14 @@ impl BlockPlaces {
         // (what a cube keeps)
         let _ = cube.state_count();
         let tail = self.names[k][place];
-        if tail.state == near.state {
-            return cube.put_column_of(column, near, tail);
-        }
-        cube.put_column(column, F::P, &self.bases, around, tail)
+        cube.put_column_near(column, F::P, &self.bases, near, around, tail)
     }
+
     /// The last entry of a column out of degree number `k` of a cube's block, by its place; none
     /// where it has no entry.
     pub(crate) fn last_entry<F: PrimeField>(
         &self,
         cube: &Cube,
-        around: &mut Around,
-        k: usize,
-        place: usize,
-    ) -> Result<Option<Entry>, NoMemory>
-        requires places { AreBlockPlaces F.P cube.now self.now.least.j self.now }
-        requires degree { k < length (lists_in self.now.names.items) }
-        requires place { place < length (slice_index_or (lists_in self.now.names.items) k []) }
-        requires found { AreFound F.P cube.now self.now.bases.items around.old.state
-            around.old.outs.items }
-        ensures found { AreFound F.P cube.now self.now.bases.items around.new.state
-            around.new.outs.items }
-        ensures last { IfOk result (IsLastEntry F.P
-            (named_block F.P cube.now self.now.least.j).complex
-            ((named_block F.P cube.now self.now.least.j).complex.low +ℤ pos k) place) }
-    {
-        element_laws::<F>();
-        // (what a cube keeps)
-        let _ = cube.state_count();
-        let tail = self.names[k][place];
-        cube.last_entry(F::P, &self.bases, around, tail)
-    }
-
-    /// The same, with other edges that were found before.
-    pub(crate) fn last_entry_near<F: PrimeField>(
-        &self,
-        cube: &Cube,
         near: &Around,
         around: &mut Around,
         k: usize,
@@ -168,9 +112,6 @@ impl BlockPlaces {
         // (what a cube keeps)
         let _ = cube.state_count();
         let tail = self.names[k][place];
-        if tail.state == near.state {
-            return Ok(cube.last_entry_of(near, tail));
-        }
-        cube.last_entry(F::P, &self.bases, around, tail)
+        cube.last_entry_near(F::P, &self.bases, near, around, tail)
     }
 }

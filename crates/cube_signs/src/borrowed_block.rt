@@ -1,6 +1,6 @@
 //! The block of a cube before any cancellation, of which the places are borrowed.
 
-ghost use Rattle.std.specs.Prelude.{◌≡◌, ℤ};
+ghost use Rattle.std.specs.Prelude.{◌≡◌, ◌⊎◌, ℤ};
 ghost use Rattle.cube_signs.specs.Blocks.{named_block};
 ghost use Rattle.cube_signs.specs.OpeningBlocks.{AreBlockPlaces, IsAround};
 
@@ -22,7 +22,9 @@ pub struct BorrowedBlock<'a, F: PrimeField> {
     cube: &'a Cube,
     places: &'a BlockPlaces,
     near: &'a Around,
+    // Edges that were found for last entries, and for whole columns, which are often older ones.
     around: Around,
+    beside: Around,
     field: PhantomData<F>,
 }
 
@@ -36,7 +38,7 @@ impl<'a, F: PrimeField> Model for BorrowedBlock<'a, F> {
     ghost view = { λ block. (block.cube.now, block.places.now.least.j) };
 
     ghost invariant = { λ block. IsBorrowedBlock F.P block.cube.now block.places.now block.near.now
-        block.around };
+        block.around block.beside };
 }
 
 impl Cube {
@@ -58,19 +60,30 @@ impl Cube {
             places,
             near,
             around: Around::nowhere(alloc),
+            beside: Around::nowhere(alloc),
             field: PhantomData,
         }
     }
 }
 
 impl<'a, F: PrimeField> BorrowedBlock<'a, F> {
-    /// The edges that were found last.
+    /// The edges that were found last for a last entry.
     pub fn into_around(self) -> Around
         ensures { IsAround F.P self.entry.0 self.entry.1 result }
     {
         element_laws::<F>();
         self.around
     }
+}
+
+/// The edges that were found last, where there are any, or those that were found before.
+fn latest<'a>(near: &'a Around, around: &'a Around) -> &'a Around
+    ensures { (result.now ≡ near.now) ⊎ (result.now ≡ around.now) }
+{
+    if around.is_found() {
+        return around;
+    }
+    near
 }
 
 impl<'a, F: PrimeField> ColumnSource<F> for BorrowedBlock<'a, F> {
@@ -90,12 +103,13 @@ impl<'a, F: PrimeField> ColumnSource<F> for BorrowedBlock<'a, F> {
         k: usize,
         place: usize,
     ) -> Result<(), NoMemory> {
+        let near = latest(self.near, &self.around);
         self.places
-            .put_column_near::<F>(self.cube, self.near, &mut self.around, column, k, place)
+            .put_column::<F>(self.cube, near, &mut self.beside, column, k, place)
     }
 
     fn last_entry(&mut self, k: usize, place: usize) -> Result<Option<Entry>, NoMemory> {
         self.places
-            .last_entry_near::<F>(self.cube, self.near, &mut self.around, k, place)
+            .last_entry::<F>(self.cube, self.near, &mut self.around, k, place)
     }
 }

@@ -30,7 +30,9 @@ pub struct ChosenBlock<'a, F: PrimeField> {
     chosen: AllChosen,
     // Where the generators of each state begin among those of their degrees.
     bases: Vec<u32>,
+    // Edges that were found for last entries, and for whole columns, which are often older ones.
     around: Around,
+    beside: Around,
     field: PhantomData<F>,
 }
 
@@ -47,8 +49,8 @@ impl<'a, F: PrimeField> Model for ChosenBlock<'a, F> {
 
     ghost invariant = { λ block. IsChosenBlock F.P (has_minus block.circles.now) block.cube.now
         block.lowest.i block.lowest.j (lists_in block.chosen.names.items)
-        (lists_in block.chosen.before.items) block.bases.items block.around.state
-        block.around.outs.items };
+        (lists_in block.chosen.before.items) block.bases.items block.around
+        block.beside };
 }
 
 impl Cube {
@@ -78,6 +80,7 @@ impl Cube {
             chosen,
             bases,
             around: Around::nowhere(alloc),
+            beside: Around::nowhere(alloc),
             field: PhantomData,
         })
     }
@@ -105,7 +108,8 @@ impl<'a, F: PrimeField> ColumnSource<F> for ChosenBlock<'a, F> {
         // (what a cube keeps)
         let _ = cube.state_count();
         let tail = self.chosen.names[k][place];
-        cube.put_column(column, F::P, &self.bases, &mut self.around, tail)?;
+        let (near, around) = (&self.around, &mut self.beside);
+        cube.put_column_near(column, F::P, &self.bases, near, around, tail)?;
         renumber(column, list_at(&self.chosen.before, k + 1));
         Ok(())
     }
@@ -116,7 +120,8 @@ impl<'a, F: PrimeField> ColumnSource<F> for ChosenBlock<'a, F> {
         // (what a cube keeps)
         let _ = cube.state_count();
         let tail = self.chosen.names[k][place];
-        let last = cube.last_entry(F::P, &self.bases, &mut self.around, tail)?;
+        let (near, around) = (&self.beside, &mut self.around);
+        let last = cube.last_entry_near(F::P, &self.bases, near, around, tail)?;
         Ok(moved_last(last, list_at(&self.chosen.before, k + 1)))
     }
 }

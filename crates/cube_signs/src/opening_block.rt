@@ -20,7 +20,9 @@ use std::marker::{Model, PhantomData};
 pub struct OpeningBlock<'a, F: PrimeField> {
     cube: &'a Cube,
     places: BlockPlaces,
+    // Edges that were found for last entries, and for whole columns, which are often older ones.
     around: Around,
+    beside: Around,
     field: PhantomData<F>,
 }
 
@@ -33,7 +35,8 @@ impl<'a, F: PrimeField> Model for OpeningBlock<'a, F> {
 
     ghost view = { λ block. named_block F.P block.cube.now block.places.least.j };
 
-    ghost invariant = { λ block. IsOpeningBlock F.P block.cube.now block.places block.around };
+    ghost invariant = { λ block. IsOpeningBlock F.P block.cube.now block.places block.around
+        block.beside };
 }
 
 impl Cube {
@@ -66,6 +69,7 @@ impl Cube {
             cube: self,
             places,
             around: Around::nowhere(alloc),
+            beside: Around::nowhere(alloc),
             field: PhantomData,
         }
     }
@@ -88,13 +92,15 @@ impl<'a, F: PrimeField> ColumnSource<F> for OpeningBlock<'a, F> {
         k: usize,
         place: usize,
     ) -> Result<(), NoMemory> {
+        let (near, around) = (&self.around, &mut self.beside);
         self.places
-            .put_column::<F>(self.cube, &mut self.around, column, k, place)
+            .put_column::<F>(self.cube, near, around, column, k, place)
     }
 
     fn last_entry(&mut self, k: usize, place: usize) -> Result<Option<Entry>, NoMemory> {
+        let (near, around) = (&self.beside, &mut self.around);
         self.places
-            .last_entry::<F>(self.cube, &mut self.around, k, place)
+            .last_entry::<F>(self.cube, near, around, k, place)
     }
 }
 

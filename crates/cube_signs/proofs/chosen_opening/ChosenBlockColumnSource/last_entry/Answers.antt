@@ -12,8 +12,8 @@ index-tail-requires g c =
       c.index.result.now.ok.0,
     )
 
-pub last_entry-requires-clause-tail : goal.last_entry-requires-clause-tail
-last_entry-requires-clause-tail g c = (
+pub last_entry_near-requires-clause-tail : goal.last_entry_near-requires-clause-tail
+last_entry_near-requires-clause-tail g c = (
   _,
   _,
   tail-held c.self.inside.chosen c.self.invariant c.self.view_is c.args.k c.args.place c.index.result.now c.requires.degree

@@ -16,8 +16,8 @@ index-tail-requires g c =
       c.index.result.now.ok.0,
     )
 
-pub put_column-requires-clause-tail : goal.put_column-requires-clause-tail
-put_column-requires-clause-tail g c = (
+pub put_column_near-requires-clause-tail : goal.put_column_near-requires-clause-tail
+put_column_near-requires-clause-tail g c = (
   _,
   _,
   tail-held c.self.inside.chosen c.self.invariant c.self.view_is c.args.k c.args.place c.index.result.now c.requires.degree
@@ -34,10 +34,10 @@ pub returns-clause-column : goal.returns-clause-column
 returns-clause-column g c =
     let complex = c.args.self.now.complex in
     let tail = c.index-tail.result.now in
-    let entries = c.put_column.new.column.items in
+    let entries = c.put_column_near.new.column.items in
     let move = moved_entry c.list_at.result.now in
     let moved : c.renumber.new.column ≡ map move entries = c.renumber.ensures ∙ ap (map move) c.deref_mut.ensures.value in
-    let written = written-whole c.put_column.new.column.len entries c.renumber.new.column c.put_column.new.column.ok.0
+    let written = written-whole c.put_column_near.new.column.len entries c.renumber.new.column c.put_column_near.new.column.ok.0
     (ap length moved ∙ length-map entries move) in
     subst (IsColumnOf g.F.PrimeField.P complex (complex.low +ℤ pos c.args.k) c.args.place) (sym (written ∙ moved))
     (column-held c.self.inside.chosen c.self.invariant c.self.view_is c.args.k c.args.place c.index.result.now c.requires.degree
@@ -45,4 +45,4 @@ returns-clause-column g c =
     c.deref-2.ensures.value entries
     (λ i j are tails.
     subst (λ (p : ℕ). IsColumn p c.self.inside.cube.now i j tail entries) c.P.ensures
-    (c.in_ok-put_column.ensures.column i j (c.deref.ensures.value ∙ are) tails)))
+    (c.in_ok-put_column_near.ensures.column i j (c.deref.ensures.value ∙ are) tails)))

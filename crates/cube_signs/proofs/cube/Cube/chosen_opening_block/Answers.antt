@@ -24,6 +24,8 @@ invariant_of-result g c =
       are_places = c.in_ok-chosen.ensures.places ∙ ap (λ (n : ℕ). all_places_to choice code j (2 * n + 1)) count;
       are_bases = c.in_ok-bases.ensures.bases ∙ ap (λ (j : ℤ). map (own_base code j) (states code)) (sym c.lowest-lowest.ensures.j);
       small = c.in_ok-bases.ensures.small;
-      found = found-nowhere p code c.in_ok-bases.field-0.bases.items c.nowhere.result.state c.nowhere.result.outs.items
+      around_is = found-nowhere p code c.in_ok-bases.field-0.bases.items c.nowhere.result.state c.nowhere.result.outs.items
           c.nowhere.ensures.state few;
+      beside_is = found-nowhere p code c.in_ok-bases.field-0.bases.items c.nowhere-2.result.state c.nowhere-2.result.outs.items
+          c.nowhere-2.ensures.state few;
     }
