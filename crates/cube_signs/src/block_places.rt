@@ -43,7 +43,7 @@ impl Cube {
         let _ = (self.crossing_count(), self.state_count());
         let Places { bases, sizes } = self.places(alloc, j)?;
         let span = self.span(alloc, &sizes, self.lowest(j))?;
-        let names = self.all_names(alloc, span.least, span.count)?;
+        let names = self.all_names(alloc, &sizes, span.least, span.count)?;
         Ok(BlockPlaces {
             least: span.least,
             names,

@@ -68,7 +68,7 @@ impl Cube {
         let places = self.places(alloc, j)?;
         let span = self.span(alloc, &places.sizes, self.lowest(j))?;
         let least = span.least;
-        let names = self.all_names(alloc, least, span.count)?;
+        let names = self.all_names(alloc, &places.sizes, least, span.count)?;
         let columns = self.all_columns(alloc, p, least, &places.bases, &names)?;
         Ok(Parts {
             least,
@@ -134,13 +134,15 @@ impl Cube {
         Ok(columns)
     }
 
-    /// The generators of each degree from a least one on.
+    /// The generators of each degree from a least one on, given how many each degree has.
     pub(crate) fn all_names(
         &self,
         alloc: Global,
+        sizes: &[usize],
         least: Degrees,
         count: usize,
     ) -> Result<Vec<Vec<Generator>>, NoMemory>
+        requires sizes { HaveSizes self.now least.j (2 ^ length self.now.crossings) sizes.now }
         requires low { neg_ℤ (pos DEGREES) ≤ℤ least.i }
         requires high { (least.i +ℤ pos count) ≤ℤ pos DEGREES }
         ensures { IfOk result (λ names.
@@ -148,7 +150,8 @@ impl Cube {
     {
         let mut names = Vec::with_capacity(alloc, count)?;
         'degrees: for k in 0..count {
-            let degree = self.names(alloc, least.above(k))?;
+            let at = least.above(k);
+            let degree = self.names(alloc, at, self.size(sizes, at))?;
             names.push(degree)?;
         }
         Ok(names)

@@ -150,7 +150,7 @@ impl Cube {
         let mut names = Vec::with_capacity(alloc, count)?;
         let mut before = Vec::with_capacity(alloc, count)?;
         'degrees: for k in 0..count {
-            let all = self.names(alloc, lowest.above(k))?;
+            let all = self.names(alloc, lowest.above(k), 0)?;
             names.push(chosen_of(alloc, &all, circles)?)?;
             before.push(places_before(alloc, &all, circles)?)?;
         }

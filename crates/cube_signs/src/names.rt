@@ -57,12 +57,17 @@ impl Degrees {
 }
 
 impl Cube {
-    /// The generators of two degrees.
-    pub(crate) fn names(&self, alloc: Global, at: Degrees) -> Result<Vec<Generator>, NoMemory>
+    /// The generators of two degrees; room is made for so many.
+    pub(crate) fn names(
+        &self,
+        alloc: Global,
+        at: Degrees,
+        room: usize,
+    ) -> Result<Vec<Generator>, NoMemory>
         ensures { IfOk result (λ names. names.items ≡ generators_at self.now at.i at.j) }
     {
         let states = self.states_at(at);
-        let mut names = Vec::new(alloc);
+        let mut names = Vec::with_capacity(alloc, room)?;
         'states: for k in 0..states.len() {
             self.push_names(&mut names, states[k], at)?;
         }
