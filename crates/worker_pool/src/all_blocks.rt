@@ -57,7 +57,8 @@ pub(crate) fn finished_by_workers<
 ) -> Result<Finished<F>, NoMemory>
     requires degrees { AreDegreesOf (arc_value cube.now) degrees.now }
     requires workers { crew.now.workers ≤ WORKERS }
-    ensures blocks { IfOk result (λ done. AreBlocksAt (arc_value cube.now) degrees.now done.blocks.items) }
+    ensures blocks { IfOk result (λ done.
+        AreBlocksAt (arc_value cube.now) degrees.now done.blocks.items) }
     ensures done { IfOk result (AreDone F.P) }
 {
     let alloc = crew.alloc;
