@@ -1,15 +1,15 @@
 -- The states by the number of their 1-smoothings, and the generators of a degree over its states alone.
 use Rattle.std.proofs.lemmas.Bool.Decides.{nat_tests}
-use Rattle.std.proofs.Common.{◌≡◌, ◌≢◌, ℕ, ◌+◌, ◌^◌, ◌<◌, ◌≤◌, ◌∙◌, ℤ, pos, ◌-ℤ◌, List, [], ◌∷◌, ◌++◌, length, get_or, map, take, refl, sym, ap, subst, arith, Bool, true, false, cond}
+use Rattle.std.proofs.Common.{◌≡◌, ◌≢◌, ℕ, ◌+◌, ◌^◌, ◌<◌, ◌≤◌, ◌∙◌, inl, inr, ℤ, pos, ◌-ℤ◌, List, [], ◌∷◌, ◌++◌, length, get_or, set, map, take, refl, sym, ap, subst, arith, Bool, true, false, cond}
 use Rattle.std.specs.Prelude.{nat_eq, slice_index, slice_index_or}
 use Rattle.std.specs.Global.{Vec}
 use Rattle.std.specs.List.{All, filter, flat_map, range_with_len}
 use Rattle.std.specs.Ordering.{int_eq}
 use Rattle.std.proofs.Math.Path.{fun_ext}
 use Rattle.std.proofs.lemmas.Bool.{eq-eqb, eqb-true}
-use Rattle.std.proofs.lemmas.Bool.Decides.{Decides-int_eq}
+use Rattle.std.proofs.lemmas.Bool.Decides.{Decides-int_eq, eqb_tells}
 use Rattle.std.proofs.lemmas.Int.{ints}
-use Rattle.std.proofs.lemmas.List.{append-nil, length-map, take_all, take_more}
+use Rattle.std.proofs.lemmas.List.{append-nil, get_or-set_other, get_or-set_same, length-map, length-set, take_all, take_more}
 use Rattle.std.proofs.lemmas.List.Concat.{flat_map-append}
 use Rattle.std.proofs.lemmas.List.Elements.{All-filter, All-get_or}
 use Rattle.std.proofs.lemmas.List.FromFn.{get_or-map-range_with_len, get_or-range_with_len, length-map-range_with_len, length-range_with_len}
@@ -22,43 +22,79 @@ use Rattle.kh_types.proofs.Ranges.{filter-range_more}
 use Rattle.kh_types.proofs.Tests.{agree}
 use Rattle.kh_types.proofs.Integers.{int_eq-other}
 use Rattle.sparse_block.specs.Inside.{lists_in}
+use Rattle.sparse_block.proofs.ClearingLemmas.{list-same}
 use Rattle.sparse_block.proofs.LineLemmas.{list-lists_in}
 use Rattle.cube_signs.specs.Shapes.{shape_of}
-use Rattle.cube_signs.specs.Tables.{all_levels, levels_below, own_degree, state_generators, states_at, states_with}
+use Rattle.cube_signs.specs.Tables.{all_levels, levels_to, own_degree, state_generators, states_at, states_with}
 use Rattle.cube_signs.specs.declared.shape.Shape.{Shape}
 use Rattle.cube_signs.proofs.GeneratorPlaces.{generators_at-below}
 use Rattle.cube_signs.proofs.LabelPlaces.{is_label-none, state_generators-none}
-use Rattle.cube_signs.proofs.StateLists.{images-more}
 
--- one state more of a level
-pub level-more : (code : Code) (shapes : List Shape) (made next : List ℕ) (state level : ℕ) (shape d : Shape)
-    → made ≡ filter (λ other. nat_eq (one_count code other) level) (range_with_len 0 state)
-    → shapes ≡ map (shape_of code) (states code) → state < 2 ^ length code.crossings → shape ≡ get_or shapes state d
-    → next ≡ made ++ cond (nat_eq shape.ones level) (state ∷ []) []
-    → next ≡ filter (λ other. nat_eq (one_count code other) level) (range_with_len 0 (state + 1))
-level-more code shapes made next state level shape d is_made are below is is_next =
-    let p : ℕ → Bool = λ other. nat_eq (one_count code other) level in
-    let of : shape ≡ shape_of code state =
-    is ∙ ap (λ (xs : List Shape). get_or xs state d) are
-    ∙ get_or-map-range_with_len (shape_of code) 0 (2 ^ length code.crossings) state state d below (omega arith) in
-    is_next ∙ ap (λ (xs : List ℕ). xs ++ cond (nat_eq shape.ones level) (state ∷ []) []) is_made
-    ∙ ap (λ (s : Shape). filter p (range_with_len 0 state) ++ cond (nat_eq s.ones level) (state ∷ []) []) of
-    ∙ sym (filter-range_more p 0 state state (omega arith))
+pub length-levels_to : (code : Code) (count : ℕ) → length (levels_to code count) ≡ CROSSINGS + 1
+length-levels_to code count =
+    length-map-range_with_len (λ level. filter (λ state. nat_eq (one_count code state) level) (range_with_len 0 count)) 0 (CROSSINGS + 1)
 
-pub level-all : (code : Code) (made : List ℕ) (state level : ℕ)
-    → made ≡ filter (λ other. nat_eq (one_count code other) level) (range_with_len 0 state) → state ≡ 2 ^ length code.crossings
-    → made ≡ states_with code level
-level-all code made state level is_made all = grind (arith, nat_tests)
+-- one state more: it is added to its own level
+pub levels-more : (code : Code) (shapes : List Shape) (lists next : List (List ℕ)) (state : ℕ) (shape d : Shape)
+    → lists ≡ levels_to code state → shapes ≡ map (shape_of code) (states code) → state < 2 ^ length code.crossings
+    → length code.crossings ≤ CROSSINGS → shape ≡ get_or shapes state d
+    → next ≡ set lists shape.ones (slice_index_or lists shape.ones [] ++ state ∷ []) → next ≡ levels_to code (state + 1)
+levels-more code shapes lists next state shape d is_lists are below few is is_next =
+    list-same next (levels_to code (state + 1)) []
+    (ap length is_next ∙ length-set lists shape.ones (slice_index_or lists shape.ones [] ++ state ∷ []) ∙ ap length is_lists ∙ length-levels_to code state
+    ∙ sym (length-levels_to code (state + 1)))
+    (λ level within.
+    let there : level < CROSSINGS + 1 = omega (arith, within, length-levels_to code (state + 1)) in
+    let before : get_or lists level [] ≡ filter (of_level level) (range_with_len 0 state) =
+    ap (λ (lists : List (List ℕ)). get_or lists level []) is_lists ∙ at state level there in
+    let after : get_or (levels_to code (state + 1)) level []
+    ≡ filter (of_level level) (range_with_len 0 state) ++ cond (of_level level state) (state ∷ []) [] =
+    at (state + 1) level there ∙ filter-range_more (of_level level) 0 state state (omega arith) in
+    elim (eqb_tells (one_count code state) level) [
+      | inl same ↦
+          let place : shape.ones ≡ level = ones ∙ same.1 in
+          ap (λ (lists : List (List ℕ)). get_or lists level []) is_next
+          ∙ ap (λ (n : ℕ). get_or (set lists n (slice_index_or lists n [] ++ state ∷ [])) level []) place
+          ∙ get_or-set_same lists level (slice_index_or lists level [] ++ state ∷ []) [] (omega (arith, there, ap length is_lists, length-levels_to code state))
+          ∙ ap (λ (xs : List ℕ). xs ++ state ∷ []) before
+          ∙ sym (after ∙ ap (λ (b : Bool). filter (of_level level) (range_with_len 0 state) ++ cond b (state ∷ []) []) same.0)
+      | inr other ↦
+          ap (λ (lists : List (List ℕ)). get_or lists level []) is_next
+          ∙ get_or-set_other lists shape.ones level (slice_index_or lists shape.ones [] ++ state ∷ []) []
+          (λ same. other.1 (sym ones ∙ sym same)) ∙ before
+          ∙ sym (after ∙ ap (λ (b : Bool). filter (of_level level) (range_with_len 0 state) ++ cond b (state ∷ []) []) other.0
+          ∙ append-nil (filter (of_level level) (range_with_len 0 state)))
+    ])
+  where
+    of_level : ℕ → ℕ → Bool
+    of_level level other = nat_eq (one_count code other) level
 
--- one level more, and all
-pub levels-more : (code : Code) (made next : List (List ℕ)) (more : List ℕ) (level : ℕ) → made ≡ levels_below code level
-    → more ≡ states_with code level → next ≡ made ++ more ∷ [] → next ≡ levels_below code (level + 1)
-levels-more code made next more level is_made is_more is_next = grind (arith, nat_tests, images-more)
+    at : (count level : ℕ) → level < CROSSINGS + 1
+        → get_or (levels_to code count) level [] ≡ filter (λ state. nat_eq (one_count code state) level) (range_with_len 0 count)
+    at count level there =
+        get_or-map-range_with_len (λ level. filter (λ state. nat_eq (one_count code state) level) (range_with_len 0 count)) 0 (CROSSINGS + 1)
+        level level [] there (omega arith)
 
-pub levels-all : (code : Code) (made : List (List ℕ)) (level : ℕ) → made ≡ levels_below code level → level ≡ CROSSINGS + 1
-    → made ≡ all_levels code
+    ones : shape.ones ≡ one_count code state
+    ones =
+        ap (λ (shape : Shape). shape.ones) (is ∙ ap (λ (xs : List Shape). get_or xs state d) are
+        ∙ get_or-map-range_with_len (shape_of code) 0 (2 ^ length code.crossings) state state d below (omega arith))
+
+-- and all
+pub levels-all : (code : Code) (lists : List (List ℕ)) (state : ℕ) → lists ≡ levels_to code state → state ≡ 2 ^ length code.crossings
+    → lists ≡ all_levels code
 unfolding all_levels
-levels-all code made level is_made all = is_made ∙ ap (levels_below code) all
+levels-all code lists state is_lists all = is_lists ∙ ap (levels_to code) all
+
+-- a state has fewer 1-smoothings than there are levels
+pub shape-level : (code : Code) (shapes : List Shape) (state : ℕ) (shape d : Shape) → shapes ≡ map (shape_of code) (states code)
+    → state < 2 ^ length code.crossings → length code.crossings ≤ CROSSINGS → shape ≡ get_or shapes state d
+    → shape.ones < CROSSINGS + 1
+shape-level code shapes state shape d are below few is =
+    let of : shape.ones ≡ one_count code state =
+    ap (λ (shape : Shape). shape.ones) (is ∙ ap (λ (xs : List Shape). get_or xs state d) are
+    ∙ get_or-map-range_with_len (shape_of code) 0 (2 ^ length code.crossings) state state d below (omega arith)) in
+    omega (arith, of, few, one_count-le code state)
 
 pub levels-length : (code : Code) (levels : List (Vec ℕ)) → lists_in levels ≡ all_levels code → length levels ≡ CROSSINGS + 1
 unfolding all_levels

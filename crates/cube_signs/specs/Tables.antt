@@ -1,5 +1,5 @@
 -- What is looked up for the blocks of a cube, found once for all of them.
-use Rattle.std.specs.Prelude.{◌≡◌, ℕ, ◌^◌, ◌+◌, ◌<◌, ◌≤◌, ℤ, pos, ◌-ℤ◌, List, length, map, slice_index, nat_eq, true, Option, IsTrue}
+use Rattle.std.specs.Prelude.{◌≡◌, ℕ, ◌^◌, ◌+◌, ◌<◌, ◌≤◌, ℤ, pos, ◌-ℤ◌, List, [], length, map, slice_index, nat_eq, true, Option, IsTrue}
 use Rattle.std.specs.List.{filter, flat_map, range_with_len}
 use Rattle.std.specs.Ordering.{int_eq}
 use Rattle.arrayvec.specs.ArrayVec.{ArrayVec}
@@ -43,13 +43,22 @@ own_base code j state = base_of code (own_degree code state) j state
 abbrev pub states_with : Code → ℕ → List ℕ
 states_with code level = filter (λ state. nat_eq (one_count code state) level) (states code)
 
--- the same for each number of 1-smoothings below one
-abbrev pub levels_below : Code → ℕ → List (List ℕ)
-levels_below code count = map (states_with code) (range_with_len 0 count)
-
 -- the same for each number of 1-smoothings that a state can have
 unfoldable pub all_levels : Code → List (List ℕ)
-all_levels code = levels_below code (CROSSINGS + 1)
+all_levels code = map (states_with code) (range_with_len 0 (CROSSINGS + 1))
+
+-- no state
+abbrev pub none_of : ℕ → List ℕ
+none_of level = []
+
+-- the same of the states below a number alone
+abbrev pub levels_to : Code → ℕ → List (List ℕ)
+levels_to code count =
+    map (λ level. filter (λ state. nat_eq (one_count code state) level) (range_with_len 0 count)) (range_with_len 0 (CROSSINGS + 1))
+
+-- no state for each of so many numbers
+abbrev pub no_states : ℕ → List (List ℕ)
+no_states count = map none_of (range_with_len 0 count)
 
 -- the states whose generators have the homological degree i, ascending
 abbrev pub states_at : Code → ℤ → List ℕ

@@ -1,11 +1,13 @@
 //! The states of a diagram by the number of their 1-smoothings, so that each degree of a block goes
 //! over its own states alone.
 
-ghost use Rattle.std.specs.Prelude.{◌≡◌, ◌++◌, ◌∷◌, [], if◌then◌else◌, IfOk, OnOk, map, nat_eq};
+ghost use Rattle.std.specs.Prelude.{◌≡◌, ◌+◌, ◌<◌, ◌++◌, ◌∷◌, [], IfOk, OnOk, length, map};
+ghost use Rattle.std.specs.Prelude.{slice_index_or, slice_set};
+ghost use Rattle.kh_types.specs.declared.limits.TheConstants.{CROSSINGS};
 ghost use Rattle.kh_types.specs.Generators.{states};
 ghost use Rattle.sparse_block.specs.Inside.{lists_in};
 ghost use Rattle.cube_signs.specs.Shapes.{shape_of};
-ghost use Rattle.cube_signs.specs.Tables.{all_levels, states_at, states_with};
+ghost use Rattle.cube_signs.specs.Tables.{all_levels, no_states, states_at};
 
 use crate::cube::Cube;
 use crate::names::Degrees;
@@ -23,41 +25,33 @@ pub fn all_levels(
     requires { shapes.now ≡ map (shape_of diagram.now) (states diagram.now) }
     ensures { IfOk result (λ levels. lists_in levels.items ≡ all_levels diagram.now) }
 {
-    let mut levels = Vec::with_capacity(alloc, CROSSINGS + 1)?;
-    'levels: for ones in 0..CROSSINGS + 1 {
-        let states = level(alloc, diagram, shapes, ones)?;
-        levels.push(states)?;
+    // (the number of crossings is small)
+    let _ = diagram.count();
+    let mut levels = no_levels(alloc)?;
+    'states: for state in 0..shapes.len() {
+        push_state(&mut levels, usize::from(shapes[state].ones), state as u32)?;
     }
     Ok(levels)
 }
 
-/// The states with so many 1-smoothings.
-fn level(
-    alloc: Global,
-    diagram: &Diagram,
-    shapes: &[Shape],
-    ones: usize,
-) -> Result<Vec<u32>, NoMemory>
-    requires { shapes.now ≡ map (shape_of diagram.now) (states diagram.now) }
-    ensures { IfOk result (λ level. level.items ≡ states_with diagram.now ones) }
+/// A list with no state for each number of 1-smoothings that a state can have.
+fn no_levels(alloc: Global) -> Result<Vec<Vec<u32>>, NoMemory>
+    ensures { IfOk result (λ levels. lists_in levels.items ≡ no_states (CROSSINGS + 1)) }
 {
-    // (the number of crossings is small)
-    let _ = diagram.count();
-    let mut level = Vec::new(alloc);
-    'states: for state in 0..shapes.len() {
-        push_state(&mut level, state as u32, &shapes[state], ones)?;
+    let mut levels = Vec::with_capacity(alloc, CROSSINGS + 1)?;
+    'levels: for _ in 0..CROSSINGS + 1 {
+        levels.push(Vec::new(alloc))?;
     }
-    Ok(level)
+    Ok(levels)
 }
 
-/// Adds a state, where it has so many 1-smoothings.
-fn push_state(level: &mut Vec<u32>, state: u32, shape: &Shape, ones: usize) -> Result<(), NoMemory>
-    ensures { OnOk result (level.new.items
-        ≡ level.old.items ++ (if nat_eq shape.now.ones ones then state ∷ [] else [])) }
+/// Adds a state to the list at a place.
+fn push_state(levels: &mut Vec<Vec<u32>>, place: usize, state: u32) -> Result<(), NoMemory>
+    requires { place < length levels.old.items }
+    ensures { OnOk result (lists_in levels.new.items ≡ slice_set (lists_in levels.old.items) place
+        (slice_index_or (lists_in levels.old.items) place [] ++ state ∷ [])) }
 {
-    if usize::from(shape.ones) == ones {
-        level.push(state)?;
-    }
+    levels[place].push(state)?;
     Ok(())
 }
 

@@ -50,7 +50,7 @@ pub fn all_circles(alloc: Global, diagram: &Diagram) -> Result<Vec<Circles>, NoM
     ensures { IfOk result (λ all. all.items ≡ resolutions diagram.now) }
 {
     let smoothings = Smoothings::new(diagram);
-    let mut all = Vec::new(alloc);
+    let mut all = Vec::with_capacity(alloc, 1 << diagram.count())?;
     'states: for state in 0..1u32 << diagram.count() {
         all.push(smoothings.circles(state))?;
     }
