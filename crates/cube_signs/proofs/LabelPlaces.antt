@@ -27,7 +27,7 @@ use Rattle.kh_types.proofs.Ranges.{map_from_zero}
 use Rattle.circle_smoothing.specs.declared.change.Edge.{Edge}
 use Rattle.cube_signs.specs.LabelRanks.{labels_with, same_before, weights_of}
 use Rattle.cube_signs.specs.Shapes.{gives_degree, is_given, shape_of}
-use Rattle.cube_signs.specs.Tables.{state_generators, AreRanks, AreTables, AtState}
+use Rattle.cube_signs.specs.Tables.{state_generators, AreRanks, AreTables}
 use Rattle.cube_signs.specs.declared.shape.Shape.{Shape}
 use Rattle.cube_signs.proofs.GeneratorPlaces.{is_label, labels_at, state_generators-labels}
 use Rattle.cube_signs.proofs.ShapeLemmas.{quantum_degree-label}
@@ -110,15 +110,18 @@ is_label-beside code i j state label other passes =
     is_label-shape code i j state other ∙ ap (λ b. b && gives_degree shape j (ones count other)) both.0
     ∙ one_count-of shape.top j (ones count label) (ones count other) both.1
 
--- what the tables of a cube say of a state
-pub tables-state : (code : Code) (minus : ℕ) (shapes : List Shape) (rows : List (ArrayVec (Option Edge))) (weights ranks : List ℕ)
-    (levels : List (List ℕ)) (state : ℕ) → AreTables code minus shapes rows weights ranks levels → state < 2 ^ length code.crossings → AtState code state weights
-tables-state code minus shapes rows weights ranks levels state are below =
-    let few = are.most state below in
-    let power : 2 ^ circle_count code state ≤ 2 ^ are.width = pow_mono few in
+-- a list of weights has the number of v- of each label of a state
+pub record AtState (code : Code) (state : ℕ) (weights : List ℕ) : Type 0 where
+  pub wide : 2 ^ circle_count code state ≤ length weights
+  pub weight : (label : ℕ) → label < 2 ^ circle_count code state → slice_index weights label ≡ ones (circle_count code state) label
+
+-- the weights of the labels of at least as many circles
+pub weights-state : (code : Code) (width state : ℕ) → circle_count code state ≤ width → AtState code state (weights_of width)
+weights-state code width state few =
+    let power : 2 ^ circle_count code state ≤ 2 ^ width = pow_mono few in
     record {
-      wide = omega (arith, power, length-weights are.width weights are.are_weights);
-      weight = λ label small. weight-at are.width (circle_count code state) label weights are.are_weights few small;
+      wide = omega (arith, power, length-weights width (weights_of width) refl);
+      weight = λ label small. weight-at width (circle_count code state) label (weights_of width) refl few small;
     }
 
 -- the labels with the weight that gives the degree are those that have it
@@ -156,21 +159,23 @@ state_generators-none code i j state none =
         ∙ nothing (a + 1) n
 
 -- the ranks in the tables of a cube
-pub AreRanks-tables : (code : Code) (minus : ℕ) (shapes : List Shape) (rows : List (ArrayVec (Option Edge))) (weights ranks : List ℕ)
-    (levels : List (List ℕ)) → AreTables code minus shapes rows weights ranks levels → AreRanks code ranks
-AreRanks-tables code minus shapes rows weights ranks levels are =
+pub AreRanks-tables : (code : Code) (minus : ℕ) (shapes : List Shape) (rows : List (ArrayVec (Option Edge))) (labels : List (List ℕ))
+    (ranks : List ℕ) (levels : List (List ℕ)) → AreTables code minus shapes rows labels ranks levels → AreRanks code ranks
+AreRanks-tables code minus shapes rows labels ranks levels are =
+    let weights = weights_of are.width in
     record {
       each = λ i j state label state_below label_below passes.
-          let at = tables-state code minus shapes rows weights ranks levels state are state_below in
+          let at = weights-state code are.width state (are.most state state_below) in
           ap (λ xs. slice_index xs label) are.are_ranks
           ∙ get_or-map-range_with_len (same_before weights) 0 (length weights) label label 0 (omega (arith, label_below, at.wide))
           (omega arith)
           ∙ rank-at code i j state label weights at label_below passes;
     }
 
-pub small-ranks : (code : Code) (minus : ℕ) (shapes : List Shape) (rows : List (ArrayVec (Option Edge))) (weights ranks : List ℕ)
-    (levels : List (List ℕ)) → AreTables code minus shapes rows weights ranks levels → All (λ rank. rank < 2 ^ 28) ranks
-small-ranks code minus shapes rows weights ranks levels are =
+pub small-ranks : (code : Code) (minus : ℕ) (shapes : List Shape) (rows : List (ArrayVec (Option Edge))) (labels : List (List ℕ))
+    (ranks : List ℕ) (levels : List (List ℕ)) → AreTables code minus shapes rows labels ranks levels → All (λ rank. rank < 2 ^ 28) ranks
+small-ranks code minus shapes rows labels ranks levels are =
+    let weights = weights_of are.width in
     subst (λ (ranks : List ℕ). All (λ rank. rank < 2 ^ 28) ranks) (sym are.are_ranks)
     (All-map (λ rank. rank < 2 ^ 28) (same_before weights) (range_with_len 0 (length weights))
     (λ k d within.
@@ -182,7 +187,7 @@ small-ranks code minus shapes rows weights ranks levels are =
       ap (same_before weights) at,
       count_by-le-length (nat_eq (slice_index weights k)) (take k weights),
       length-take-le k weights (omega arith),
-      length-weights are.width weights are.are_weights,
+      length-weights are.width weights refl,
       power,
       below,
     )))

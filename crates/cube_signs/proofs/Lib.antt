@@ -12,6 +12,7 @@ pub mod HeadBounds
 pub mod TableLemmas
 pub mod GeneratorPlaces
 pub mod LabelPlaces
+pub mod LabelLists
 pub mod NameLemmas
 pub mod EdgeEntries
 pub mod SignLemmas

@@ -14,7 +14,7 @@ use Rattle.circle_smoothing.specs.GeneratorCounts.{generator_count}
 use Rattle.circle_smoothing.specs.declared.change.Edge.{Edge}
 use Rattle.circle_smoothing.specs.declared.limits.TheConstants.{GENERATORS}
 use Rattle.cube_signs.specs.declared.limits.TheConstants.{WIDTH}
-use Rattle.cube_signs.specs.LabelRanks.{ranks_of, weights_of}
+use Rattle.cube_signs.specs.LabelRanks.{labels_by_weight, labels_of, ranks_of, weights_of}
 use Rattle.cube_signs.specs.Shapes.{is_given, shape_of}
 use Rattle.cube_signs.specs.Steps.{steps_in, HaveSteps}
 use Rattle.cube_signs.specs.declared.shape.Shape.{Shape}
@@ -71,9 +71,10 @@ pub record HaveSizes (code : Code) (j : ℤ) (count : ℕ) (sizes : List ℕ) : 
       → slice_index sizes level ≡ base_of code (pos level -ℤ pos (minus_count code.crossings)) j count
 
 -- the diagram's code is accepted and within the limits; there are its negative crossings, for each state its shape and the edges out
--- of it, the states by the number of their 1-smoothings, and for each label of as many circles as any state has how many v- it has, and how many labels before it have as many
-pub record AreTables (code : Code) (minus : ℕ) (shapes : List Shape) (rows : List (ArrayVec (Option Edge))) (weights ranks : List ℕ)
-    (levels : List (List ℕ)) : Type 0 where
+-- of it, and the states by the number of their 1-smoothings; and of the labels of as many circles as any state has there are those of each
+-- number of v-, and for each label how many before it have as many v-
+pub record AreTables (code : Code) (minus : ℕ) (shapes : List Shape) (rows : List (ArrayVec (Option Edge))) (labels : List (List ℕ))
+    (ranks : List ℕ) (levels : List (List ℕ)) : Type 0 where
   pub is_code : IsTrue (accepted code)
   pub few : length code.crossings ≤ CROSSINGS
   pub size : generator_count code ≤ GENERATORS
@@ -83,18 +84,19 @@ pub record AreTables (code : Code) (minus : ℕ) (shapes : List Shape) (rows : L
   pub width : ℕ
   pub narrow : width ≤ WIDTH
   pub most : (state : ℕ) → state < 2 ^ length code.crossings → circle_count code state ≤ width
-  pub are_weights : weights ≡ weights_of width
-  pub are_ranks : ranks ≡ ranks_of weights (length weights)
+  pub are_labels : labels ≡ labels_by_weight width
+  pub are_ranks : ranks ≡ ranks_of (weights_of width) (length (weights_of width))
   pub are_levels : levels ≡ all_levels code
 
 -- a number of labels v-, if any is given, is that of the labels that have the degrees i and j in a state
 pub record IsWeight (code : Code) (i j : ℤ) (state : ℕ) (given : Option ℕ) : Type 0 where
   pub labels : (label : ℕ) → has_degrees code i j (generator_of state label) ≡ is_given given (ones (circle_count code state) label)
 
--- a list of weights has the number of v- of each label of a state
-pub record AtState (code : Code) (state : ℕ) (weights : List ℕ) : Type 0 where
-  pub wide : 2 ^ circle_count code state ≤ length weights
-  pub weight : (label : ℕ) → label < 2 ^ circle_count code state → slice_index weights label ≡ ones (circle_count code state) label
+-- a list has the labels with this many v- of as many circles as any state has, ascending
+pub record AreLabels (code : Code) (weight : ℕ) (labels : List ℕ) : Type 0 where
+  pub width : ℕ
+  pub most : (state : ℕ) → state < 2 ^ length code.crossings → circle_count code state ≤ width
+  pub are : labels ≡ labels_of width weight
 
 -- a list of ranks has, for each label of a state, how many labels before it have the degrees that it has
 pub record AreRanks (code : Code) (ranks : List ℕ) : Type 0 where

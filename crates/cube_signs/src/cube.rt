@@ -11,7 +11,7 @@ ghost use Rattle.cube_signs.specs.Steps.{HasSteps};
 ghost use Rattle.cube_signs.specs.Tables.{AreRanks};
 ghost use Rattle.cube_signs.specs.declared.limits.TheConstants.{PLACES, WIDTH};
 
-use crate::labels::{ranks_of, weights_of};
+use crate::labels::{labels_by_weight, ranks_of, weights_of};
 use crate::levels::all_levels;
 use crate::quantum_degrees::block_degrees;
 use crate::shape::{Shape, all_circles, all_shapes};
@@ -32,9 +32,9 @@ pub struct Cube {
     // For each state its number of circles and its degrees, and the edges out of it.
     pub(crate) shapes: Vec<Shape>,
     pub(crate) rows: Vec<Steps>,
-    // For each label of as many circles as any state has, the number of its v-, and how many labels
-    // before it have as many.
-    pub(crate) weights: Vec<u8>,
+    // Of the labels of as many circles as any state has: for each number of v- those that have as
+    // many, and for each label how many before it have as many v- as it has.
+    pub(crate) labels: Vec<Vec<u32>>,
     pub(crate) ranks: Vec<u32>,
     // For each number of 1-smoothings the states that have as many.
     pub(crate) levels: Vec<Vec<u32>>,
@@ -50,7 +50,7 @@ impl Model for Cube {
     ghost view = { λ cube. cube.diagram };
 
     ghost invariant = { λ cube. AreTables cube.diagram cube.minus cube.shapes.items cube.rows.items
-        cube.weights.items cube.ranks.items (lists_in cube.levels.items) };
+        (lists_in cube.labels.items) cube.ranks.items (lists_in cube.levels.items) };
 }
 
 impl Cube {
@@ -63,7 +63,9 @@ impl Cube {
         let circles = all_circles(alloc, diagram)?;
         let shapes = all_shapes(alloc, diagram, &circles)?;
         let rows = all_steps(alloc, diagram, &circles)?;
-        let weights = weights_of(alloc, most_circles(&shapes))?;
+        let width = most_circles(&shapes);
+        let weights = weights_of(alloc, width)?;
+        let labels = labels_by_weight(alloc, width, &weights)?;
         let ranks = ranks_of(alloc, &weights)?;
         let levels = all_levels(alloc, diagram, &shapes)?;
         Ok(Cube {
@@ -71,7 +73,7 @@ impl Cube {
             minus: diagram.minus(),
             shapes,
             rows,
-            weights,
+            labels,
             ranks,
             levels,
         })

@@ -1,8 +1,11 @@
 //! The labels of circles, by their numbers of v-.
 
-ghost use Rattle.std.specs.Prelude.{◌≡◌, ◌+◌, ◌^◌, ◌<◌, ◌≤◌, length, slice_index, slice_set};
-ghost use Rattle.std.specs.Prelude.{IfOk, All};
-ghost use Rattle.cube_signs.specs.LabelRanks.{ranks_of, same_before, weights_of};
+ghost use Rattle.std.specs.Prelude.{◌≡◌, ◌+◌, ◌^◌, ◌<◌, ◌≤◌, ◌++◌, [], ◌∷◌, length};
+ghost use Rattle.std.specs.Prelude.{nat_eq, slice_index, slice_index_or, slice_set, replicate};
+ghost use Rattle.std.specs.Prelude.{IfOk, OnOk};
+ghost use Rattle.std.specs.List.{count_by};
+ghost use Rattle.sparse_block.specs.Inside.{lists_in};
+ghost use Rattle.cube_signs.specs.LabelRanks.{labels_by_weight, ranks_of, weights_of};
 ghost use Rattle.cube_signs.specs.declared.limits.TheConstants.{WEIGHTS, WIDTH};
 
 use crate::limits::WEIGHTS;
@@ -20,6 +23,55 @@ pub fn weights_of(alloc: Global, circles: u8) -> Result<Vec<u8>, NoMemory>
         weights.push(ones(usize::from(circles), label))?;
     }
     Ok(weights)
+}
+
+/// For each number of v- that a label of some circles can have, the labels that have as many,
+/// ascending.
+pub fn labels_by_weight(
+    alloc: Global,
+    circles: u8,
+    weights: &[u8],
+) -> Result<Vec<Vec<u32>>, NoMemory>
+    requires circles { circles ≤ WIDTH }
+    requires weights { weights.now ≡ weights_of circles }
+    ensures { IfOk result (λ lists. lists_in lists.items ≡ labels_by_weight circles) }
+{
+    let mut lists = empty_lists(alloc, weights, usize::from(circles) + 1)?;
+    'labels: for label in 0..weights.len() {
+        push_label(&mut lists, weights[label], label as u32)?;
+    }
+    Ok(lists)
+}
+
+/// So many empty lists, each with room for the labels of its weight.
+fn empty_lists(alloc: Global, weights: &[u8], count: usize) -> Result<Vec<Vec<u32>>, NoMemory>
+    ensures { IfOk result (λ lists. lists_in lists.items ≡ replicate count []) }
+{
+    let mut lists = Vec::with_capacity(alloc, count)?;
+    'lists: for weight in 0..count {
+        lists.push(Vec::with_capacity(alloc, label_count(weights, weight))?)?;
+    }
+    Ok(lists)
+}
+
+/// How many labels have this many v-.
+fn label_count(weights: &[u8], weight: usize) -> usize
+    ensures { result ≡ count_by (λ x. nat_eq x weight) weights.now }
+{
+    weights
+        .iter()
+        .filter(|x| usize::from(**x) == weight)
+        .count()
+}
+
+/// Adds a label to the list of its weight.
+fn push_label(lists: &mut Vec<Vec<u32>>, weight: u8, label: u32) -> Result<(), NoMemory>
+    requires { weight < length lists.old.items }
+    ensures { OnOk result (lists_in lists.new.items ≡ slice_set (lists_in lists.old.items) weight
+        (slice_index_or (lists_in lists.old.items) weight [] ++ label ∷ [])) }
+{
+    lists[usize::from(weight)].push(label)?;
+    Ok(())
 }
 
 /// For each label, how many labels before it have as many v-.

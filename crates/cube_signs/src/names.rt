@@ -1,19 +1,16 @@
 //! The generators of a block, by degree, and where those of each state begin.
 
-ghost use Rattle.std.specs.Prelude.{◌≡◌, ℕ, ◌+◌, ◌-◌, ◌*◌, ◌^◌, ◌<◌, ◌≤◌, ◌++◌, [], ◌∷◌, length};
-ghost use Rattle.std.specs.Prelude.{map, take, nat_eq};
-ghost use Rattle.std.specs.Prelude.{if◌then◌else◌, pos, ◌-ℤ◌, ◌+ℤ◌, ◌≤ℤ◌, neg_ℤ, IfOk, OnOk, All};
-ghost use Rattle.std.specs.Prelude.{IsTrue};
-ghost use Rattle.std.specs.List.{count_by, range_with_len};
-ghost use Rattle.std.specs.Ordering.{int_eq};
+ghost use Rattle.std.specs.Prelude.{◌≡◌, ◌^◌, ◌<◌, ◌≤◌, ◌++◌, length, map, nat_lt};
+ghost use Rattle.std.specs.Prelude.{pos, ◌+ℤ◌, ◌≤ℤ◌, neg_ℤ, IfOk, OnOk, IsTrue};
+ghost use Rattle.std.specs.List.{filter};
+ghost use Rattle.std.specs.List.Sorted.{IsNonDecreasing};
 ghost use Rattle.kh_types.specs.Acceptance.{accepted};
 ghost use Rattle.kh_types.specs.Generators.{generator_of, generators_at, states};
 ghost use Rattle.kh_types.specs.declared.limits.TheConstants.{CROSSINGS};
 ghost use Rattle.circle_smoothing.specs.GeneratorCounts.{generator_count};
 ghost use Rattle.circle_smoothing.specs.declared.limits.TheConstants.{GENERATORS};
-ghost use Rattle.cube_signs.specs.LabelRanks.{labels_with};
 ghost use Rattle.cube_signs.specs.Shapes.{shape_of};
-ghost use Rattle.cube_signs.specs.Tables.{base_of, state_generators, AtState, IsWeight};
+ghost use Rattle.cube_signs.specs.Tables.{state_generators, AreLabels, IsWeight};
 ghost use Rattle.cube_signs.specs.declared.limits.TheConstants.{DEGREES, WIDTH};
 
 use crate::cube::Cube;
@@ -85,11 +82,7 @@ impl Cube {
         ensures { OnOk result (names.new.items
             ≡ names.old.items ++ state_generators self.now at.i at.j state) }
     {
-        let shape = self.shape(state as usize);
-        match self.weight(state as usize, at) {
-            Some(weight) => push_labels(names, self.weights(), state, shape.circles, weight),
-            None => Ok(()),
-        }
+        push_labels(names, state, self.labels(state as usize, at))
     }
 
     /// How many generators of two degrees a state has.
@@ -97,10 +90,18 @@ impl Cube {
         requires { state < 2 ^ length self.now.crossings }
         ensures { result ≡ length (state_generators self.now at.i at.j state) }
     {
+        self.labels(state, at).len()
+    }
+
+    /// The labels of the generators of two degrees that a state has, ascending.
+    fn labels(&self, state: usize, at: Degrees) -> &[u32]
+        requires { state < 2 ^ length self.now.crossings }
+        ensures { map (generator_of state) result.now ≡ state_generators self.now at.i at.j state }
+    {
         let shape = self.shape(state);
         match self.weight(state, at) {
-            Some(weight) => label_count(first_labels(self.weights(), shape.circles), weight),
-            None => 0,
+            Some(weight) => first_labels(self.labels_with(weight), shape.circles),
+            None => &[],
         }
     }
 
@@ -128,12 +129,16 @@ impl Cube {
         self.shapes.len()
     }
 
-    /// How many v- each label has.
-    fn weights(&self) -> &[u8]
-        ensures { (state : ℕ) → state < 2 ^ length self.now.crossings
-            → AtState self.now state result.now }
+    /// The labels with this many v-, of as many circles as any state has.
+    fn labels_with(&self, weight: u16) -> &[u32]
+        ensures { AreLabels self.now weight result.now }
     {
-        &self.weights
+        let weight = usize::from(weight);
+        if weight < self.labels.len() {
+            &self.labels[weight]
+        } else {
+            &[]
+        }
     }
 
     /// The shape of a state.
@@ -146,52 +151,24 @@ impl Cube {
     }
 }
 
-/// Adds the generators of a state with this many labels v-.
-fn push_labels(
-    names: &mut Vec<Generator>,
-    weights: &[u8],
-    state: u32,
-    circles: u8,
-    weight: u16,
-) -> Result<(), NoMemory>
-    requires circles { circles ≤ WIDTH }
-    requires weights { 2 ^ circles ≤ length weights.now }
-    ensures { OnOk result (names.new.items ≡ names.old.items
-        ++ map (generator_of state) (labels_with weights.now weight (2 ^ circles))) }
-{
-    'labels: for label in 0..1u64 << circles {
-        let is_named = u16::from(weights[label as usize]) == weight;
-        push_name(names, Generator { state, label }, is_named)?;
-    }
-    Ok(())
-}
-
-fn push_name(
-    names: &mut Vec<Generator>,
-    generator: Generator,
-    is_named: bool,
-) -> Result<(), NoMemory>
+/// Adds the generators of a state with these labels.
+fn push_labels(names: &mut Vec<Generator>, state: u32, labels: &[u32]) -> Result<(), NoMemory>
     ensures { OnOk result (names.new.items
-        ≡ names.old.items ++ (if is_named then generator ∷ [] else [])) }
+        ≡ names.old.items ++ map (generator_of state) labels.now) }
 {
-    if is_named {
-        names.push(generator)?;
+    'labels: for k in 0..labels.len() {
+        let label = u64::from(labels[k]);
+        names.push(Generator { state, label })?;
     }
     Ok(())
 }
 
-/// The weights of the labels of some circles.
-fn first_labels(weights: &[u8], circles: u8) -> &[u8]
+/// The labels of some circles, which are the first of those of more circles.
+fn first_labels(labels: &[u32], circles: u8) -> &[u32]
     requires circles { circles ≤ WIDTH }
-    requires weights { 2 ^ circles ≤ length weights.now }
-    ensures { result.now ≡ take (2 ^ circles) weights.now }
+    requires ascending { IsNonDecreasing labels.now }
+    ensures { result.now ≡ filter (λ label. nat_lt label (2 ^ circles)) labels.now }
 {
-    &weights[..1 << circles]
-}
-
-/// How many labels have this many v-.
-fn label_count(weights: &[u8], weight: u16) -> usize
-    ensures { result ≡ count_by (λ x. nat_eq x weight) weights.now }
-{
-    weights.iter().filter(|x| u16::from(**x) == weight).count()
+    let end = 1u32 << circles;
+    &labels[..labels.partition_point(|label| *label < end)]
 }

@@ -1,8 +1,6 @@
-use Rattle.std.proofs.Common.{◌≡◌, ◌++◌, map}
+use Rattle.std.proofs.Common.{◌≡◌, ◌++◌, map, take}
 use Rattle.kh_types.specs.Generators.{generator_of}
-use Rattle.cube_signs.specs.LabelRanks.{labels_with}
 use Rattle.cube_signs.proofs.names.push_labels.Given as goal
 
 abbrev pub invariant-labels : goal.invariant-labels
-invariant-labels l =
-    l.names.items ≡ l.initial.names.items ++ map (generator_of l.state) (labels_with l.weights l.weight l.label)
+invariant-labels l = l.names.items ≡ l.initial.names.items ++ map (generator_of l.state) (take l.k l.labels)
