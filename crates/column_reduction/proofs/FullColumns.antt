@@ -16,7 +16,7 @@ use Rattle.sparse_block.proofs.ComplexMatrices.{entry-stands}
 use Rattle.sparse_block.proofs.EntryLemmas.{entries_of-line_of, map-range_agree, value_at-entries_of}
 use Rattle.sparse_block.proofs.LastLemmas.{last-at}
 use Rattle.column_reduction.specs.Reductions.{EndsAt, IsLeftOf}
-use Rattle.column_reduction.specs.StoredColumns.{AreStored, IsFree, IsKept, IsLeftOfColumn, IsReducedLine, IsStoredAs, StoredColumn, entries_less, full_column, full_columns, kept_or, last_place, no_column, own_entries, owner_in, reduced_columns, stored_column, stored_pivots, stored_with, with_pair, with_pairs}
+use Rattle.column_reduction.specs.StoredColumns.{AreStored, IsFree, IsStoredOf, IsLeftOfColumn, IsReducedLine, IsStoredAs, StoredColumn, entries_less, full_column, full_columns, kept_or, last_place, no_column, own_entries, owner_in, reduced_columns, stored_column, stored_pivots, stored_with, with_pair, with_pairs}
 use Rattle.column_reduction.proofs.LastEntries.{last_place-within}
 use Rattle.column_reduction.proofs.Lefts.{left-whole}
 use Rattle.column_reduction.proofs.Taking.{IsNextLine, next-line, stored-at}
@@ -181,7 +181,7 @@ module _ (p : ℕ) (complex : Complex) (k column : ℕ) (stored : List StoredCol
         kept = kept-as found kept;
       }
     where
-      kept-as : (found : Option StoredColumn) → IsStoredAs column left found → IsKept complex k column left found
+      kept-as : (found : Option StoredColumn) → IsStoredAs column left found → IsStoredOf complex k column left found
       kept-as None none = none
       kept-as (Some found) (some, is) = (
         some,

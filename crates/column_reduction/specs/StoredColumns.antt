@@ -1,6 +1,7 @@
--- Reduced columns as they are stored, each with its entries, and what a search among them finds.
+-- Reduced columns as they are stored, most without their entries, and what a search among them finds.
 use Rattle.std.specs.Prelude.{◌≡◌, ◌≢◌, ℕ, ◌+◌, ◌<◌, ℤ, pos, ◌+ℤ◌, ◌≤ℤ◌, List, [], ◌∷◌, ◌++◌, length, map, get_or, slice_index_or, Option, Some, None, Bool, false, All, if◌then◌else◌}
 use Rattle.std.specs.List.{fold, range_with_len}
+use Rattle.std.specs.Option.{option_map}
 use Rattle.std.specs.Global.{Vec}
 use Rattle.kh_types.specs.Complex.{Complex, IsComplex, Pivot, entry_of}
 use Rattle.kh_types.specs.History.{IsLegal, replay}
@@ -10,8 +11,8 @@ use Rattle.sparse_block.specs.Entries.{Entry, AreEntries, entries_of, value_at}
 use Rattle.sparse_block.specs.LinePairs.{factor_at, line_less}
 use Rattle.column_reduction.specs.Reductions.{AreReduced, AreReducedColumns, AreReducedUp, EndsAt, HaveNoEntryBelow, IsLeftOf, ReducedColumn, is_last_row, is_place_alive, pivots_from_greatest, pivots_of}
 
--- a reduced column as it is stored: its number in the matrix, the row of its last entry, and its entries; none are kept where they are
--- those of the matrix's own column
+-- a reduced column as it is stored: its number in the matrix, the row of its last entry, and its entries. Where none are kept, they are
+-- those of the matrix's own column: what is said of stored columns below is said of them with all their entries, as `full_column` has them
 pub record StoredColumn : Type 0 where
   pub column : ℕ
   pub row : ℕ
@@ -109,10 +110,9 @@ abbrev pub IsStoredAs : ℕ → List Entry → Option StoredColumn → Type 0
 IsStoredAs column left None = left ≡ []
 IsStoredAs column left (Some found) = (left ≢ []) × (found ≡ stored_column column (last_place left) left)
 
--- what is stored of a column is what is left of it: nothing where nothing is
-abbrev pub IsKept : Complex → ℕ → ℕ → List Entry → Option StoredColumn → Type 0
-IsKept complex k column left None = left ≡ []
-IsKept complex k column left (Some found) = (left ≢ []) × (full_column complex k found ≡ stored_column column (last_place left) left)
+-- what is stored of a column is what is left of it, with all its entries
+abbrev pub IsStoredOf : Complex → ℕ → ℕ → List Entry → Option StoredColumn → Type 0
+IsStoredOf complex k column left found = IsStoredAs column left (option_map (full_column complex k) found)
 
 -- what is stored of a column out of degree number k, or of an empty one where its place is dead: what is left of it as the stored columns
 -- are taken away
@@ -122,7 +122,7 @@ pub record IsLeftOfColumn (p : ℕ) (complex : Complex) (k : ℕ) (is_alive : Bo
   pub left : List Entry
   pub live : IsLiveColumn p complex (complex.low +ℤ pos k) is_alive column line
   pub reduced : IsReducedLine p (place_count complex (complex.low +ℤ pos k +ℤ pos 1)) (full_columns complex k stored) line left
-  pub kept : IsKept complex k column left found
+  pub kept : IsStoredOf complex k column left found
 
 -- the matrix out of degree i has the columns of another complex, but those of dead places are 0
 pub record HasColumns (complex whole : Complex) (i : ℤ) (alive : List Bool) : Type 0 where

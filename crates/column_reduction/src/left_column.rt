@@ -1,7 +1,8 @@
 //! What stored columns leave of one column. Its last entry is made first: where no stored column
-//! ends there, all of the column is left, and none of its entries are made.
+//! ends there, all of the column is left, and no other entry is made.
 
-ghost use Rattle.std.specs.Prelude.{◌≡◌, ◌<◌, ◌^◌, [], pos, ◌+ℤ◌, true, length, slice_index_or, IfOk};
+ghost use Rattle.std.specs.Prelude.{◌≡◌, ◌<◌, ◌^◌, [], pos, ◌+ℤ◌, true, length, slice_index_or};
+ghost use Rattle.std.specs.Prelude.{IfOk};
 ghost use Rattle.sparse_block.specs.Complexes.{place_count};
 ghost use Rattle.column_reduction.specs.StoredColumns.{AreStored, IsLeftOfColumn, IsStoredAs};
 ghost use Rattle.column_reduction.specs.StoredColumns.{full_columns, stored_column};
@@ -85,11 +86,15 @@ fn left_of_entries<F: PrimeField, S: ColumnSource<F>>(
     scratch.make_room()?;
     source.put_column(&mut scratch.left, k, place)?;
     reduce_line::<F, S>(source, scratch, stored, k)?;
-    line_of(*stored.columns.allocator(), place, &scratch.left)
+    column_of_line(*stored.columns.allocator(), place, &scratch.left)
 }
 
 /// A line as a column to be stored; none where it has no entry.
-fn line_of(alloc: Global, column: usize, left: &[Entry]) -> Result<Option<StoredColumn>, NoMemory>
+fn column_of_line(
+    alloc: Global,
+    column: usize,
+    left: &[Entry],
+) -> Result<Option<StoredColumn>, NoMemory>
     requires few { column < 2 ^ 32 }
     ensures { IfOk result (IsStoredAs column left.now) }
 {

@@ -20,7 +20,7 @@ use sparse_block::ColumnSource;
 use std::alloc::Global;
 
 /// The first column out of degree number `k`, from one place on, of which the stored columns leave
-/// something: its place, and what they leave.
+/// something, as it is to be stored.
 pub(crate) fn next_left<F: PrimeField, S: ColumnSource<F>>(
     source: &mut S,
     stored: &StoredColumns,

@@ -38,7 +38,8 @@ impl Scratch {
         }
     }
 
-    /// Makes room for most columns at once, since lists that grow take longer.
+    /// Empties the lists, and makes room for most columns at once, since lists that grow take
+    /// longer. No clause rests on it.
     pub(crate) fn make_room(&mut self) -> Result<(), NoMemory> {
         self.left.clear();
         self.left.reserve(USUAL_ENTRIES)?;
@@ -108,7 +109,7 @@ fn take_away<F: PrimeField, S: ColumnSource<F>>(
 }
 
 /// Takes from a line the multiple of another that ends where it ends, so that it becomes 0 there;
-/// the other list is room for it.
+/// `spare` is room for it.
 fn take_multiple<F: PrimeField>(
     left: &mut Vec<Entry>,
     spare: &mut Vec<Entry>,

@@ -10,7 +10,7 @@ use sparse_block::Entry;
 use std::alloc::Global;
 use std::marker::Model;
 
-/// A reduced column: its number, the row of its last entry, and its entries. None are kept where
+/// A reduced column: its number, the row of its last entry, and its entries. Where none are kept,
 /// they are those of the complex's own column, which is made anew when it is asked for.
 #[derive(Drop)]
 pub(crate) struct StoredColumn {

@@ -27,7 +27,7 @@ pub record AreBlockPlaces (p : ℕ) (code : Code) (j : ℤ) (places : BlockPlace
 abbrev pub IsAround : ℕ → Code → ℤ → Around → Type 0
 IsAround p code j around = AreFound p code (map (own_base code j) (states code)) around.state around.outs.items
 
--- these places, with edges that were found: for last entries, and for whole columns
+-- these places, with edges that were found for last entries (`around`) and for whole columns (`beside`)
 pub record IsOpeningBlock (p : ℕ) (code : Code) (places : BlockPlaces) (around beside : Around) : Type 0 where
   pub places_are : AreBlockPlaces p code places.least.j places
   pub around_is : AreFound p code places.bases.items around.state around.outs.items

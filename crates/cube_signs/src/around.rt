@@ -1,6 +1,7 @@
 //! The columns of a cube, one at a time: the edges out of a state serve for all its generators.
 
-ghost use Rattle.std.specs.Prelude.{◌≡◌, ℕ, ℤ, List, ◌+◌, ◌^◌, ◌<◌, ◌≤◌, length, map, All, IfOk, OnOk};
+ghost use Rattle.std.specs.Prelude.{◌≡◌, ℕ, ℤ, List, ◌+◌, ◌^◌, ◌<◌, ◌≤◌, length, map, All, IfOk};
+ghost use Rattle.std.specs.Prelude.{OnOk};
 ghost use Rattle.kh_types.specs.Generators.{states};
 ghost use Rattle.sparse_block.specs.declared.entry.TheConstants.{MOST_VALUES};
 ghost use Rattle.cube_signs.specs.Columns.{AreFound, AreOuts, IsColumn, IsLastOf, IsTail};
@@ -72,7 +73,7 @@ impl Cube {
         self.put_column_of(column, around, tail)
     }
 
-    /// The same, where the edges that were found last are those out of the generator's state.
+    /// The same, where these edges are those out of the generator's state.
     pub(crate) fn put_column_of(
         &self,
         column: &mut Vec<Entry>,
@@ -111,7 +112,7 @@ impl Cube {
         Ok(self.last_entry_of(around, tail))
     }
 
-    /// The same, where the edges that were found last are those out of the generator's state.
+    /// The same, where these edges are those out of the generator's state.
     pub(crate) fn last_entry_of(&self, around: &Around, tail: Generator) -> Option<Entry>
         requires tail { (i : ℤ) × (j : ℤ) × IsTail self.now i j tail }
         requires outs { (p : ℕ) × (bases : List ℕ)
@@ -124,8 +125,8 @@ impl Cube {
         last_entry(&around.outs, self.ranks(), tail.label)
     }
 
-    /// Puts the entries of the column of a generator in place of others, where other edges were found
-    /// before, which serve if they are those out of its state.
+    /// Puts the entries of the column of a generator in place of others; edges that were found
+    /// before serve where they are those out of its state.
     pub(crate) fn put_column_near(
         &self,
         column: &mut Vec<Entry>,

@@ -19,8 +19,8 @@ use sparse_block::{Entry, Generator};
 use std::alloc::Global;
 
 /// The names of the places of the block at a quantum degree, and where the generators of each state
-/// begin among those of their degrees. With its cube they make an `OpeningBlock`, and by reference a
-/// `BorrowedBlock`.
+/// begin among those of their degrees. With its cube they make an `OpeningBlock`, and by reference
+/// a `BorrowedBlock`.
 #[derive(Drop)]
 pub struct BlockPlaces {
     pub(crate) least: Degrees,

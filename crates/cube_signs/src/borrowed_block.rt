@@ -22,8 +22,9 @@ pub struct BorrowedBlock<'a, F: PrimeField> {
     cube: &'a Cube,
     places: &'a BlockPlaces,
     near: &'a Around,
-    // Edges that were found for last entries, and for whole columns, which are often older ones.
+    // Edges that were found for last entries.
     around: Around,
+    // Edges that were found for whole columns, most of which stand before those.
     beside: Around,
     field: PhantomData<F>,
 }
@@ -67,7 +68,7 @@ impl Cube {
 }
 
 impl<'a, F: PrimeField> BorrowedBlock<'a, F> {
-    /// The edges that were found last for a last entry.
+    /// Edges that were found for a last entry. No clause says which.
     pub fn into_around(self) -> Around
         ensures { IsAround F.P self.entry.0 self.entry.1 result }
     {
@@ -76,7 +77,8 @@ impl<'a, F: PrimeField> BorrowedBlock<'a, F> {
     }
 }
 
-/// The edges that were found last, where there are any, or those that were found before.
+/// The edges that were found last, where there are any, or those that were found before. No clause
+/// says which.
 fn latest<'a>(near: &'a Around, around: &'a Around) -> &'a Around
     ensures { (result.now ≡ near.now) ⊎ (result.now ≡ around.now) }
 {

@@ -30,8 +30,9 @@ pub struct ChosenBlock<'a, F: PrimeField> {
     chosen: AllChosen,
     // Where the generators of each state begin among those of their degrees.
     bases: Vec<u32>,
-    // Edges that were found for last entries, and for whole columns, which are often older ones.
+    // Edges that were found for last entries.
     around: Around,
+    // Edges that were found for whole columns, most of which stand before those.
     beside: Around,
     field: PhantomData<F>,
 }

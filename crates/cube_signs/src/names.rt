@@ -54,7 +54,7 @@ impl Degrees {
 }
 
 impl Cube {
-    /// The generators of two degrees; room is made for so many.
+    /// The generators of two degrees; room for `room` of them is made at once.
     pub(crate) fn names(
         &self,
         alloc: Global,

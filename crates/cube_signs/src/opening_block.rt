@@ -20,8 +20,9 @@ use std::marker::{Model, PhantomData};
 pub struct OpeningBlock<'a, F: PrimeField> {
     cube: &'a Cube,
     places: BlockPlaces,
-    // Edges that were found for last entries, and for whole columns, which are often older ones.
+    // Edges that were found for last entries.
     around: Around,
+    // Edges that were found for whole columns, most of which stand before those.
     beside: Around,
     field: PhantomData<F>,
 }

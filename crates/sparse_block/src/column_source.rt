@@ -38,7 +38,7 @@ pub trait ColumnSource<F: PrimeField>: Drop {
             ((whole self.old).complex.low +ℤ pos k) place column.new.items) };
 
     /// The last entry of a column out of degree number `k`, by its place; none where the column has
-    /// no entry. It takes less time than the whole column.
+    /// no entry.
     fn last_entry(&mut self, k: usize, place: usize) -> Result<Option<Entry>, NoMemory>
         requires degree { k < length (whole self.old).names }
         requires place { place < length (slice_index_or (whole self.old).names k []) }
