@@ -7,6 +7,8 @@ mod blocks;
 #[cfg(test)]
 mod cancellations;
 #[cfg(test)]
+mod column_blocks;
+#[cfg(test)]
 mod column_reductions;
 #[cfg(test)]
 mod cores;
