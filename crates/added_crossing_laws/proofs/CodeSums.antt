@@ -3,7 +3,7 @@
 -- Old pairing and smoothing join arcs near the crossing, and a state joins what is alive after it: a cut, on either side (`IsCut-at`).
 -- With one smoothing for two pairings the surface between the pairings is laid so (`IsLaid-both`), and with both smoothings for one pairing
 -- the saddle (`IsLaid-saddle`). The sums over the dots are two instances of one lemma (`sum-added`).
-use Rattle.std.proofs.Common.{◌≡◌, ℕ, ◌+◌, ◌<◌, ◌∙◌, List, [], ◌++◌, length, map, sym, ap, ap₂, subst, arith, append_assoc}
+use Rattle.std.proofs.Common.{◌≡◌, ℕ, ◌+◌, ◌%◌, ◌<◌, ◌∙◌, List, [], ◌++◌, length, map, sym, ap, ap₂, subst, arith, append_assoc}
 use Rattle.std.specs.List.{AllByRecursion, Contains}
 use Rattle.std.proofs.lemmas.Bool.{or_left}
 use Rattle.kh_types.specs.Bits.{bit}
@@ -12,6 +12,7 @@ use Rattle.kh_types.specs.Classes.{classes_of, is_least, Respects}
 use Rattle.kh_types.specs.Darts.{HasArcsTwice}
 use Rattle.kh_types.proofs.Lists.{AllByRecursion-weaker}
 use Rattle.kh_types.proofs.ClassLemmas.{Respects-append, Respects-first, Respects-second}
+use Rattle.kh_types.specs.Residues.{Same}
 use Rattle.surface_laws.specs.Surfaces.{Surface, value}
 use Rattle.surface_laws.proofs.TwoSides.{AllByRecursion-map}
 use Rattle.surface_laws.specs.Points.{AreAmong, least_points, discs}
@@ -163,28 +164,29 @@ lies-near : (code : Code) (k : ℕ) (m n : List (ℕ × ℕ)) (dots : ℕ → �
     → LiesNear (step_at code k) (marked_by dots (discs (points_at code k) m n)) (points_at code k).opened
 lies-near code k m n dots = record { faces_near = discs-near code k m n dots; lowers_near = opened-all-near code k }
 
-pub sum-crossing : (code : Code) (k state : ℕ) (m n : List (ℕ × ℕ)) (dots label other_label : ℕ → ℕ)
-    → AreLabelled code k state m n label other_label
+pub sum-crossing : (p h minus : ℕ) (code : Code) (k state : ℕ) (m n : List (ℕ × ℕ)) (dots label other_label : ℕ → ℕ)
+    → Same p (h + minus) 0 → AreLabelled code k state m n label other_label
     → AreClosed
     (outside_at code k state (pairing_behind code k (bit state k) m) (pairing_behind code k (bit state k) n) label other_label)
     (added_at code k (bit state k) m n dots label other_label) (discs_behind code k (bit state k) (bit state k) m n)
-    → sum_over_dots
+    → Same p
+    (sum_over_dots h minus
     (outside_at code k state (pairing_behind code k (bit state k) m) (pairing_behind code k (bit state k) n) label other_label)
-    (added_at code k (bit state k) m n dots label other_label) (discs_behind code k (bit state k) (bit state k) m n)
-    ≡ value (sheet_at code k state m n dots label other_label)
-sum-crossing code k state m n dots label other_label labelled closed =
+    (added_at code k (bit state k) m n dots label other_label) (discs_behind code k (bit state k) (bit state k) m n))
+    (value h minus (sheet_at code k state m n dots label other_label))
+sum-crossing p h minus code k state m n dots label other_label cancels labelled closed =
     let e = bit state k in
     let s = smoothing_at code k e in
     let w = outer_smoothings code.crossings state (k + 1) in
-    sum-added (step_at code k) (m ++ s) (n ++ s) (pairing_behind code k e m) (pairing_behind code k e n) w (m ++ (n ++ (s ++ w)))
-    (marked_by dots (discs (points_at code k) m n)) (points_at code k).opened label other_label
+    sum-added p h minus (step_at code k) (m ++ s) (n ++ s) (pairing_behind code k e m) (pairing_behind code k e n) w (m ++ (n ++ (s ++ w)))
+    (marked_by dots (discs (points_at code k) m n)) (points_at code k).opened label other_label cancels
     (IsLaid-both code k state e m n labelled.twice labelled.crossing labelled.first labelled.second) (lies-near code k m n dots)
     record {
       first = label-split code k state m label labelled.crossing labelled.first_label;
       second = label-split code k state n other_label labelled.crossing labelled.second_label;
     }
     record { far = closed.first_closed; close = closed.second_closed }
-    ∙ ap value (same-sheet code k state m n dots label other_label labelled.crossing)
+    ∙ ap (λ (surface : Surface). value h minus surface % p) (same-sheet code k state m n dots label other_label labelled.crossing)
 
 -- both smoothings for one pairing
 
@@ -242,19 +244,20 @@ saddle-near code k m twice below among =
     let there = slot-near code k 0 twice below (omega arith) in
     record { faces_near = pairs-near code k m among; lowers_near = (there, (there, opened-all-near code k)) }
 
-pub sum-saddle : (code : Code) (k state : ℕ) (m : List (ℕ × ℕ)) (label other_label : ℕ → ℕ)
-    → IsLabelled code k state m label other_label
+pub sum-saddle : (p h minus : ℕ) (code : Code) (k state : ℕ) (m : List (ℕ × ℕ)) (label other_label : ℕ → ℕ)
+    → Same p (h + minus) 0 → IsLabelled code k state m label other_label
     → AreClosed (outside_at code k state (pairing_behind code k 0 m) (pairing_behind code k 1 m) label other_label)
     (saddle_added code k m label other_label) (discs_behind code k 0 1 m m)
-    → sum_over_dots (outside_at code k state (pairing_behind code k 0 m) (pairing_behind code k 1 m) label other_label)
-    (saddle_added code k m label other_label) (discs_behind code k 0 1 m m)
-    ≡ value (saddle_sheet code k state m label other_label)
-sum-saddle code k state m label other_label labelled closed =
+    → Same p
+    (sum_over_dots h minus (outside_at code k state (pairing_behind code k 0 m) (pairing_behind code k 1 m) label other_label)
+    (saddle_added code k m label other_label) (discs_behind code k 0 1 m m))
+    (value h minus (saddle_sheet code k state m label other_label))
+sum-saddle p h minus code k state m label other_label cancels labelled closed =
     let s = smoothing_at code k 0 in
     let t = smoothing_at code k 1 in
     let w = outer_smoothings code.crossings state (k + 1) in
-    sum-added (step_at code k) (m ++ s) (m ++ t) (pairing_behind code k 0 m) (pairing_behind code k 1 m) w (m ++ (s ++ (t ++ w)))
-    (map disc_of m) (saddle_strips code k) label other_label
+    sum-added p h minus (step_at code k) (m ++ s) (m ++ t) (pairing_behind code k 0 m) (pairing_behind code k 1 m) w (m ++ (s ++ (t ++ w)))
+    (map disc_of m) (saddle_strips code k) label other_label cancels
     (IsLaid-saddle code k state m labelled.twice labelled.crossing labelled.pairing)
     (saddle-near code k m labelled.twice labelled.crossing labelled.pairing)
     record { first = labelled.first_label; second = labelled.second_label }

@@ -8,6 +8,8 @@ use Rattle.kh_types.specs.Bits.{bit}
 use Rattle.kh_types.specs.Classes.{Respects}
 use Rattle.kh_types.specs.Code.{Code}
 use Rattle.kh_types.specs.Products.{sum_below}
+use Rattle.kh_types.specs.Residues.{Same}
+use Rattle.kh_types.proofs.Residues.{same-equal}
 use Rattle.kh_types.proofs.Sums.{sum_below-equal}
 use Rattle.surface_laws.specs.Surfaces.{Surface, IsClosed, value}
 use Rattle.surface_laws.specs.Cuts.{with_faces}
@@ -16,8 +18,8 @@ use Rattle.genus_laws.specs.CutCodes.{outer_smoothings}
 use Rattle.added_crossing_laws.specs.Pairings.{marked_by}
 use Rattle.surface_laws.specs.Sheets.{sheet, marked, marked_else}
 use Rattle.added_crossing_laws.specs.Steps.{near}
-use Rattle.added_crossing_laws.specs.Codes.{is_open, is_alive, points_at, step_at, smoothing_at, pairing_behind, circles_behind, closed_at, discs_behind, sheet_at, outside_at, added_at, saddle_added, disc_of, saddle_strips, AreLabelled, IsLabelled}
-use Rattle.added_crossing_laws.specs.Saddles.{edge_at, MergesOrSplitsAt, IsPairedAt, opposite}
+use Rattle.added_crossing_laws.specs.Codes.{is_open, is_alive, points_at, step_at, smoothing_at, pairing_behind, circles_behind, closed_at, discs_behind, sheet_at, outside_at, added_at, saddle_added, saddle_sheet, disc_of, saddle_strips, AreLabelled, IsLabelled, sum_over_dots}
+use Rattle.added_crossing_laws.specs.Saddles.{edge_with, MergesOrSplitsAt, IsPairedAt, opposite}
 use Rattle.added_crossing_laws.specs.Labels.{label_at, number_of}
 use Rattle.added_crossing_laws.specs.Entries.{entry_sheet, entry_at, coefficient_sheet, added_surface, saddle_surface, label_before, closed_label, label_behind, ArePairedAt, AreEntriesClosed}
 use Rattle.added_crossing_laws.proofs.CodeSteps.{outer-split, count_of}
@@ -105,22 +107,23 @@ turned-pair code k m n at = record { twice = at.twice; crossing = at.crossing; f
 
 opposite-respects : (f : ℕ → ℕ) (pairs : List (ℕ × ℕ)) → Respects f pairs → Respects (opposite f) pairs
 opposite-respects f [] respects = tt
-opposite-respects f (pair ∷ pairs) respects = (ap (λ b. 1 - b) respects.0, opposite-respects f pairs respects.1)
+opposite-respects f (pair ∷ pairs) respects = (ap (λ b. 2 * (1 - b)) respects.0, opposite-respects f pairs respects.1)
 
-pub entries-add_up : (code : Code) (k state : ℕ) (m n : List (ℕ × ℕ)) (dots label other : ℕ) → ArePairedAt code k m n
+pub entries-add_up : (p h minus : ℕ) (code : Code) (k state : ℕ) (m n : List (ℕ × ℕ)) (dots label other : ℕ)
+    → Same p (h + minus) 0 → ArePairedAt code k m n
     → AreEntriesClosed
     (entry_sheet code (k + 1) state (pairing_behind code k (bit state k) m) (pairing_behind code k (bit state k) n) 0
     (label_behind code k (bit state k) state m label) (label_behind code k (bit state k) state n other))
     (added_surface code k (bit state k) m n dots (closed_label code k (bit state k) state m label)
     (closed_label code k (bit state k) state n other) 0)
-    → entry_at code k state m n dots label other
-    ≡ sum_below (2 ^ length (discs_behind code k (bit state k) (bit state k) m n))
+    → Same p (entry_at h minus code k state m n dots label other)
+    (sum_below (2 ^ length (discs_behind code k (bit state k) (bit state k) m n))
     (λ kept.
-    value (added_surface code k (bit state k) m n dots (closed_label code k (bit state k) state m label)
+    value h minus (added_surface code k (bit state k) m n dots (closed_label code k (bit state k) state m label)
     (closed_label code k (bit state k) state n other) kept)
-    * entry_at code (k + 1) state (pairing_behind code k (bit state k) m) (pairing_behind code k (bit state k) n) kept
-    (label_behind code k (bit state k) state m label) (label_behind code k (bit state k) state n other))
-entries-add_up code k state m n dots label other at closed =
+    * entry_at h minus code (k + 1) state (pairing_behind code k (bit state k) m) (pairing_behind code k (bit state k) n) kept
+    (label_behind code k (bit state k) state m label) (label_behind code k (bit state k) state n other)))
+entries-add_up p h minus code k state m n dots label other cancels at closed =
     let e = bit state k in
     let points = points_at code k in
     let f : ℕ → ℕ = label_before code k e state m label in
@@ -156,9 +159,10 @@ entries-add_up code k state m n dots label other at closed =
           (opposite-respects g ((n ++ smoothing_at code k e) ++ outer_smoothings code.crossings state (k + 1))
           (label-respects code k state e other n m (turned-pair code k m n at)));
     } in
-    ap value (same-entry code k state m n dots label other)
-    ∙ ap₂ (λ (first second : ℕ → ℕ). value (sheet_at code k state m n d first (opposite second))) f_same g_same
-    ∙ sym (sum-crossing code k state m n d f (opposite g) labelled
+    same-equal p (entry_at h minus code k state m n dots label other) (value h minus (sheet_at code k state m n d f (opposite g)))
+    (ap (value h minus) (same-entry code k state m n dots label other)
+    ∙ ap₂ (λ (first second : ℕ → ℕ). value h minus (sheet_at code k state m n d first (opposite second))) f_same g_same)
+    ∙ sym (sum-crossing p h minus code k state m n d f (opposite g) cancels labelled
     record {
       first_closed = subst IsClosed
           (sym (ap (λ (fs : List (ℕ × ℕ)). with_faces far fs) (caps-first 0 0 discs_new)
@@ -167,30 +171,37 @@ entries-add_up code k state m n dots label other at closed =
       second_closed = subst IsClosed
           (sym (ap (λ (fs : List (ℕ × ℕ)). with_faces close fs) (caps-second 0 0 discs_new) ∙ close_same 0)) closed.close_closed;
     })
-    ∙ sum-by_dots far close discs_new
-    ∙ sum_below-equal (2 ^ length discs_new)
-    (λ kept. value (with_faces close (marked_else kept discs_new)) * value (with_faces far (marked kept discs_new)))
+    ∙ same-equal p (sum_over_dots h minus far close discs_new)
+    (sum_below (2 ^ length discs_new)
     (λ kept.
-    value (added_surface code k e m n dots (closed_label code k e state m label) (closed_label code k e state n other) kept)
-    * entry_at code (k + 1) state (pairing_behind code k e m) (pairing_behind code k e n) kept
+    value h minus (added_surface code k e m n dots (closed_label code k e state m label) (closed_label code k e state n other) kept)
+    * entry_at h minus code (k + 1) state (pairing_behind code k e m) (pairing_behind code k e n) kept
+    (label_behind code k e state m label) (label_behind code k e state n other)))
+    (sum-by_dots h minus far close discs_new
+    ∙ sum_below-equal (2 ^ length discs_new)
+    (λ kept. value h minus (with_faces close (marked_else kept discs_new)) * value h minus (with_faces far (marked kept discs_new)))
+    (λ kept.
+    value h minus (added_surface code k e m n dots (closed_label code k e state m label) (closed_label code k e state n other) kept)
+    * entry_at h minus code (k + 1) state (pairing_behind code k e m) (pairing_behind code k e n) kept
     (label_behind code k e state m label) (label_behind code k e state n other))
     (λ kept.
-    ap₂ (λ (first second : Surface). value first * value second) (close_same kept)
-    (same-far code k state e e m n f g kept f_bits g_bits))
+    ap₂ (λ (first second : Surface). value h minus first * value h minus second) (close_same kept)
+    (same-far code k state e e m n f g kept f_bits g_bits)))
 
-pub saddle-adds_up : (code : Code) (k state : ℕ) (m : List (ℕ × ℕ)) (label other : ℕ) → IsPairedAt code k m
+pub saddle-adds_up : (p h minus : ℕ) (code : Code) (k state : ℕ) (m : List (ℕ × ℕ)) (label other : ℕ) → Same p (h + minus) 0
+    → IsPairedAt code k m
     → MergesOrSplitsAt code k state m
     → AreEntriesClosed
     (entry_sheet code (k + 1) state (pairing_behind code k 0 m) (pairing_behind code k 1 m) 0 (label_behind code k 0 state m label)
     (label_behind code k 1 state m other))
     (saddle_surface code k m (closed_label code k 0 state m label) (closed_label code k 1 state m other) 0)
-    → edge_at code k state m (label_before code k 0 state m label) (label_before code k 1 state m other)
-    ≡ sum_below (2 ^ length (discs_behind code k 0 1 m m))
+    → Same p (edge_with h minus code k state m (label_before code k 0 state m label) (label_before code k 1 state m other))
+    (sum_below (2 ^ length (discs_behind code k 0 1 m m))
     (λ kept.
-    value (saddle_surface code k m (closed_label code k 0 state m label) (closed_label code k 1 state m other) kept)
-    * entry_at code (k + 1) state (pairing_behind code k 0 m) (pairing_behind code k 1 m) kept (label_behind code k 0 state m label)
-    (label_behind code k 1 state m other))
-saddle-adds_up code k state m label other at edge closed =
+    value h minus (saddle_surface code k m (closed_label code k 0 state m label) (closed_label code k 1 state m other) kept)
+    * entry_at h minus code (k + 1) state (pairing_behind code k 0 m) (pairing_behind code k 1 m) kept (label_behind code k 0 state m label)
+    (label_behind code k 1 state m other)))
+saddle-adds_up p h minus code k state m label other cancels at edge closed =
     let f : ℕ → ℕ = label_before code k 0 state m label in
     let g : ℕ → ℕ = label_before code k 1 state m other in
     let f_bits : (x : ℕ) → f x < 2 = λ x. bit-below label _ in
@@ -211,8 +222,9 @@ saddle-adds_up code k state m label other at edge closed =
       second_label = opposite-respects g ((m ++ smoothing_at code k 1) ++ outer_smoothings code.crossings state (k + 1))
           (label-respects code k state 1 other m m paired);
     } in
-    sym (value-saddle code k state m f g at record { first_bit = f_bits; second_bit = g_bits } edge)
-    ∙ sym (sum-saddle code k state m f (opposite g) labelled
+    same-equal p (edge_with h minus code k state m f g) (value h minus (saddle_sheet code k state m f (opposite g)))
+    (sym (value-saddle h minus code k state m f g at record { first_bit = f_bits; second_bit = g_bits } edge))
+    ∙ sym (sum-saddle p h minus code k state m f (opposite g) cancels labelled
     record {
       first_closed = subst IsClosed
           (sym (ap (λ (fs : List (ℕ × ℕ)). with_faces far fs) (caps-first 0 0 discs_new)
@@ -221,13 +233,19 @@ saddle-adds_up code k state m label other at edge closed =
       second_closed = subst IsClosed
           (sym (ap (λ (fs : List (ℕ × ℕ)). with_faces close fs) (caps-second 0 0 discs_new) ∙ close_same 0)) closed.close_closed;
     })
-    ∙ sum-by_dots far close discs_new
-    ∙ sum_below-equal (2 ^ length discs_new)
-    (λ kept. value (with_faces close (marked_else kept discs_new)) * value (with_faces far (marked kept discs_new)))
+    ∙ same-equal p (sum_over_dots h minus far close discs_new)
+    (sum_below (2 ^ length discs_new)
     (λ kept.
-    value (saddle_surface code k m (closed_label code k 0 state m label) (closed_label code k 1 state m other) kept)
-    * entry_at code (k + 1) state (pairing_behind code k 0 m) (pairing_behind code k 1 m) kept
+    value h minus (saddle_surface code k m (closed_label code k 0 state m label) (closed_label code k 1 state m other) kept)
+    * entry_at h minus code (k + 1) state (pairing_behind code k 0 m) (pairing_behind code k 1 m) kept
+    (label_behind code k 0 state m label) (label_behind code k 1 state m other)))
+    (sum-by_dots h minus far close discs_new
+    ∙ sum_below-equal (2 ^ length discs_new)
+    (λ kept. value h minus (with_faces close (marked_else kept discs_new)) * value h minus (with_faces far (marked kept discs_new)))
+    (λ kept.
+    value h minus (saddle_surface code k m (closed_label code k 0 state m label) (closed_label code k 1 state m other) kept)
+    * entry_at h minus code (k + 1) state (pairing_behind code k 0 m) (pairing_behind code k 1 m) kept
     (label_behind code k 0 state m label) (label_behind code k 1 state m other))
     (λ kept.
-    ap₂ (λ (first second : Surface). value first * value second) (close_same kept)
-    (same-far code k state 0 1 m m f g kept f_bits g_bits))
+    ap₂ (λ (first second : Surface). value h minus first * value h minus second) (close_same kept)
+    (same-far code k state 0 1 m m f g kept f_bits g_bits)))

@@ -107,7 +107,7 @@ pub marked_else-labels : (count : ℕ) (test : ℕ → Bool) (joins : List (ℕ 
     → marked_else number (least_points (count + 1) (those count test) joins)
     ≡ marked_by (opposite (label_at (count + 1) (those count test) joins number)) (least_points (count + 1) (those count test) joins)
 marked_else-labels count test joins number =
-    by-labels (λ i. 1 - bit number i) count test joins (least_points (count + 1) (those count test) joins) refl
+    by-labels (λ i. 2 * (1 - bit number i)) count test joins (least_points (count + 1) (those count test) joins) refl
 
 pub Respects-label : (count : ℕ) (test : ℕ → Bool) (joins : List (ℕ × ℕ)) (number : ℕ) → AreAmong (those count test) joins
     → Respects (label_at (count + 1) (those count test) joins number) joins

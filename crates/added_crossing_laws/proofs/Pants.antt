@@ -3,7 +3,7 @@
 -- In the Euler count the disc of each pair and the half strips at its two ends cancel (`sum-paired`). What is left of a component is its
 -- circles and the saddle's strip. A circle that stays has two faces, before and after: a cylinder (`factor-other`). The component of the
 -- change has three faces and two half strips more: a pair of pants (`factor-kept`). No other number is a component (`component-cases`).
-use Rattle.std.proofs.Common.{◌≡◌, ◌≢◌, ℕ, inl, inr, ◌⊎◌, ◌+◌, ◌*◌, ◌<◌, ◌∙◌, List, [], ◌∷◌, ◌++◌, map, refl, sym, ap, ap₂, subst, arith, Bool, true, false, not, cond, ◌&&◌}
+use Rattle.std.proofs.Common.{◌≡◌, ◌≢◌, ℕ, inl, inr, ◌⊎◌, ◌+◌, ◌*◌, ◌/◌, ◌%◌, ◌<◌, ◌∙◌, List, [], ◌∷◌, ◌++◌, map, refl, sym, ap, ap₂, subst, arith, Bool, true, false, not, cond, ◌&&◌}
 use Rattle.std.specs.Prelude.{nat_eq, slice_index}
 use Rattle.std.specs.List.{filter, sum_by, range_with_len, Contains}
 use Rattle.std.proofs.lemmas.Bool.{cases_Bool, cases_eq, eq-eqb, eqb-true}
@@ -14,11 +14,11 @@ use Rattle.kh_types.specs.Edges.{is_other}
 use Rattle.kh_types.proofs.FilteredRanges.{filter-filter}
 use Rattle.kh_types.proofs.Lists.{Contains-filter, AllByRecursion-weaker}
 use Rattle.kh_types.proofs.ListSums.{sum_by-map, sum_by-plus, sum_by-times, sum_by-turned, sum_by-zeros, sum_by-alike, sum_by-on}
-use Rattle.surface_laws.specs.Surfaces.{Surface, component_of, is_component, faces_on, marks_on, lowers_on, HasGenus, weight, factor}
+use Rattle.surface_laws.specs.Surfaces.{Surface, component_of, is_component, faces_on, dots_on, hollows_on, lowers_on, HasGenus, weight, factor}
 use Rattle.surface_laws.proofs.Components.{list_any-contained, list_any-some}
 use Rattle.surface_laws.proofs.Factors.{factor-at, factor-none}
 use Rattle.surface_laws.proofs.JoinedCounts.{amount_at, sum_at}
-use Rattle.surface_laws.proofs.OneCut.{place_of_face, marks_of_face, one_face}
+use Rattle.surface_laws.proofs.OneCut.{place_of_face, dots_of_face, hollows_of_face, one_face}
 use Rattle.added_crossing_laws.specs.Pairings.{ends_in, IsPairingOf, face_with, marked_by}
 use Rattle.added_crossing_laws.specs.Steps.{those}
 use Rattle.added_crossing_laws.specs.Codes.{disc_of}
@@ -257,11 +257,12 @@ component-is count alive opened m all fine a gone k first second is =
     (eq-eqb (class_in (count + 1) all k) k is.own)
 
 -- the factors
-pub factor-other : (count : ℕ) (alive opened : ℕ → Bool) (m all : List (ℕ × ℕ)) (fine : List ℕ) (a kept gone k : ℕ) (first second : ℕ → ℕ)
+pub factor-other : (h minus : ℕ) (count : ℕ) (alive opened : ℕ → Bool) (m all : List (ℕ × ℕ)) (fine : List ℕ) (a kept gone k : ℕ) (first second : ℕ → ℕ)
     → ArePants count alive opened m all fine a kept gone → Contains (names count alive (classes_of (count + 1) all)) k → k ≢ kept
-    → factor (pants_of count alive opened m all fine a first second) k ≡ weight 0 (first k + second k)
+    → factor h minus (pants_of count alive opened m all fine a first second) k
+    ≡ weight h minus 0 (first k % 2 + second k % 2) (first k / 2 + second k / 2)
 unfolding discs_on
-factor-other count alive opened m all fine a kept gone k first second pants has other =
+factor-other h minus count alive opened m all fine a kept gone k first second pants has other =
     let surface = pants_of count alive opened m all fine a first second in
     let is = coarse-is count alive opened m all fine a kept gone k pants has in
     let xs = names count alive fine in
@@ -272,27 +273,39 @@ factor-other count alive opened m all fine a kept gone k first second pants has 
     ∙ ap (λ s. discs + s)
     (ap₂ (λ s t. s + t) (fine-other count alive opened m all fine a kept gone k (λ c. 1) pants is.name is.stays other)
     (coarse-sum count alive all k (λ c. 1) has)) in
-    let mark_count : marks_on surface k ≡ 0 + (first k + second k) =
-    faces-split surface k marks_of_face m first second xs ys
+    let dot_count : dots_on surface k ≡ 0 + (first k % 2 + second k % 2) =
+    faces-split surface k dots_of_face m first second xs ys
     ∙ ap₂ (λ s t. s + t) (no-marks (count + 1) k all m)
-    (ap₂ (λ s t. s + t) (fine-other count alive opened m all fine a kept gone k first pants is.name is.stays other)
-    (coarse-sum count alive all k second has)) in
+    (ap₂ (λ s t. s + t)
+    (fine-other count alive opened m all fine a kept gone k (λ c. first c % 2) pants is.name is.stays other)
+    (coarse-sum count alive all k (λ c. second c % 2) has)) in
+    let hollow_count : hollows_on surface k ≡ 0 + (first k / 2 + second k / 2) =
+    faces-split surface k hollows_of_face m first second xs ys
+    ∙ ap₂ (λ s t. s + t) (no-marks (count + 1) k all m)
+    (ap₂ (λ s t. s + t)
+    (fine-other count alive opened m all fine a kept gone k (λ c. first c / 2) pants is.name is.stays other)
+    (coarse-sum count alive all k (λ c. second c / 2) has)) in
     let strips = strips-on count alive opened m all fine a kept gone k first second pants in
     let has_genus : HasGenus surface k 0 =
     closed (faces_on surface k) (lowers_on surface k) discs kept k face_count strips (λ same. other (sym same)) in
-    factor-at surface k 0 (component-is count alive opened m all fine a gone k first second is) has_genus
-    ∙ ap (λ marks. weight 0 marks) (mark_count ∙ omega arith)
+    factor-at h minus surface k 0 (component-is count alive opened m all fine a gone k first second is) has_genus
+    ∙ ap₂ (λ d o. weight h minus 0 d o) (dot_count ∙ zero_plus (first k % 2 + second k % 2))
+    (hollow_count ∙ zero_plus (first k / 2 + second k / 2))
   where
+    zero_plus : (x : ℕ) → 0 + x ≡ x
+    zero_plus x = omega arith
+
     closed : (faces lowers discs kept k : ℕ) → faces ≡ discs + (1 + 1)
         → lowers ≡ cond (nat_eq kept k) 1 0 + (cond (nat_eq kept k) 1 0 + (discs + discs)) → kept ≢ k
         → 2 * faces + 0 + 4 * 0 ≡ lowers + 4
     closed faces lowers discs kept k is_faces is_lowers other = grind (arith, nat_tests)
 
-pub factor-kept : (count : ℕ) (alive opened : ℕ → Bool) (m all : List (ℕ × ℕ)) (fine : List ℕ) (a kept gone : ℕ) (first second : ℕ → ℕ)
+pub factor-kept : (h minus : ℕ) (count : ℕ) (alive opened : ℕ → Bool) (m all : List (ℕ × ℕ)) (fine : List ℕ) (a kept gone : ℕ) (first second : ℕ → ℕ)
     → ArePants count alive opened m all fine a kept gone → Contains (names count alive (classes_of (count + 1) all)) kept
-    → factor (pants_of count alive opened m all fine a first second) kept ≡ weight 0 ((first kept + first gone) + second kept)
+    → factor h minus (pants_of count alive opened m all fine a first second) kept
+    ≡ weight h minus 0 ((first kept % 2 + first gone % 2) + second kept % 2) ((first kept / 2 + first gone / 2) + second kept / 2)
 unfolding discs_on
-factor-kept count alive opened m all fine a kept gone first second pants has =
+factor-kept h minus count alive opened m all fine a kept gone first second pants has =
     let surface = pants_of count alive opened m all fine a first second in
     let is = coarse-is count alive opened m all fine a kept gone kept pants has in
     let xs = names count alive fine in
@@ -303,34 +316,43 @@ factor-kept count alive opened m all fine a kept gone first second pants has =
     ∙ ap (λ s. discs + s)
     (ap₂ (λ s t. s + t) (fine-kept count alive opened m all fine a kept gone (λ c. 1) pants)
     (coarse-sum count alive all kept (λ c. 1) has)) in
-    let mark_count : marks_on surface kept ≡ 0 + ((first kept + first gone) + second kept) =
-    faces-split surface kept marks_of_face m first second xs ys
+    let dot_count : dots_on surface kept ≡ 0 + ((first kept % 2 + first gone % 2) + second kept % 2) =
+    faces-split surface kept dots_of_face m first second xs ys
     ∙ ap₂ (λ s t. s + t) (no-marks (count + 1) kept all m)
-    (ap₂ (λ s t. s + t) (fine-kept count alive opened m all fine a kept gone first pants)
-    (coarse-sum count alive all kept second has)) in
+    (ap₂ (λ s t. s + t) (fine-kept count alive opened m all fine a kept gone (λ c. first c % 2) pants)
+    (coarse-sum count alive all kept (λ c. second c % 2) has)) in
+    let hollow_count : hollows_on surface kept ≡ 0 + ((first kept / 2 + first gone / 2) + second kept / 2) =
+    faces-split surface kept hollows_of_face m first second xs ys
+    ∙ ap₂ (λ s t. s + t) (no-marks (count + 1) kept all m)
+    (ap₂ (λ s t. s + t) (fine-kept count alive opened m all fine a kept gone (λ c. first c / 2) pants)
+    (coarse-sum count alive all kept (λ c. second c / 2) has)) in
     let strips = strips-on count alive opened m all fine a kept gone kept first second pants in
     let has_genus : HasGenus surface kept 0 =
     closed (faces_on surface kept) (lowers_on surface kept) discs kept face_count strips in
-    factor-at surface kept 0 (component-is count alive opened m all fine a gone kept first second is) has_genus
-    ∙ ap (λ marks. weight 0 marks) (mark_count ∙ omega arith)
+    factor-at h minus surface kept 0 (component-is count alive opened m all fine a gone kept first second is) has_genus
+    ∙ ap₂ (λ d o. weight h minus 0 d o) (dot_count ∙ zero_plus ((first kept % 2 + first gone % 2) + second kept % 2))
+    (hollow_count ∙ zero_plus ((first kept / 2 + first gone / 2) + second kept / 2))
   where
+    zero_plus : (x : ℕ) → 0 + x ≡ x
+    zero_plus x = omega arith
+
     closed : (faces lowers discs kept : ℕ) → faces ≡ discs + ((1 + 1) + 1)
         → lowers ≡ cond (nat_eq kept kept) 1 0 + (cond (nat_eq kept kept) 1 0 + (discs + discs))
         → 2 * faces + 0 + 4 * 0 ≡ lowers + 4
     closed faces lowers discs kept is_faces is_lowers = grind (arith, nat_tests)
 
 -- any other number is no component
-pub component-cases : (count : ℕ) (alive opened : ℕ → Bool) (m all : List (ℕ × ℕ)) (fine : List ℕ) (a kept gone k : ℕ)
+pub component-cases : (h minus : ℕ) (count : ℕ) (alive opened : ℕ → Bool) (m all : List (ℕ × ℕ)) (fine : List ℕ) (a kept gone k : ℕ)
     (first second : ℕ → ℕ)
     → ArePants count alive opened m all fine a kept gone
     → Contains (names count alive (classes_of (count + 1) all)) k
-    ⊎ (factor (pants_of count alive opened m all fine a first second) k ≡ 1)
-component-cases count alive opened m all fine a kept gone k first second pants =
+    ⊎ (factor h minus (pants_of count alive opened m all fine a first second) k ≡ 1)
+component-cases h minus count alive opened m all fine a kept gone k first second pants =
     let surface = pants_of count alive opened m all fine a first second in
     elim (cases_Bool (is_component surface k)) [
       | inl is ↦
           let found = list_any-some (λ x. nat_eq (class_in (count + 1) all x) k) (those count alive) is in
           inl (subst (λ (c : ℕ). Contains (names count alive (classes_of (count + 1) all)) c)
           (eqb-true (class_in (count + 1) all found.0) k found.2) (pants.classes found.0 found.1))
-      | inr not ↦ inr (factor-none surface k not)
+      | inr not ↦ inr (factor-none h minus surface k not)
     ]

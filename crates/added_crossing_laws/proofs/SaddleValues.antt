@@ -4,15 +4,13 @@
 -- Either way the surface is one of `Pants`, with both sides in their order or exchanged. Its number is a product over components: of
 -- cylinders, which say that labels stay, and of the pair of pants, which is a row of the merge table or of the split table
 -- (`EdgeProducts`).
-use Rattle.std.proofs.Common.{◌≡◌, ◌≢◌, ℕ, inl, inr, ◌+◌, ◌<◌, ◌∙◌, List, [], ◌∷◌, ◌++◌, map, refl, sym, ap, ap₂, subst, arith, Bool, false, ◌||◌}
+use Rattle.std.proofs.Common.{◌≡◌, ◌≢◌, ℕ, inl, inr, ◌+◌, ◌/◌, ◌%◌, ◌<◌, ◌∙◌, List, [], ◌∷◌, ◌++◌, map, refl, sym, ap, ap₂, subst, arith, Bool, false}
 use Rattle.std.specs.Prelude.{nat_eq, slice_index, slice_index_or}
 use Rattle.std.specs.List.{filter, range_with_len, Contains}
 use Rattle.std.proofs.lemmas.Bool.{cases_eq, eq-eqb, both_ways, false_from_ne_true}
 use Rattle.std.proofs.lemmas.List.Sorted.{IsPermutation-refl, IsPermutation-append_right, IsPermutation-append_comm}
-use Rattle.kh_types.specs.Bits.{one_if}
 use Rattle.kh_types.specs.Code.{Code, arc_in}
 use Rattle.kh_types.specs.Classes.{classes_of, is_least, Respects}
-use Rattle.kh_types.specs.Differential.{is_merge, is_split}
 use Rattle.kh_types.proofs.ClassLemmas.{classes-together, classes-finest, Respects-append, Respects-first, Respects-second}
 use Rattle.kh_types.proofs.JoinedClasses.{classes_of-same}
 use Rattle.kh_types.proofs.Lists.{Contains-filter, AllByRecursion-both, Contains-cases}
@@ -24,7 +22,7 @@ use Rattle.genus_laws.specs.CutCodes.{outer_smoothings}
 use Rattle.added_crossing_laws.specs.Pairings.{marked_by}
 use Rattle.added_crossing_laws.specs.Steps.{those, near}
 use Rattle.added_crossing_laws.specs.Codes.{is_open, is_alive, points_at, step_at, smoothing_at, circles_before, circle_before, arc_there, disc_of, saddle_strips, saddle_sheet}
-use Rattle.added_crossing_laws.specs.Saddles.{is_touched_at, touched_at, changes_labels_at, edge_at, TwoBecomeOneAt, MergesOrSplitsAt, IsPairedAt, AreBits, opposite}
+use Rattle.added_crossing_laws.specs.Saddles.{is_touched_at, touched_at, changed, edge_with, TwoBecomeOneAt, MergesOrSplitsAt, IsPairedAt, AreBits, opposite}
 use Rattle.added_crossing_laws.proofs.Members.{filter-kept, those-are, are-those}
 use Rattle.added_crossing_laws.proofs.Classes.{class_in, AreAmong-below, class-own, class-is}
 use Rattle.added_crossing_laws.proofs.CutJoins.{near-has}
@@ -222,15 +220,15 @@ below-name count alive classes k has =
     omega (arith, (those-are count alive k (filter-kept (is_least classes) (those count alive) k has).has).below)
 
 -- two circles become one
-edge-merges : (code : Code) (k state : ℕ) (m : List (ℕ × ℕ)) (label other_label : ℕ → ℕ) (kept gone : ℕ) → IsPairedAt code k m
+edge-merges : (h minus : ℕ) (code : Code) (k state : ℕ) (m : List (ℕ × ℕ)) (label other_label : ℕ → ℕ) (kept gone : ℕ) → IsPairedAt code k m
     → AreBits label other_label → TwoBecomeOneAt code k state m 0 1 kept gone
     → IsEdgeProduct (count_of code + 1)
-    (factor (pants_of (count_of code) (is_alive code k) (is_open code k) m (joins_both code k state m)
+    (factor h minus (pants_of (count_of code) (is_alive code k) (is_open code k) m (joins_both code k state m)
     (classes_of (count_of code + 1) (joins_with code k state m 0)) (arc_there code k) label (opposite other_label)))
     (names (count_of code) (is_alive code k) (classes_of (count_of code + 1) (joins_both code k state m)))
     (circles_before code k 0 state m) (is_touched_at code k 0 state m) (λ c. nat_eq (label c) (other_label c))
-    (changes_labels_at code k state m label other_label) kept
-edge-merges code k state m label other_label kept gone at bits becomes =
+    (changed h minus (map label (touched_at code k 0 state m)) (map other_label (touched_at code k 1 state m))) kept
+edge-merges h minus code k state m label other_label kept gone at bits becomes =
     let count = count_of code in
     let alive = is_alive code k in
     let opened = is_open code k in
@@ -244,13 +242,13 @@ edge-merges code k state m label other_label kept gone at bits becomes =
     let circles = circles_before code k 0 state m in
     let kept_name = is-coarse count alive opened m all fine a kept gone kept pants pants.kept_in (kept-not-gone kept gone becomes.order) in
     record {
-      cases = λ c. component-cases count alive opened m all fine a kept gone c label second pants;
+      cases = λ c. component-cases h minus count alive opened m all fine a kept gone c label second pants;
       other = λ c has not_kept.
-          factor-other count alive opened m all fine a kept gone c label second pants has not_kept
-          ∙ cylinder-weight (label c) (other_label c) (bits.first_bit c) (bits.second_bit c);
-      at_kept = factor-kept count alive opened m all fine a kept gone label second pants kept_name
-          ∙ merge-weight (label kept) (label gone) (other_label kept) (bits.first_bit kept) (bits.first_bit gone) (bits.second_bit kept)
-          ∙ ap₂ (λ (xs ys : List ℕ). one_if (is_merge (map label xs) (map other_label ys) || is_split (map label xs) (map other_label ys)))
+          factor-other h minus count alive opened m all fine a kept gone c label second pants has not_kept
+          ∙ cylinder-weight h minus (label c) (other_label c) (bits.first_bit c) (bits.second_bit c);
+      at_kept = factor-kept h minus count alive opened m all fine a kept gone label second pants kept_name
+          ∙ merge-weight h minus (label kept) (label gone) (other_label kept) (bits.first_bit kept) (bits.first_bit gone) (bits.second_bit kept)
+          ∙ ap₂ (λ (xs ys : List ℕ). changed h minus (map label xs) (map other_label ys))
           (sym becomes.touched_first) (sym becomes.touched_second);
       kept_below = below-name count alive fine kept pants.kept_in;
       below = λ c has. below-name count alive (classes_of (count + 1) all) c has;
@@ -265,15 +263,15 @@ edge-merges code k state m label other_label kept gone at bits becomes =
     }
 
 -- one becomes two
-edge-splits : (code : Code) (k state : ℕ) (m : List (ℕ × ℕ)) (label other_label : ℕ → ℕ) (kept gone : ℕ) → IsPairedAt code k m
+edge-splits : (h minus : ℕ) (code : Code) (k state : ℕ) (m : List (ℕ × ℕ)) (label other_label : ℕ → ℕ) (kept gone : ℕ) → IsPairedAt code k m
     → AreBits label other_label → TwoBecomeOneAt code k state m 1 0 kept gone
     → IsEdgeProduct (count_of code + 1)
-    (factor (pants_of (count_of code) (is_alive code k) (is_open code k) m (joins_both code k state m)
+    (factor h minus (pants_of (count_of code) (is_alive code k) (is_open code k) m (joins_both code k state m)
     (classes_of (count_of code + 1) (joins_with code k state m 1)) (arc_there code k) (opposite other_label) label))
     (names (count_of code) (is_alive code k) (classes_of (count_of code + 1) (joins_both code k state m)))
     (circles_before code k 0 state m) (is_touched_at code k 0 state m) (λ c. nat_eq (label c) (other_label c))
-    (changes_labels_at code k state m label other_label) kept
-edge-splits code k state m label other_label kept gone at bits becomes =
+    (changed h minus (map label (touched_at code k 0 state m)) (map other_label (touched_at code k 1 state m))) kept
+edge-splits h minus code k state m label other_label kept gone at bits becomes =
     let count = count_of code in
     let alive = is_alive code k in
     let opened = is_open code k in
@@ -292,15 +290,15 @@ edge-splits code k state m label other_label kept gone at bits becomes =
     let kept_touched : Contains (touched_at code k 0 state m) kept =
     subst (λ (zs : List ℕ). Contains zs kept) (sym becomes.touched_second) (0, omega arith, refl) in
     record {
-      cases = λ c. component-cases count alive opened m all fine a kept gone c first label pants;
+      cases = λ c. component-cases h minus count alive opened m all fine a kept gone c first label pants;
       other = λ c has not_kept.
-          factor-other count alive opened m all fine a kept gone c first label pants has not_kept
-          ∙ ap (λ marks. weight 0 marks) (turned (first c) (label c))
-          ∙ cylinder-weight (label c) (other_label c) (bits.first_bit c) (bits.second_bit c);
-      at_kept = factor-kept count alive opened m all fine a kept gone first label pants kept_name
-          ∙ split-weight (label kept) (other_label kept) (other_label gone) (bits.first_bit kept) (bits.second_bit kept)
+          factor-other h minus count alive opened m all fine a kept gone c first label pants has not_kept
+          ∙ ap₂ (λ d o. weight h minus 0 d o) (turned (first c % 2) (label c % 2)) (turned (first c / 2) (label c / 2))
+          ∙ cylinder-weight h minus (label c) (other_label c) (bits.first_bit c) (bits.second_bit c);
+      at_kept = factor-kept h minus count alive opened m all fine a kept gone first label pants kept_name
+          ∙ split-weight h minus (label kept) (other_label kept) (other_label gone) (bits.first_bit kept) (bits.second_bit kept)
           (bits.second_bit gone)
-          ∙ ap₂ (λ (xs ys : List ℕ). one_if (is_merge (map label xs) (map other_label ys) || is_split (map label xs) (map other_label ys)))
+          ∙ ap₂ (λ (xs ys : List ℕ). changed h minus (map label xs) (map other_label ys))
           (sym becomes.touched_second) (sym becomes.touched_first);
       kept_below = below-name count alive fine kept pants.kept_in;
       below = λ c has. below-name count alive (classes_of (count + 1) all) c has;
@@ -329,12 +327,12 @@ by_classes code k state m first second classes others = record {
   raises = [];
 }
 
-turned-value : (code : Code) (k state : ℕ) (m : List (ℕ × ℕ)) (first second : ℕ → ℕ) (classes others : List ℕ)
-    → value (by_classes code k state m first second classes others) ≡ value (by_classes code k state m second first others classes)
-turned-value code k state m first second classes others =
+turned-value : (h minus : ℕ) (code : Code) (k state : ℕ) (m : List (ℕ × ℕ)) (first second : ℕ → ℕ) (classes others : List ℕ)
+    → value h minus (by_classes code k state m first second classes others) ≡ value h minus (by_classes code k state m second first others classes)
+turned-value h minus code k state m first second classes others =
     let xs = marked_by first (names (count_of code) (is_alive code k) classes) in
     let ys = marked_by second (names (count_of code) (is_alive code k) others) in
-    value-reordered (by_classes code k state m first second classes others) (by_classes code k state m second first others classes)
+    value-reordered h minus (by_classes code k state m first second classes others) (by_classes code k state m second first others classes)
     record {
       size = refl;
       places = refl;
@@ -344,43 +342,43 @@ turned-value code k state m first second classes others =
       raises = IsPermutation-refl [];
     }
 
-value-merges : (code : Code) (k state : ℕ) (m : List (ℕ × ℕ)) (label other_label : ℕ → ℕ) (kept gone : ℕ) → IsPairedAt code k m
+value-merges : (h minus : ℕ) (code : Code) (k state : ℕ) (m : List (ℕ × ℕ)) (label other_label : ℕ → ℕ) (kept gone : ℕ) → IsPairedAt code k m
     → AreBits label other_label → TwoBecomeOneAt code k state m 0 1 kept gone
-    → value (saddle_sheet code k state m label (opposite other_label)) ≡ edge_at code k state m label other_label
-value-merges code k state m label other_label kept gone at bits becomes =
+    → value h minus (saddle_sheet code k state m label (opposite other_label)) ≡ edge_with h minus code k state m label other_label
+value-merges h minus code k state m label other_label kept gone at bits becomes =
     let count = count_of code in
     let n = count + 1 in
     let fine = classes_of n (joins_with code k state m 0) in
     let pants = pants_of count (is_alive code k) (is_open code k) m (joins_both code k state m) fine (arc_there code k) label
     (opposite other_label) in
-    ap (λ (cs : List ℕ). value (by_classes code k state m label (opposite other_label) fine cs))
+    ap (λ (cs : List ℕ). value h minus (by_classes code k state m label (opposite other_label) fine cs))
     (coarse-same code k state m 0 1 kept gone at (merging code k state m) becomes)
-    ∙ value-edge n (factor pants) (names count (is_alive code k) (classes_of n (joins_both code k state m)))
+    ∙ value-edge n (factor h minus pants) (names count (is_alive code k) (classes_of n (joins_both code k state m)))
     (circles_before code k 0 state m) (is_touched_at code k 0 state m) (λ c. nat_eq (label c) (other_label c))
-    (changes_labels_at code k state m label other_label) kept
-    (edge-merges code k state m label other_label kept gone at bits becomes)
+    (changed h minus (map label (touched_at code k 0 state m)) (map other_label (touched_at code k 1 state m))) kept
+    (edge-merges h minus code k state m label other_label kept gone at bits becomes)
 
-value-splits : (code : Code) (k state : ℕ) (m : List (ℕ × ℕ)) (label other_label : ℕ → ℕ) (kept gone : ℕ) → IsPairedAt code k m
+value-splits : (h minus : ℕ) (code : Code) (k state : ℕ) (m : List (ℕ × ℕ)) (label other_label : ℕ → ℕ) (kept gone : ℕ) → IsPairedAt code k m
     → AreBits label other_label → TwoBecomeOneAt code k state m 1 0 kept gone
-    → value (saddle_sheet code k state m label (opposite other_label)) ≡ edge_at code k state m label other_label
-value-splits code k state m label other_label kept gone at bits becomes =
+    → value h minus (saddle_sheet code k state m label (opposite other_label)) ≡ edge_with h minus code k state m label other_label
+value-splits h minus code k state m label other_label kept gone at bits becomes =
     let count = count_of code in
     let n = count + 1 in
     let fine = classes_of n (joins_with code k state m 1) in
     let pants = pants_of count (is_alive code k) (is_open code k) m (joins_both code k state m) fine (arc_there code k)
     (opposite other_label) label in
-    ap (λ (cs : List ℕ). value (by_classes code k state m label (opposite other_label) cs fine))
+    ap (λ (cs : List ℕ). value h minus (by_classes code k state m label (opposite other_label) cs fine))
     (coarse-same code k state m 1 0 kept gone at (splitting code k state m) becomes)
-    ∙ turned-value code k state m label (opposite other_label) (classes_of n (joins_both code k state m)) fine
-    ∙ value-edge n (factor pants) (names count (is_alive code k) (classes_of n (joins_both code k state m)))
+    ∙ turned-value h minus code k state m label (opposite other_label) (classes_of n (joins_both code k state m)) fine
+    ∙ value-edge n (factor h minus pants) (names count (is_alive code k) (classes_of n (joins_both code k state m)))
     (circles_before code k 0 state m) (is_touched_at code k 0 state m) (λ c. nat_eq (label c) (other_label c))
-    (changes_labels_at code k state m label other_label) kept
-    (edge-splits code k state m label other_label kept gone at bits becomes)
+    (changed h minus (map label (touched_at code k 0 state m)) (map other_label (touched_at code k 1 state m))) kept
+    (edge-splits h minus code k state m label other_label kept gone at bits becomes)
 
-pub value-saddle : (code : Code) (k state : ℕ) (m : List (ℕ × ℕ)) (label other_label : ℕ → ℕ) → IsPairedAt code k m
+pub value-saddle : (h minus : ℕ) (code : Code) (k state : ℕ) (m : List (ℕ × ℕ)) (label other_label : ℕ → ℕ) → IsPairedAt code k m
     → AreBits label other_label → MergesOrSplitsAt code k state m
-    → value (saddle_sheet code k state m label (opposite other_label)) ≡ edge_at code k state m label other_label
-value-saddle code k state m label other_label at bits (kept, gone, inl merges) =
-    value-merges code k state m label other_label kept gone at bits merges
-value-saddle code k state m label other_label at bits (kept, gone, inr splits) =
-    value-splits code k state m label other_label kept gone at bits splits
+    → value h minus (saddle_sheet code k state m label (opposite other_label)) ≡ edge_with h minus code k state m label other_label
+value-saddle h minus code k state m label other_label at bits (kept, gone, inl merges) =
+    value-merges h minus code k state m label other_label kept gone at bits merges
+value-saddle h minus code k state m label other_label at bits (kept, gone, inr splits) =
+    value-splits h minus code k state m label other_label kept gone at bits splits

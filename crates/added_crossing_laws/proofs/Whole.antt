@@ -4,7 +4,7 @@
 -- two are compared component by component: circles outside and closed circles are the circles of the whole, on both sides (`sum-circles`);
 -- the half strips that raise the one part and lower the other cancel; all else is in both. The numbers are the same (`value-whole`), and
 -- the law of overlays gives the sum over the dots (`sum-added`).
-use Rattle.std.proofs.Common.{◌≡◌, ℕ, inl, inr, ◌+◌, ◌*◌, ◌<◌, ◌∙◌, List, ◌++◌, refl, sym, ap, ap₂, arith, Bool, cond}
+use Rattle.std.proofs.Common.{◌≡◌, ℕ, inl, inr, ◌+◌, ◌*◌, ◌/◌, ◌%◌, ◌<◌, ◌∙◌, List, ◌++◌, refl, sym, ap, ap₂, arith, Bool, cond}
 use Rattle.std.specs.Prelude.{nat_eq, slice_index}
 use Rattle.std.proofs.lemmas.Bool.{or_cases}
 use Rattle.std.specs.List.{list_any, sum_by, Contains}
@@ -16,14 +16,16 @@ use Rattle.kh_types.proofs.ClassLemmas.{classes-together, Respects-append, Respe
 use Rattle.kh_types.proofs.JoinedClasses.{classes_of-same}
 use Rattle.kh_types.proofs.Lists.{AllByRecursion-append, AllByRecursion-both}
 use Rattle.kh_types.proofs.ListSums.{sum_by-alike, sum_by-map}
-use Rattle.surface_laws.specs.Surfaces.{Surface, component_of, is_component, faces_on, marks_on, lowers_on, raises_on, IsClosed, factor, value}
+use Rattle.kh_types.specs.Residues.{Same}
+use Rattle.kh_types.proofs.Residues.{same-equal}
+use Rattle.surface_laws.specs.Surfaces.{Surface, component_of, is_component, faces_on, dots_on, hollows_on, lowers_on, raises_on, IsClosed, factor, value}
 use Rattle.surface_laws.specs.Cuts.{with_faces, first_caps, second_caps, sum_of_products}
 use Rattle.surface_laws.specs.Overlays.{overlaid, at_places}
 use Rattle.surface_laws.proofs.Products.{product_below-alike}
 use Rattle.surface_laws.proofs.Components.{list_any-contained, list_any-some, list_any-alike}
 use Rattle.surface_laws.proofs.Factors.{AreAlike, factor-alike}
 use Rattle.surface_laws.proofs.JoinedCounts.{amount_at, sum_at}
-use Rattle.surface_laws.proofs.OneCut.{place_of_face, marks_of_face, one_face, itself, one_place}
+use Rattle.surface_laws.proofs.OneCut.{place_of_face, dots_of_face, hollows_of_face, one_face, itself, one_place}
 use Rattle.surface_laws.proofs.Overlaid.{AreLaid, sum-laid}
 use Rattle.surface_laws.specs.Points.{discs, circles}
 use Rattle.added_crossing_laws.specs.Pairings.{face_with, marked_by, circle_faces}
@@ -208,14 +210,19 @@ alike-whole step joins others pairs other_pairs outer all faces lowers label oth
     sum-same step.count over whole place_of_face one_face over.faces k same
     ∙ faces-whole step joins others pairs other_pairs outer all faces lowers label other_label k one_face laid labels
     (λ marks x y is. refl) in
-    let mark_count : marks_on over k ≡ marks_on whole k =
-    sum-same step.count over whole place_of_face marks_of_face over.faces k same
-    ∙ faces-whole step joins others pairs other_pairs outer all faces lowers label other_label k marks_of_face laid labels
-    (λ marks x y is. is) in
+    let dot_count : dots_on over k ≡ dots_on whole k =
+    sum-same step.count over whole place_of_face dots_of_face over.faces k same
+    ∙ faces-whole step joins others pairs other_pairs outer all faces lowers label other_label k dots_of_face laid labels
+    (λ marks x y is. ap (λ mark. mark % 2) is) in
+    let hollow_count : hollows_on over k ≡ hollows_on whole k =
+    sum-same step.count over whole place_of_face hollows_of_face over.faces k same
+    ∙ faces-whole step joins others pairs other_pairs outer all faces lowers label other_label k hollows_of_face laid labels
+    (λ marks x y is. ap (λ mark. mark / 2) is) in
     record {
       is = is;
       counts = record {
-        marks = mark_count;
+        dots = dot_count;
+        hollows = hollow_count;
         euler = balanced (faces_on over k) (faces_on whole k) (sum_at whole k itself one_place (after step).opened)
             (lowers_on whole k) 0 (raises_on whole k) (lowers_on over k) (raises_on over k) face_count
             (sum-same step.count over whole itself one_place over.lowers k same
@@ -224,17 +231,17 @@ alike-whole step joins others pairs other_pairs outer all faces lowers label oth
       };
     }
 
-value-whole : (step : Step) (joins others pairs other_pairs outer all faces : List (ℕ × ℕ)) (lowers : List ℕ)
+value-whole : (h minus : ℕ) (step : Step) (joins others pairs other_pairs outer all faces : List (ℕ × ℕ)) (lowers : List ℕ)
     (label other_label : ℕ → ℕ) → IsLaid step joins others pairs other_pairs outer all → LiesNear step faces lowers
     → AreLabels joins others outer label other_label
-    → value (overlay_of step joins others pairs other_pairs outer faces lowers label other_label)
-    ≡ value (all_of step all joins others outer faces lowers label other_label)
-value-whole step joins others pairs other_pairs outer all faces lowers label other_label laid lies labels =
+    → value h minus (overlay_of step joins others pairs other_pairs outer faces lowers label other_label)
+    ≡ value h minus (all_of step all joins others outer faces lowers label other_label)
+value-whole h minus step joins others pairs other_pairs outer all faces lowers label other_label laid lies labels =
     let over = overlay_of step joins others pairs other_pairs outer faces lowers label other_label in
     let whole = all_of step all joins others outer faces lowers label other_label in
-    product_below-alike (step.count + 1) (factor over) (factor whole)
+    product_below-alike (step.count + 1) (factor h minus over) (factor h minus whole)
     (λ k below.
-    factor-alike over k whole k
+    factor-alike h minus over k whole k
     (alike-whole step joins others pairs other_pairs outer all faces lowers label other_label k laid lies labels))
 
 -- with the law of overlays
@@ -255,15 +262,18 @@ are-laid step joins others pairs other_pairs outer all faces lowers label other_
   along = MeetAlong-discs step joins others pairs other_pairs outer all faces lowers label other_label laid lies;
 }
 
-pub sum-added : (step : Step) (joins others pairs other_pairs outer all faces : List (ℕ × ℕ)) (lowers : List ℕ)
-    (label other_label : ℕ → ℕ) → IsLaid step joins others pairs other_pairs outer all → LiesNear step faces lowers
-    → AreLabels joins others outer label other_label
+pub sum-added : (p h minus : ℕ) (step : Step) (joins others pairs other_pairs outer all faces : List (ℕ × ℕ)) (lowers : List ℕ)
+    (label other_label : ℕ → ℕ) → Same p (h + minus) 0 → IsLaid step joins others pairs other_pairs outer all
+    → LiesNear step faces lowers → AreLabels joins others outer label other_label
     → ArePartsClosed step joins others pairs other_pairs outer faces lowers label other_label
-    → sum_of_products (outside step pairs other_pairs outer label other_label)
-    (added step joins others faces lowers label other_label) (at_places (discs (after step) pairs other_pairs))
-    ≡ value (all_of step all joins others outer faces lowers label other_label)
-sum-added step joins others pairs other_pairs outer all faces lowers label other_label laid lies labels closed =
-    sum-laid (outside step pairs other_pairs outer label other_label) (added step joins others faces lowers label other_label)
-    (discs (after step) pairs other_pairs) 0
+    → Same p
+    (sum_of_products h minus (outside step pairs other_pairs outer label other_label)
+    (added step joins others faces lowers label other_label) (at_places (discs (after step) pairs other_pairs)))
+    (value h minus (all_of step all joins others outer faces lowers label other_label))
+sum-added p h minus step joins others pairs other_pairs outer all faces lowers label other_label cancels laid lies labels closed =
+    sum-laid p h minus (outside step pairs other_pairs outer label other_label) (added step joins others faces lowers label other_label)
+    (discs (after step) pairs other_pairs) 0 cancels
     (are-laid step joins others pairs other_pairs outer all faces lowers label other_label laid lies) closed.far closed.close
-    ∙ value-whole step joins others pairs other_pairs outer all faces lowers label other_label laid lies labels
+    ∙ same-equal p (value h minus (overlay_of step joins others pairs other_pairs outer faces lowers label other_label))
+    (value h minus (all_of step all joins others outer faces lowers label other_label))
+    (value-whole h minus step joins others pairs other_pairs outer all faces lowers label other_label laid lies labels)

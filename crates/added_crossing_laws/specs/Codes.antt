@@ -165,12 +165,12 @@ abbrev pub discs_behind : Code → ℕ → ℕ → ℕ → List (ℕ × ℕ) →
 discs_behind code k smoothing other m n =
     discs (points_at code (k + 1)) (pairing_behind code k smoothing m) (pairing_behind code k other n)
 
--- two surfaces are closed once there are discs at some circles, which are marked on the second alone
+-- two surfaces are closed once there are discs at some circles
 pub record AreClosed (first second : Surface) (circles : List ℕ) : Type 0 where
   pub first_closed : IsClosed (with_faces first (first_caps (at_places circles) 0))
   pub second_closed : IsClosed (with_faces second (second_caps (at_places circles) 0))
 
--- the sum over all sets of dots on the discs at some circles, of the products of two numbers: a disc on the first surface is marked where
--- it has a dot, that on the second one where it has none (neck-cutting, after Bar-Natan 2005)
-abbrev pub sum_over_dots : Surface → Surface → List ℕ → ℕ
-sum_over_dots first second circles = sum_of_products first second (at_places circles)
+-- the sum over all sets of dots on the discs at some circles, of the products of two numbers: a disc on the first surface has a dot where
+-- it is in the set, that on the second one a hollow dot where it is not (neck-cutting, after Bar-Natan 2005)
+abbrev pub sum_over_dots : ℕ → ℕ → Surface → Surface → List ℕ → ℕ
+sum_over_dots h minus first second circles = sum_of_products h minus first second (at_places circles)

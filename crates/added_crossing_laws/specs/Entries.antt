@@ -11,7 +11,8 @@ use Rattle.added_crossing_laws.specs.Codes.{points_at, step_at, smoothing_at, ci
 use Rattle.added_crossing_laws.specs.Labels.{label_at, number_of}
 
 -- the surface of a set of dotted discs from labels of the circles of m to labels of those of n, at a state after the first k crossings.
--- Dots and labels are numbers, by their bits: a dotted disc, a circle of m with v- (1) and a circle of n with v+ (0) are marked
+-- Dots and labels are numbers, by their bits: a dotted disc and a circle of m with v- (1) have a dot, a circle of n with v+ (0) has a hollow
+-- dot
 abbrev pub entry_sheet : Code → ℕ → ℕ → List (ℕ × ℕ) → List (ℕ × ℕ) → ℕ → ℕ → ℕ → Surface
 entry_sheet code k state m n dots label other =
     let points = points_at code k in
@@ -19,11 +20,11 @@ entry_sheet code k state m n dots label other =
     sheet points m n w (marked dots (discs points m n) ++ (marked label (circles points m w) ++ marked_else other (circles points n w)))
 
 -- and the number of this surface: the entry of the dotted discs from the one generator to the other
-abbrev pub entry_at : Code → ℕ → ℕ → List (ℕ × ℕ) → List (ℕ × ℕ) → ℕ → ℕ → ℕ → ℕ
-entry_at code k state m n dots label other = value (entry_sheet code k state m n dots label other)
+abbrev pub entry_at : ℕ → ℕ → Code → ℕ → ℕ → List (ℕ × ℕ) → List (ℕ × ℕ) → ℕ → ℕ → ℕ → ℕ
+entry_at h minus code k state m n dots label other = value h minus (entry_sheet code k state m n dots label other)
 
 -- what the crossing adds, from labels of the circles that it closes on one side to labels of those on the other: some faces, and the
--- discs of the new pairings, marked where no dots are kept
+-- discs of the new pairings, with hollow dots where no dots are kept
 abbrev pub coefficient_sheet : Code → ℕ → ℕ → ℕ → List (ℕ × ℕ) → List (ℕ × ℕ) → List (ℕ × ℕ) → List ℕ → ℕ → ℕ → ℕ → Surface
 coefficient_sheet code k first second m n faces lowers closed other_closed kept = record {
   size = (points_at code k).size;

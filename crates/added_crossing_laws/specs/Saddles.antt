@@ -1,6 +1,7 @@
 -- The edges of the cube that a pairing and the crossings still to come make: what merges or splits, and the coefficient.
-use Rattle.std.specs.Prelude.{◌≡◌, ◌≢◌, ◌⊎◌, ℕ, zero, suc, ◌++◌, slice_index, ◌-◌, ◌<◌, List, [], ◌∷◌, length, map, nat_eq, Bool, ◌&&◌, ◌||◌, if◌then◌else◌, slice_index_or}
+use Rattle.std.specs.Prelude.{◌≡◌, ◌≢◌, ◌⊎◌, ℕ, zero, suc, ◌++◌, slice_index, ◌-◌, ◌*◌, ◌<◌, List, [], ◌∷◌, length, map, nat_eq, Bool, ◌&&◌, ◌||◌, if◌then◌else◌, slice_index_or}
 use Rattle.std.specs.List.{filter, list_all, list_any, range_with_len, Contains}
+use Rattle.std.specs.Str.{bytes_eq}
 use Rattle.kh_types.specs.Bits.{bit}
 use Rattle.kh_types.specs.Classes.{classes_of}
 use Rattle.kh_types.specs.Code.{Code, arc_in}
@@ -42,6 +43,20 @@ abbrev pub edge_at : Code → ℕ → ℕ → List (ℕ × ℕ) → (ℕ → ℕ
 edge_at code k state m label other_label =
     if keeps_labels_at code k state m label other_label && changes_labels_at code k state m label other_label then 1 else 0
 
+-- the number of a change of labels: the merge table has a row more, v- and v- to h times v-, and so has the split table, v+ to minus times v+
+-- and v+ (Bar-Natan 2005, section 9)
+abbrev pub changed : ℕ → ℕ → List ℕ → List ℕ → ℕ
+changed h minus labels others =
+    if is_merge labels others || is_split labels others then 1
+    else (if bytes_eq labels (1 ∷ 1 ∷ []) && bytes_eq others (1 ∷ []) then h
+    else (if bytes_eq labels (0 ∷ []) && bytes_eq others (0 ∷ 0 ∷ []) then minus else 0))
+
+-- and the coefficient with these rows
+abbrev pub edge_with : ℕ → ℕ → Code → ℕ → ℕ → List (ℕ × ℕ) → (ℕ → ℕ) → (ℕ → ℕ) → ℕ
+edge_with h minus code k state m label other_label =
+    if keeps_labels_at code k state m label other_label
+    then changed h minus (map label (touched_at code k 0 state m)) (map other_label (touched_at code k 1 state m)) else 0
+
 -- from one smoothing of the crossing to the other two circles become one, which has the name of the one that is kept: they are those
 -- that the crossing touches before, and it is what it touches after; the other name is gone, and every other circle keeps its name
 -- and its arcs and loops
@@ -71,9 +86,9 @@ pub record AreBits (label other_label : ℕ → ℕ) : Type 0 where
   pub first_bit : (x : ℕ) → label x < 2
   pub second_bit : (x : ℕ) → other_label x < 2
 
--- the marks at the circles after an edge: v+ is marked
+-- the marks at the circles after an edge: v+ has a hollow dot
 abbrev pub opposite : (ℕ → ℕ) → ℕ → ℕ
-opposite label x = 1 - label x
+opposite label x = 2 * (1 - label x)
 
 -- the pairing that a state makes of the open arcs after the first k crossings: one crossing after another is added with its smoothing
 abbrev pub pairing_of : Code → ℕ → ℕ → List (ℕ × ℕ)

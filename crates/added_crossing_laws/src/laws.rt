@@ -1,5 +1,6 @@
 //! One crossing more: what becomes of pairings and circles, and how the number of a surface is a
-//! sum over the dots on the discs of the new pairings.
+//! sum over the dots on the discs of the new pairings. Numbers have two parameters, h and minus, which
+//! are together 0 modulo p.
 
 ghost use Rattle.std.specs.Prelude.{◌≡◌, ◌↔◌, ℕ, ◌+◌, ◌*◌, ◌^◌, ◌<◌, ◌≤◌, List, ◌++◌, length, Bool, IsTrue};
 ghost use Rattle.std.specs.List.{sum_by, Contains};
@@ -9,62 +10,71 @@ ghost use Rattle.kh_types.specs.Circles.{circles_of, circle_of};
 ghost use Rattle.kh_types.specs.Classes.{Respects};
 ghost use Rattle.kh_types.specs.Code.{Code};
 ghost use Rattle.kh_types.specs.Darts.{HasArcsTwice};
+ghost use Rattle.kh_types.specs.Residues.{Same};
 ghost use Rattle.surface_laws.specs.Surfaces.{IsClosed, value};
 ghost use Rattle.surface_laws.specs.Points.{AreAmong, least_points};
 ghost use Rattle.genus_laws.specs.CutCodes.{outer_smoothings};
 ghost use Rattle.added_crossing_laws.specs.Pairings.{IsPairingOf, marked_by};
 ghost use Rattle.added_crossing_laws.specs.Steps.{those, IsNewPairing};
 ghost use Rattle.added_crossing_laws.specs.Codes.{points_at, step_at, smoothing_at, pairing_behind, circles_behind, circle_behind, closed_at, circles_before, circle_before, sheet_at, outside_at, added_at, saddle_sheet, saddle_added, AreLabelled, IsLabelled, discs_behind, AreClosed, sum_over_dots};
-ghost use Rattle.added_crossing_laws.specs.Saddles.{edge_at, MergesOrSplitsAt, IsPairedAt, AreBits, opposite, pairing_of, circle_with};
+ghost use Rattle.added_crossing_laws.specs.Saddles.{edge_at, edge_with, MergesOrSplitsAt, IsPairedAt, AreBits, opposite, pairing_of, circle_with};
 ghost use Rattle.kh_types.specs.Products.{sum_below};
 ghost use Rattle.added_crossing_laws.specs.Entries.{entry_sheet, entry_at, added_surface, saddle_surface, label_before, closed_label, label_behind, ArePairedAt, AreEntriesClosed};
 ghost use Rattle.surface_laws.specs.Sheets.{marked, marked_else};
 ghost use Rattle.added_crossing_laws.specs.Labels.{label_at, number_of};
 
 /// Adding a crossing: the surface between two pairings at a state is the sum, over the dots on the
-/// discs of the new pairings, of what the crossing adds, where the dots are not, times the surface
-/// outside, where they are.
+/// discs of the new pairings, of what the crossing adds, with hollow dots where the dots are not,
+/// times the surface outside, where they are, modulo p.
 pub fn crossings_add_up()
-    ensures { (code : Code) (k state : ℕ) (m n : List (ℕ × ℕ)) (dots label other_label : ℕ → ℕ)
-        → AreLabelled code k state m n label other_label
+    ensures { (p h minus : ℕ) (code : Code) (k state : ℕ) (m n : List (ℕ × ℕ)) (dots label other_label : ℕ → ℕ)
+        → Same p (h + minus) 0 → AreLabelled code k state m n label other_label
         → AreClosed
         (outside_at code k state (pairing_behind code k (bit state k) m) (pairing_behind code k (bit state k) n) label other_label)
         (added_at code k (bit state k) m n dots label other_label) (discs_behind code k (bit state k) (bit state k) m n)
-        → sum_over_dots
+        → Same p
+        (sum_over_dots h minus
         (outside_at code k state (pairing_behind code k (bit state k) m) (pairing_behind code k (bit state k) n) label other_label)
-        (added_at code k (bit state k) m n dots label other_label) (discs_behind code k (bit state k) (bit state k) m n)
-        ≡ value (sheet_at code k state m n dots label other_label) }
+        (added_at code k (bit state k) m n dots label other_label) (discs_behind code k (bit state k) (bit state k) m n))
+        (value h minus (sheet_at code k state m n dots label other_label)) }
 {}
 
 /// The saddle at the crossing, from its 0-smoothing to its 1-smoothing: its surface is the sum,
-/// over the dots on the discs of the new pairings, of what it adds times the surface outside.
+/// over the dots on the discs of the new pairings, of what it adds times the surface outside, modulo
+/// p.
 pub fn saddles_add_up()
-    ensures { (code : Code) (k state : ℕ) (m : List (ℕ × ℕ)) (label other_label : ℕ → ℕ)
-        → IsLabelled code k state m label other_label
+    ensures { (p h minus : ℕ) (code : Code) (k state : ℕ) (m : List (ℕ × ℕ)) (label other_label : ℕ → ℕ)
+        → Same p (h + minus) 0 → IsLabelled code k state m label other_label
         → AreClosed (outside_at code k state (pairing_behind code k 0 m) (pairing_behind code k 1 m) label other_label)
         (saddle_added code k m label other_label) (discs_behind code k 0 1 m m)
-        → sum_over_dots (outside_at code k state (pairing_behind code k 0 m) (pairing_behind code k 1 m) label other_label)
-        (saddle_added code k m label other_label) (discs_behind code k 0 1 m m)
-        ≡ value (saddle_sheet code k state m label other_label) }
+        → Same p
+        (sum_over_dots h minus (outside_at code k state (pairing_behind code k 0 m) (pairing_behind code k 1 m) label other_label)
+        (saddle_added code k m label other_label) (discs_behind code k 0 1 m m))
+        (value h minus (saddle_sheet code k state m label other_label)) }
 {}
 
 /// Where two circles become one, or one becomes two, the number of the saddle's surface is the
 /// coefficient of the cube's edge at the crossing, without its sign; so that is the sum over the
-/// dots.
+/// dots, modulo p. Where h and minus are 0 the coefficient is that of the merge and split tables.
 pub fn saddles_are_edges()
-    ensures number { (code : Code) (k state : ℕ) (m : List (ℕ × ℕ)) (label other_label : ℕ → ℕ) → IsPairedAt code k m
-        → AreBits label other_label → MergesOrSplitsAt code k state m
-        → value (saddle_sheet code k state m label (opposite other_label)) ≡ edge_at code k state m label other_label }
-    ensures sum { (code : Code) (k state : ℕ) (m : List (ℕ × ℕ)) (label other_label : ℕ → ℕ) → IsPairedAt code k m
+    ensures number { (h minus : ℕ) (code : Code) (k state : ℕ) (m : List (ℕ × ℕ)) (label other_label : ℕ → ℕ)
+        → IsPairedAt code k m → AreBits label other_label → MergesOrSplitsAt code k state m
+        → value h minus (saddle_sheet code k state m label (opposite other_label))
+        ≡ edge_with h minus code k state m label other_label }
+    ensures plain { (code : Code) (k state : ℕ) (m : List (ℕ × ℕ)) (label other_label : ℕ → ℕ)
+        → edge_with 0 0 code k state m label other_label ≡ edge_at code k state m label other_label }
+    ensures sum { (p h minus : ℕ) (code : Code) (k state : ℕ) (m : List (ℕ × ℕ)) (label other_label : ℕ → ℕ)
+        → Same p (h + minus) 0 → IsPairedAt code k m
         → AreBits label other_label → MergesOrSplitsAt code k state m
         → IsLabelled code k state m label (opposite other_label)
         → AreClosed
         (outside_at code k state (pairing_behind code k 0 m) (pairing_behind code k 1 m) label (opposite other_label))
         (saddle_added code k m label (opposite other_label)) (discs_behind code k 0 1 m m)
-        → sum_over_dots
+        → Same p
+        (sum_over_dots h minus
         (outside_at code k state (pairing_behind code k 0 m) (pairing_behind code k 1 m) label (opposite other_label))
-        (saddle_added code k m label (opposite other_label)) (discs_behind code k 0 1 m m)
-        ≡ edge_at code k state m label other_label }
+        (saddle_added code k m label (opposite other_label)) (discs_behind code k 0 1 m m))
+        (edge_with h minus code k state m label other_label) }
 {}
 
 /// After one crossing more a pairing of the open arcs has become one of those that are open then:
@@ -127,33 +137,35 @@ pub fn labels_are_functions()
 
 /// An entry after the first k crossings, and the coefficient of an edge at the next one, are sums
 /// over the dot sets on the new discs: of what the crossing adds, with the labels of the closed
-/// circles, times the dot set's entry after one crossing more, with the other labels.
+/// circles, times the dot set's entry after one crossing more, with the other labels; modulo p.
 pub fn entries_add_up()
-    ensures terms { (code : Code) (k state : ℕ) (m n : List (ℕ × ℕ)) (dots label other : ℕ) → ArePairedAt code k m n
+    ensures terms { (p h minus : ℕ) (code : Code) (k state : ℕ) (m n : List (ℕ × ℕ)) (dots label other : ℕ)
+        → Same p (h + minus) 0 → ArePairedAt code k m n
         → AreEntriesClosed
         (entry_sheet code (k + 1) state (pairing_behind code k (bit state k) m) (pairing_behind code k (bit state k) n) 0
         (label_behind code k (bit state k) state m label) (label_behind code k (bit state k) state n other))
         (added_surface code k (bit state k) m n dots (closed_label code k (bit state k) state m label)
         (closed_label code k (bit state k) state n other) 0)
-        → entry_at code k state m n dots label other
-        ≡ sum_below (2 ^ length (discs_behind code k (bit state k) (bit state k) m n))
+        → Same p (entry_at h minus code k state m n dots label other)
+        (sum_below (2 ^ length (discs_behind code k (bit state k) (bit state k) m n))
         (λ kept.
-        value (added_surface code k (bit state k) m n dots (closed_label code k (bit state k) state m label)
+        value h minus (added_surface code k (bit state k) m n dots (closed_label code k (bit state k) state m label)
         (closed_label code k (bit state k) state n other) kept)
-        * entry_at code (k + 1) state (pairing_behind code k (bit state k) m) (pairing_behind code k (bit state k) n) kept
-        (label_behind code k (bit state k) state m label) (label_behind code k (bit state k) state n other)) }
-    ensures saddles { (code : Code) (k state : ℕ) (m : List (ℕ × ℕ)) (label other : ℕ) → IsPairedAt code k m
+        * entry_at h minus code (k + 1) state (pairing_behind code k (bit state k) m) (pairing_behind code k (bit state k) n) kept
+        (label_behind code k (bit state k) state m label) (label_behind code k (bit state k) state n other))) }
+    ensures saddles { (p h minus : ℕ) (code : Code) (k state : ℕ) (m : List (ℕ × ℕ)) (label other : ℕ) → Same p (h + minus) 0
+        → IsPairedAt code k m
         → MergesOrSplitsAt code k state m
         → AreEntriesClosed
         (entry_sheet code (k + 1) state (pairing_behind code k 0 m) (pairing_behind code k 1 m) 0
         (label_behind code k 0 state m label) (label_behind code k 1 state m other))
         (saddle_surface code k m (closed_label code k 0 state m label) (closed_label code k 1 state m other) 0)
-        → edge_at code k state m (label_before code k 0 state m label) (label_before code k 1 state m other)
-        ≡ sum_below (2 ^ length (discs_behind code k 0 1 m m))
+        → Same p (edge_with h minus code k state m (label_before code k 0 state m label) (label_before code k 1 state m other))
+        (sum_below (2 ^ length (discs_behind code k 0 1 m m))
         (λ kept.
-        value (saddle_surface code k m (closed_label code k 0 state m label) (closed_label code k 1 state m other) kept)
-        * entry_at code (k + 1) state (pairing_behind code k 0 m) (pairing_behind code k 1 m) kept
-        (label_behind code k 0 state m label) (label_behind code k 1 state m other)) }
+        value h minus (saddle_surface code k m (closed_label code k 0 state m label) (closed_label code k 1 state m other) kept)
+        * entry_at h minus code (k + 1) state (pairing_behind code k 0 m) (pairing_behind code k 1 m) kept
+        (label_behind code k 0 state m label) (label_behind code k 1 state m other))) }
 {}
 
 /// The labels of the circles before a crossing are split into those of the closed circles and those

@@ -29,7 +29,7 @@ pub fn first_crossing()
     ensures closed_zero { closed_at hopf_link 0 0 [] ≡ [] }
     ensures closed_one { closed_at hopf_link 0 1 [] ≡ [] }
     ensures discs { discs_behind hopf_link 0 0 1 [] [] ≡ 1 ∷ [] }
-    ensures saddle { first_saddle ≡ 1 ∷ 0 ∷ [] }
+    ensures saddle { first_saddle 0 0 ≡ 1 ∷ 0 ∷ [] }
     ensures sphere { HasGenus (saddle_surface hopf_link 0 [] 0 0 0) 1 0 }
 {}
 
@@ -40,10 +40,12 @@ pub fn second_crossing_merges()
     ensures two { closed_at hopf_link 1 0 zero_pairs ≡ 1 ∷ 2 ∷ [] }
     ensures one { closed_at hopf_link 1 1 zero_pairs ≡ 1 ∷ [] }
     ensures nothing { pairing_behind hopf_link 1 0 zero_pairs ≡ [] }
-    ensures to_plus { merging_to 0 ≡ 1 ∷ 0 ∷ 0 ∷ 0 ∷ [] }
-    ensures to_minus { merging_to 1 ≡ 0 ∷ 1 ∷ 1 ∷ 0 ∷ [] }
-    ensures edge_plus { edges_to 0 ≡ 1 ∷ 0 ∷ 0 ∷ 0 ∷ [] }
-    ensures edge_minus { edges_to 1 ≡ 0 ∷ 1 ∷ 1 ∷ 0 ∷ [] }
+    ensures to_plus { merging_to 0 0 0 ≡ 1 ∷ 0 ∷ 0 ∷ 0 ∷ [] }
+    ensures to_minus { merging_to 0 0 1 ≡ 0 ∷ 1 ∷ 1 ∷ 0 ∷ [] }
+    ensures edge_plus { edges_to 0 0 0 ≡ 1 ∷ 0 ∷ 0 ∷ 0 ∷ [] }
+    ensures edge_minus { edges_to 0 0 1 ≡ 0 ∷ 1 ∷ 1 ∷ 0 ∷ [] }
+    ensures deformed { merging_to 1 6 1 ≡ 0 ∷ 1 ∷ 1 ∷ 1 ∷ [] }
+    ensures deformed_edge { edges_to 1 6 1 ≡ 0 ∷ 1 ∷ 1 ∷ 1 ∷ [] }
     ensures sphere { HasGenus (saddle_surface hopf_link 1 zero_pairs 0 0 0) 1 0 }
 {}
 
@@ -51,16 +53,18 @@ pub fn second_crossing_merges()
 pub fn second_crossing_splits()
     ensures one { closed_at hopf_link 1 0 one_pairs ≡ 1 ∷ [] }
     ensures two { closed_at hopf_link 1 1 one_pairs ≡ 1 ∷ 2 ∷ [] }
-    ensures of_plus { splitting_from 0 ≡ 0 ∷ 1 ∷ 1 ∷ 0 ∷ [] }
-    ensures of_minus { splitting_from 1 ≡ 0 ∷ 0 ∷ 0 ∷ 1 ∷ [] }
+    ensures of_plus { splitting_from 0 0 0 ≡ 0 ∷ 1 ∷ 1 ∷ 0 ∷ [] }
+    ensures of_minus { splitting_from 0 0 1 ≡ 0 ∷ 0 ∷ 0 ∷ 1 ∷ [] }
+    ensures deformed { splitting_from 1 6 0 ≡ 6 ∷ 1 ∷ 1 ∷ 0 ∷ [] }
 {}
 
 /// Between the crossings, discs without dots are the identity. A dot on the first disc leads from
-/// v+ on the first circle to v-, and from v- nowhere.
+/// v+ on the first circle to v-, and from v- nowhere, or to h times v-.
 pub fn entries_between()
-    ensures identity { entries_from 0 1 ≡ 0 ∷ 1 ∷ 0 ∷ 0 ∷ [] }
-    ensures dot { entries_from 1 2 ≡ 0 ∷ 0 ∷ 0 ∷ 1 ∷ [] }
-    ensures nowhere { entries_from 1 1 ≡ 0 ∷ 0 ∷ 0 ∷ 0 ∷ [] }
+    ensures identity { entries_from 0 0 0 1 ≡ 0 ∷ 1 ∷ 0 ∷ 0 ∷ [] }
+    ensures dot { entries_from 0 0 1 2 ≡ 0 ∷ 0 ∷ 0 ∷ 1 ∷ [] }
+    ensures nowhere { entries_from 0 0 1 1 ≡ 0 ∷ 0 ∷ 0 ∷ 0 ∷ [] }
+    ensures deformed { entries_from 1 6 1 1 ≡ 0 ∷ 1 ∷ 0 ∷ 0 ∷ [] }
 {}
 
 /// A curl closes two circles, or one. All labels are those of closed circles: none is left for

@@ -4,8 +4,10 @@
 -- less ranks of matrices between listed cells. Another order of a list exchanges rows or columns, and signs multiply them by numbers that
 -- have inverses: neither changes a rank.
 use Rattle.std.proofs.lemmas.Bool.Decides.{nat_tests}
-use Rattle.std.proofs.Common.{◌≡◌, ℕ, ◌⊎◌, inl, inr, ◌*◌, ◌<◌, ◌≤◌, ◌∙◌, ℤ, pos, ◌+ℤ◌, List, length, refl, sym, ap, ap₂, arith}
-use Rattle.std.specs.List.{Contains}
+use Rattle.std.proofs.Common.{◌≡◌, ℕ, ◌⊎◌, inl, inr, ◌*◌, ◌<◌, ◌≤◌, ◌∙◌, ℤ, pos, ◌+ℤ◌, ◌-ℤ◌, ◌-◌, List, length, refl, sym, ap, ap₂, arith, Bool, cond}
+use Rattle.std.specs.Prelude.{◌&&◌}
+use Rattle.std.specs.List.{Contains, filter}
+use Rattle.std.specs.Ordering.{int_eq}
 use Rattle.std.proofs.lemmas.List.Sums.{length-filter}
 use Rattle.kh_types.specs.Complex.{entry_in}
 use Rattle.kh_types.specs.Rank.{rank}
@@ -15,7 +17,7 @@ use Rattle.kh_types.proofs.PivotLemmas.{rank-determined, rank-like}
 use Rattle.kh_types.proofs.Residues.{same-equal, same-mul, same-scaled}
 use Rattle.plain_matrix.specs.Scaled.{IsScaled}
 use Rattle.plain_matrix.proofs.ScaledRanks.{factors-scaled}
-use Rattle.cell_laws.specs.Cells.{Cells, cells_at, differential_at, dimension_at, has_both, table_of}
+use Rattle.cell_laws.specs.Cells.{Cells, dimension_at, has_both, table_of}
 use Rattle.cell_laws.specs.Alike.{AreAlike}
 use Rattle.cell_laws.proofs.Members.{Contains-kept, sum_by-members}
 use Rattle.cell_laws.proofs.Tables.{StandsAt, entry-at, entry-past_heads, entry-past_tails, rank-table, stands_or_past}
@@ -130,32 +132,38 @@ rank-scaled p c d tails heads other_tails other_heads field below other_below th
 -- cells that are alike
 module _ {A B : Type 0} (p : ℕ) (to : A → B) (sign : A → ℕ) (first : Cells A) (second : Cells B) (alike : AreAlike p to sign first second)
   where
-    has_both-alike : (i j : ℤ) (x : A) → Contains first.list x → has_both second i j (to x) ≡ has_both first i j x
-    has_both-alike i j x has = grind (arith, nat_tests)
-
-    length-alike : (i j : ℤ) → length (cells_at second i j) ≡ length (cells_at first i j)
-    length-alike i j = grind (arith, nat_tests, length-filter, sum_by-members, has_both-alike)
-
     -- an element of the first list, and its name
-    abbrev Names : A → B → Type 0
+    abbrev pub Names : A → B → Type 0
     Names x y = Contains first.list x × (to x ≡ y)
 
-    named : (i j : ℤ) (x : A) → Contains (cells_at first i j) x → (y : B) × Contains (cells_at second i j) y × Names x y
-    named i j x has =
-        let kept = Contains-kept (has_both first i j) first.list x has in (
+    -- two tests that agree on the cells and their names
+    abbrev pub Agree : (A → Bool) → (B → Bool) → Type 0
+    Agree test other = (x : A) → Contains first.list x → other (to x) ≡ test x
+
+    pub length-alike : (test : A → Bool) (other : B → Bool) → Agree test other
+        → length (filter other second.list) ≡ length (filter test first.list)
+    length-alike test other agree =
+        length-filter other second.list ∙ alike.listed.sums (λ y. cond (other y) 1 0)
+        ∙ sum_by-members (λ x. cond (other (to x)) 1 0) (λ x. cond (test x) 1 0) first.list
+        (λ x has. ap (λ (b : Bool). cond b 1 0) (agree x has))
+        ∙ sym (length-filter test first.list)
+
+    named : (test : A → Bool) (other : B → Bool) → Agree test other → (x : A) → Contains (filter test first.list) x
+        → (y : B) × Contains (filter other second.list) y × Names x y
+    named test other agree x has =
+        let kept = Contains-kept test first.list x has in (
           to x,
-          Contains-filter (has_both second i j) second.list (to x) (has_both-alike i j x kept.0 ∙ kept.1)
-              (alike.listed.there x kept.0),
+          Contains-filter other second.list (to x) (agree x kept.0 ∙ kept.1) (alike.listed.there x kept.0),
           (kept.0, refl),
         )
 
-    nameless : (i j : ℤ) (y : B) → Contains (cells_at second i j) y → (x : A) × Contains (cells_at first i j) x × Names x y
-    nameless i j y has =
-        let kept = Contains-kept (has_both second i j) second.list y has in
+    nameless : (test : A → Bool) (other : B → Bool) → Agree test other → (y : B) → Contains (filter other second.list) y
+        → (x : A) × Contains (filter test first.list) x × Names x y
+    nameless test other agree y has =
+        let kept = Contains-kept other second.list y has in
         let found = alike.listed.back y kept.0 in (
           found.0,
-          Contains-filter (has_both first i j) first.list found.0
-              (sym (has_both-alike i j found.0 found.1) ∙ ap (has_both second i j) found.2 ∙ kept.1) found.1,
+          Contains-filter test first.list found.0 (sym (agree found.0 found.1) ∙ ap other found.2 ∙ kept.1) found.1,
           (found.1, found.2),
         )
 
@@ -181,18 +189,29 @@ module _ {A B : Type 0} (p : ℕ) (to : A → B) (sign : A → ℕ) (first : Cel
         once : (n : ℕ) → 1 * (1 * n) ≡ n
         once n = omega arith
 
-    module _ (field : HasInverses p) (below : (x y : A) → first.coefficient x y < p) (other_below : (x y : B) → second.coefficient x y < p)
-      where
-        rank-alike : (i j : ℤ) → rank p (differential_at second i j) ≡ rank p (differential_at first i j)
-        rank-alike i j =
-            let next = i +ℤ pos 1 in
-            rank-scaled p first.coefficient second.coefficient (cells_at first i j) (cells_at first next j)
-            (cells_at second i j) (cells_at second next j) field below other_below
-            (scaled-tables p first.coefficient second.coefficient (cells_at first i j) (cells_at first next j)
-            (cells_at second i j) (cells_at second next j) Names (λ x y. sign x) (named i j) (named next j) coefficient-named)
-            (scaled-tables p second.coefficient first.coefficient (cells_at second i j) (cells_at second next j)
-            (cells_at first i j) (cells_at first next j) (λ y x. Names x y) (λ y x. sign x) (nameless i j) (nameless next j)
-            (λ y v x u. coefficient-back y v x u))
+    pub rank-alike : (field : HasInverses p) → ((x y : A) → first.coefficient x y < p) → ((x y : B) → second.coefficient x y < p)
+        → (is_tail is_head : A → Bool) (other_tail other_head : B → Bool) → Agree is_tail other_tail → Agree is_head other_head
+        → rank p (table_of second.coefficient (filter other_tail second.list) (filter other_head second.list))
+        ≡ rank p (table_of first.coefficient (filter is_tail first.list) (filter is_head first.list))
+    rank-alike field below other_below is_tail is_head other_tail other_head tails_agree heads_agree =
+        let tails = filter is_tail first.list in
+        let heads = filter is_head first.list in
+        let other_tails = filter other_tail second.list in
+        let other_heads = filter other_head second.list in
+        rank-scaled p first.coefficient second.coefficient tails heads other_tails other_heads field below other_below
+        (scaled-tables p first.coefficient second.coefficient tails heads other_tails other_heads Names (λ x y. sign x)
+        (named is_tail other_tail tails_agree) (named is_head other_head heads_agree) coefficient-named)
+        (scaled-tables p second.coefficient first.coefficient other_tails other_heads tails heads (λ y x. Names x y) (λ y x. sign x)
+        (nameless is_tail other_tail tails_agree) (nameless is_head other_head heads_agree)
+        coefficient-back)
 
-        pub dimension-alike : (i j : ℤ) → dimension_at p second i j ≡ dimension_at p first i j
-        dimension-alike i j = grind (arith, nat_tests, length-alike, rank-alike)
+    both-agree : (i j : ℤ) → Agree (has_both first i j) (has_both second i j)
+    both-agree i j x has = ap₂ (λ (d q : ℤ). int_eq d i && int_eq q j) (alike.homological x has) (alike.quantum x has)
+
+    pub dimension-alike : HasInverses p → ((x y : A) → first.coefficient x y < p) → ((x y : B) → second.coefficient x y < p)
+        → (i j : ℤ) → dimension_at p second i j ≡ dimension_at p first i j
+    dimension-alike field below other_below i j =
+        let ranks = λ (k : ℤ). rank-alike field below other_below (has_both first k j) (has_both first (k +ℤ pos 1) j)
+        (has_both second k j) (has_both second (k +ℤ pos 1) j) (both-agree k j) (both-agree (k +ℤ pos 1) j) in
+        ap₂ (λ m n. m - n)
+        (ap₂ (λ m n. m - n) (length-alike (has_both first i j) (has_both second i j) (both-agree i j)) (ranks i)) (ranks (i -ℤ pos 1))

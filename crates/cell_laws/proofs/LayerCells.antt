@@ -75,7 +75,8 @@ cell-beside layers tail head rest x tail_gone head_gone has =
     }
 
 module _ (p : ℕ) (layers : Layers) (tail head c : ℕ) (rest : List ℕ) (field : HasInverses p)
-    (complex : AreComplex p (cells_of layers)) (listed : AreListed (λ (o : ℕ). o) layers.objects (tail ∷ head ∷ rest))
+    (small : (x y : Layer) → layer_coefficient layers x y < p)
+    (listed : AreListed (λ (o : ℕ). o) layers.objects (tail ∷ head ∷ rest))
     (tail_gone : Contains rest tail → ⊥) (head_gone : Contains rest head → ⊥) (times : IsTimesIdentity layers tail head c) where
   abbrev pub pair_of : ℕ → ℕ → Layer × Layer
   pair_of state label = (layer_of tail state label, layer_of head state label)
@@ -205,11 +206,11 @@ module _ (p : ℕ) (layers : Layers) (tail head c : ℕ) (rest : List ℕ) (fiel
         ∙ sum_by-zeros at (range_with_len 0 layers.states)
         (λ state. sum_by-zeros (λ label. way_back p (layer_coefficient layers) x y (pair_of state label))
         (range_with_len 0 (layers.labels tail state)) (λ label. way-apart x y state label x_is y_is differ)))
-        ∙ minus-nothing p (layer_coefficient layers x y) (complex.below x y)
+        ∙ minus-nothing p (layer_coefficient layers x y) (small x y)
         ∙ elsewhere layers x y differ ∙ sym (elsewhere (layers_left p layers tail head c rest) x y differ)
   ]
 
-  below-left : (x y : Layer) → layer_coefficient (layers_left p layers tail head c rest) x y < p
+  pub below-left : (x y : Layer) → layer_coefficient (layers_left p layers tail head c rest) x y < p
   below-left x y = grind (arith, nat_tests)
 
   alike-left : AreAlike p (λ (x : Layer). x) (λ (x : Layer). 1) (cells_left p (cells_of layers) pairs others)
@@ -230,17 +231,37 @@ module _ (p : ℕ) (layers : Layers) (tail head c : ℕ) (rest : List ℕ) (fiel
       once : (n : ℕ) → n ≡ 1 * (1 * n)
       once n = omega arith
 
-  complex-between : AreComplex p (cells_left p (cells_of layers) pairs others)
-  complex-between = complex-left_any p (cells_of layers) pairs others field complex cells-listed pivots
+-- so where the layers are a complex, what is left is one, with the same dimensions
+module _ (p : ℕ) (layers : Layers) (tail head c : ℕ) (rest : List ℕ) (field : HasInverses p)
+    (complex : AreComplex p (cells_of layers)) (listed : AreListed (λ (o : ℕ). o) layers.objects (tail ∷ head ∷ rest))
+    (tail_gone : Contains rest tail → ⊥) (head_gone : Contains rest head → ⊥) (times : IsTimesIdentity layers tail head c) where
+  abbrev cancelled : List (Layer × Layer)
+  cancelled = pairs p layers tail head c rest field complex.below listed tail_gone head_gone times
+
+  abbrev kept : List Layer
+  kept = others p layers tail head c rest field complex.below listed tail_gone head_gone times
+
+  all-listed : AreListed (λ (x : Layer). x) (cells_of layers).list (all_of cancelled kept)
+  all-listed = cells-listed p layers tail head c rest field complex.below listed tail_gone head_gone times
+
+  complex-between : AreComplex p (cells_left p (cells_of layers) cancelled kept)
+  complex-between =
+      complex-left_any p (cells_of layers) cancelled kept field complex all-listed
+      (pivots p layers tail head c rest field complex.below listed tail_gone head_gone times)
 
   pub complex-layers : AreComplex p (cells_of (layers_left p layers tail head c rest))
   complex-layers =
-      complex-alike p (λ (x : Layer). x) (λ (x : Layer). 1) (cells_left p (cells_of layers) pairs others)
-      (cells_of (layers_left p layers tail head c rest)) alike-left below-left complex-between
+      complex-alike p (λ (x : Layer). x) (λ (x : Layer). 1) (cells_left p (cells_of layers) cancelled kept)
+      (cells_of (layers_left p layers tail head c rest))
+      (alike-left p layers tail head c rest field complex.below listed tail_gone head_gone times)
+      (below-left p layers tail head c rest field complex.below listed tail_gone head_gone times) complex-between
 
   pub dimension-layers : (i j : ℤ)
       → dimension_at p (cells_of (layers_left p layers tail head c rest)) i j ≡ dimension_at p (cells_of layers) i j
   dimension-layers i j =
-      dimension-alike p (λ (x : Layer). x) (λ (x : Layer). 1) (cells_left p (cells_of layers) pairs others)
-      (cells_of (layers_left p layers tail head c rest)) alike-left field complex-between.below below-left i j
-      ∙ dimension-left_any p (cells_of layers) pairs others field complex cells-listed pivots i j
+      dimension-alike p (λ (x : Layer). x) (λ (x : Layer). 1) (cells_left p (cells_of layers) cancelled kept)
+      (cells_of (layers_left p layers tail head c rest))
+      (alike-left p layers tail head c rest field complex.below listed tail_gone head_gone times) field complex-between.below
+      (below-left p layers tail head c rest field complex.below listed tail_gone head_gone times) i j
+      ∙ dimension-left_any p (cells_of layers) cancelled kept field complex all-listed
+      (pivots p layers tail head c rest field complex.below listed tail_gone head_gone times) i j

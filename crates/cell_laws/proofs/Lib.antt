@@ -2,6 +2,8 @@ pub mod Tables
 pub mod Members
 pub mod AlikeCells
 pub mod WaysBack
+pub mod PlacedPivots
+pub mod TestedRanks
 pub mod LeftCells
 pub mod RestCells
 pub mod Matched

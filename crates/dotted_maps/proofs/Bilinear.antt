@@ -1,7 +1,7 @@
 -- Sums of products over two lists of terms, and over the numbers of dot sets. A sum over a range of numbers and one over terms
 -- can be exchanged (by induction on the range); so a sum over all pairs of terms, with their coefficients, can be taken before
--- one over numbers or behind it. Hence, where the products of any two terms' entries add up to a sum over dot sets, so do those
--- of two whole lists of terms. A sum over numbers of which one alone counts is that one's summand. So the sum over all dot sets,
+-- one over numbers or behind it. Hence, where the products of any two terms' entries add up to a sum over dot sets, modulo p, so do
+-- those of two whole lists of terms. A sum over numbers of which one alone counts is that one's summand. So the sum over all dot sets,
 -- by their coefficients in a list of terms, is the sum over the terms (both by induction).
 use Rattle.std.proofs.Common.{◌≡◌, ℕ, zero, suc, ◌+◌, ◌*◌, ◌<◌, ◌∙◌, List, [], ◌∷◌, refl, sym, ap, ap₂, arith, cond}
 use Rattle.std.specs.Prelude.{nat_eq}
@@ -9,6 +9,8 @@ use Rattle.std.specs.List.{sum_by, AllByRecursion}
 use Rattle.std.proofs.lemmas.Bool.Decides.{nat_tests}
 use Rattle.std.proofs.lemmas.List.Sums.{sum_by-cons}
 use Rattle.kh_types.specs.Products.{sum_below}
+use Rattle.kh_types.specs.Residues.{Same}
+use Rattle.kh_types.proofs.Residues.{same-equal, same-add, same-scaled}
 use Rattle.kh_types.proofs.Sums.{sum_below-equal, sum_below-add, sum_below-scaled, sum_below-zeros, zero-times}
 use Rattle.kh_types.proofs.ListSums.{sum_by-alike, sum_by-plus, sum_by-times, sum_by-zeros}
 use Rattle.dotted_maps.specs.Maps.{coefficient_in}
@@ -34,6 +36,22 @@ over_pairs-alike first second f g alike =
     (λ term. sum_by-alike (λ other. term.coefficient * other.coefficient * f term other)
     (λ other. term.coefficient * other.coefficient * g term other)
     (λ other. ap (λ z. term.coefficient * other.coefficient * z) (alike term other)) second) first
+
+sum_by-same : {X : Type 0} (p : ℕ) (f g : X → ℕ) → ((x : X) → Same p (f x) (g x)) → (xs : List X) → Same p (sum_by f xs) (sum_by g xs)
+sum_by-same p f g same [] = refl
+sum_by-same p f g same (x ∷ xs) =
+    same-equal p (sum_by f (x ∷ xs)) (f x + sum_by f xs) (sum_by-cons f x xs)
+    ∙ same-add p (f x) (g x) (sum_by f xs) (sum_by g xs) (same x) (sum_by-same p f g same xs)
+    ∙ same-equal p (g x + sum_by g xs) (sum_by g (x ∷ xs)) (sym (sum_by-cons g x xs))
+
+over_pairs-same : (p : ℕ) (first second : List Term) (f g : Term → Term → ℕ) → ((x y : Term) → Same p (f x y) (g x y))
+    → Same p (over_pairs first second f) (over_pairs first second g)
+over_pairs-same p first second f g same =
+    sum_by-same p (λ term. sum_by (λ other. term.coefficient * other.coefficient * f term other) second)
+    (λ term. sum_by (λ other. term.coefficient * other.coefficient * g term other) second)
+    (λ term. sum_by-same p (λ other. term.coefficient * other.coefficient * f term other)
+    (λ other. term.coefficient * other.coefficient * g term other)
+    (λ other. same-scaled p (term.coefficient * other.coefficient) (f term other) (g term other) (same term other)) second) first
 
 pub over_pairs-sums : (first second : List Term) (n : ℕ) (f : Term → Term → ℕ → ℕ)
     → sum_below n (λ k. over_pairs first second (λ x y. f x y k)) ≡ over_pairs first second (λ x y. sum_below n (f x y))
@@ -87,21 +105,27 @@ product-pairs first second f g =
     moved a b c d = omega arith
 
 -- where the entries of terms multiply so, the sums of terms do
-pub sums-multiply : (first second : List Term) (n k : ℕ) (f g : Term → ℕ → ℕ) (h : Term → Term → ℕ → ℕ) (e : ℕ → ℕ)
-    → ((x y : Term) → sum_below n (λ i. f x i * g y i) ≡ sum_below k (λ j. h x y j * e j))
-    → sum_below n (λ i. sum_by (λ other. other.coefficient * g other i) second * sum_by (λ term. term.coefficient * f term i) first)
-    ≡ sum_below k (λ j. over_pairs first second (λ x y. h x y j) * e j)
-sums-multiply first second n k f g h e multiply =
-    sum_below-equal n
+pub sums-multiply : (p : ℕ) (first second : List Term) (n k : ℕ) (f g : Term → ℕ → ℕ) (h : Term → Term → ℕ → ℕ) (e : ℕ → ℕ)
+    → ((x y : Term) → Same p (sum_below n (λ i. f x i * g y i)) (sum_below k (λ j. h x y j * e j)))
+    → Same p
+    (sum_below n (λ i. sum_by (λ other. other.coefficient * g other i) second * sum_by (λ term. term.coefficient * f term i) first))
+    (sum_below k (λ j. over_pairs first second (λ x y. h x y j) * e j))
+sums-multiply p first second n k f g h e multiply =
+    same-equal p
+    (sum_below n (λ i. sum_by (λ other. other.coefficient * g other i) second * sum_by (λ term. term.coefficient * f term i) first))
+    (over_pairs first second (λ x y. sum_below n (λ i. f x i * g y i)))
+    (sum_below-equal n
     (λ i. sum_by (λ other. other.coefficient * g other i) second * sum_by (λ term. term.coefficient * f term i) first)
     (λ i. over_pairs first second (λ x y. f x i * g y i))
     (λ i. product-pairs first second (λ x. f x i) (λ y. g y i))
-    ∙ over_pairs-sums first second n (λ x y i. f x i * g y i)
-    ∙ over_pairs-alike first second (λ x y. sum_below n (λ i. f x i * g y i)) (λ x y. sum_below k (λ j. h x y j * e j)) multiply
-    ∙ sym (over_pairs-sums first second k (λ x y j. h x y j * e j))
+    ∙ over_pairs-sums first second n (λ x y i. f x i * g y i))
+    ∙ over_pairs-same p first second (λ x y. sum_below n (λ i. f x i * g y i)) (λ x y. sum_below k (λ j. h x y j * e j)) multiply
+    ∙ same-equal p (over_pairs first second (λ x y. sum_below k (λ j. h x y j * e j)))
+    (sum_below k (λ j. over_pairs first second (λ x y. h x y j) * e j))
+    (sym (over_pairs-sums first second k (λ x y j. h x y j * e j))
     ∙ sym (sum_below-equal k (λ j. over_pairs first second (λ x y. h x y j) * e j)
     (λ j. over_pairs first second (λ x y. h x y j * e j))
-    (λ j. over_pairs-times first second (λ x y. h x y j) (e j)))
+    (λ j. over_pairs-times first second (λ x y. h x y j) (e j))))
 
 -- a sum in which one number counts
 none-later : (k c : ℕ) → cond (nat_eq 0 (suc k)) c 0 ≡ 0

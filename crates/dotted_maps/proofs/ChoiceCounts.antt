@@ -48,43 +48,43 @@ not-all p (y ∷ xs) x (suc k, below, is) fails =
     and-false true = refl
     and-false false = refl
 
-halved : (s : ℕ) → (s ≡ 2 * (s / 2)) ⊎ (s ≡ 1 + 2 * (s / 2))
+pub halved : (s : ℕ) → (s ≡ 2 * (s / 2)) ⊎ (s ≡ 1 + 2 * (s / 2))
 halved s = elim (cases_eq (s % 2) 0) [ inl even ↦ inl (omega (arith, even)) | inr odd ↦ inr (omega (arith, odd)) ]
 
-even-bit : (s : ℕ) → s ≡ 2 * (s / 2) → bit s 0 ≡ 0
+pub even-bit : (s : ℕ) → s ≡ 2 * (s / 2) → bit s 0 ≡ 0
 even-bit s even = omega (arith, even)
 
-odd-bit : (s : ℕ) → s ≡ 1 + 2 * (s / 2) → bit s 0 ≡ 1
+pub odd-bit : (s : ℕ) → s ≡ 1 + 2 * (s / 2) → bit s 0 ≡ 1
 odd-bit s odd = omega (arith, odd)
 
 -- counts of doubled numbers
 
-count-odd : (s : ℕ) (xs : List ℕ) → s ≡ 1 + 2 * (s / 2) → count_by (nat_eq s) (map (λ x. 1 + 2 * x) xs) ≡ count_by (nat_eq (s / 2)) xs
+pub count-odd : (s : ℕ) (xs : List ℕ) → s ≡ 1 + 2 * (s / 2) → count_by (nat_eq s) (map (λ x. 1 + 2 * x) xs) ≡ count_by (nat_eq (s / 2)) xs
 count-odd s xs odd =
     sum_by-map (is_one s) (λ x. 1 + 2 * x) xs
     ∙ sum_by-alike (λ x. is_one s (1 + 2 * x)) (is_one (s / 2))
     (λ x. ap one_if (nat_eq-iff s (1 + 2 * x) (s / 2) x (λ same. omega (arith, same)) (λ same. omega (arith, odd, same)))) xs
 
-count-odd_none : (s : ℕ) (xs : List ℕ) → s ≡ 2 * (s / 2) → count_by (nat_eq s) (map (λ x. 1 + 2 * x) xs) ≡ 0
+pub count-odd_none : (s : ℕ) (xs : List ℕ) → s ≡ 2 * (s / 2) → count_by (nat_eq s) (map (λ x. 1 + 2 * x) xs) ≡ 0
 count-odd_none s xs even =
     sum_by-map (is_one s) (λ x. 1 + 2 * x) xs
     ∙ sum_by-zeros (λ x. is_one s (1 + 2 * x)) xs
     (λ x. ap one_if (ne_eqb s (1 + 2 * x) (λ same. absurd (omega (arith, even, same)))))
 
-count-even : (s : ℕ) (xs : List ℕ) → s ≡ 2 * (s / 2) → count_by (nat_eq s) (map (λ x. 2 * x) xs) ≡ count_by (nat_eq (s / 2)) xs
+pub count-even : (s : ℕ) (xs : List ℕ) → s ≡ 2 * (s / 2) → count_by (nat_eq s) (map (λ x. 2 * x) xs) ≡ count_by (nat_eq (s / 2)) xs
 count-even s xs even =
     sum_by-map (is_one s) (λ x. 2 * x) xs
     ∙ sum_by-alike (λ x. is_one s (2 * x)) (is_one (s / 2))
     (λ x. ap one_if (nat_eq-iff s (2 * x) (s / 2) x (λ same. omega (arith, same)) (λ same. omega (arith, even, same)))) xs
 
-count-even_none : (s : ℕ) (xs : List ℕ) → s ≡ 1 + 2 * (s / 2) → count_by (nat_eq s) (map (λ x. 2 * x) xs) ≡ 0
+pub count-even_none : (s : ℕ) (xs : List ℕ) → s ≡ 1 + 2 * (s / 2) → count_by (nat_eq s) (map (λ x. 2 * x) xs) ≡ 0
 count-even_none s xs odd =
     sum_by-map (is_one s) (λ x. 2 * x) xs
     ∙ sum_by-zeros (λ x. is_one s (2 * x)) xs
     (λ x. ap one_if (ne_eqb s (2 * x) (λ same. absurd (omega (arith, odd, same)))))
 
 -- with no disc left
-none-left : (b : Bool) (s : ℕ) → s ≡ 0 → count_by (nat_eq s) (cond b (0 ∷ []) []) ≡ one_if b
+pub none-left : (b : Bool) (s : ℕ) → s ≡ 0 → count_by (nat_eq s) (cond b (0 ∷ []) []) ≡ one_if b
 none-left true s is = ap (λ n. count_by (nat_eq n) (0 ∷ [])) is
 none-left false s is = refl
 
@@ -158,7 +158,7 @@ choices-counted names (k ∷ ks) left s there below =
 
 -- and they are dot sets of discs
 
-all-maps : (n m : ℕ) (f : ℕ → ℕ) (xs : List ℕ) → ((x : ℕ) → x < n → f x < m) → AllByRecursion (λ x. x < n) xs
+pub all-maps : (n m : ℕ) (f : ℕ → ℕ) (xs : List ℕ) → ((x : ℕ) → x < n → f x < m) → AllByRecursion (λ x. x < n) xs
     → AllByRecursion (λ x. x < m) (map f xs)
 all-maps n m f xs onward all =
     AllByRecursion-map (λ x. x < m) f xs (AllByRecursion-weaker (λ x. x < n) (λ x. f x < m) xs onward all)

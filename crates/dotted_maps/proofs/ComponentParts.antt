@@ -3,7 +3,7 @@
 -- 1. First, a product over distinct numbers is one over all numbers below a bound, with 1 for the others. Then the surface of a
 -- composition has the components that are listed by their least arcs; on each of them its faces and marks are the discs and dots
 -- of the three pairings, so that its factor is the part. The listed arcs are distinct, as no arc is at two ends of a pairing.
-use Rattle.std.proofs.Common.{◌≡◌, ℕ, inl, inr, ◌+◌, ◌-◌, ◌*◌, ◌/◌, ◌<◌, ◌≤◌, ◌∙◌, List, [], ◌∷◌, ◌++◌, refl, ap, ap₂, arith, Bool, true, false, cond, ◌||◌}
+use Rattle.std.proofs.Common.{◌≡◌, ℕ, inl, inr, ◌+◌, ◌-◌, ◌*◌, ◌/◌, ◌%◌, ◌^◌, ◌<◌, ◌≤◌, ◌∙◌, List, [], ◌∷◌, ◌++◌, refl, ap, ap₂, arith, Bool, true, false, cond, ◌||◌}
 use Rattle.std.specs.Prelude.{nat_eq, slice_index}
 use Rattle.std.specs.List.{filter, list_any, enumerate_from, sum_by, count_by, AllByRecursion, Contains}
 use Rattle.std.proofs.lemmas.Bool.{cases_Bool, eqb-true}
@@ -12,8 +12,9 @@ use Rattle.std.proofs.lemmas.List.Sums.{sum_by-cons, sum_by-append}
 use Rattle.std.proofs.lemmas.List.Sorted.{sum_by-IsPermutation}
 use Rattle.kh_types.specs.Bits.{bit}
 use Rattle.kh_types.specs.Classes.{classes_of, is_least}
-use Rattle.kh_types.proofs.ListSums.{sum_by-map, sum_by-filter}
-use Rattle.surface_laws.specs.Surfaces.{Surface, is_component, faces_on, lowers_on, marks_on, weight, factor, product_below}
+use Rattle.kh_types.proofs.ListSums.{sum_by-map, sum_by-alike, sum_by-zeros, sum_by-filter}
+use Rattle.surface_laws.specs.Surfaces.{Surface, is_component, faces_on, lowers_on, dots_on, hollows_on, weight, plain_weight, factor, product_below}
+use Rattle.surface_laws.proofs.Weights.{weight-plain}
 use Rattle.surface_laws.proofs.Components.{list_any-contained, list_any-some, AllByRecursion-at, AllByRecursion-weaker}
 use Rattle.surface_laws.proofs.Products.{product_below-ones, product_below-alike, product_below-without, without}
 use Rattle.surface_laws.specs.Points.{Points, ArePlaced, AreAmong, IsOpenPairing, ends_of, inner, discs}
@@ -153,40 +154,113 @@ faces-inside points m n o dots others kept k =
     ∙ sum_by-append f (discs points m o) (discs points m n ++ discs points n o)
     ∙ ap (λ c. sum_by f (discs points m o) + c) (sum_by-append f (discs points m n) (discs points n o))
 
-marks-inside : (points : Points) (m n o : List (ℕ × ℕ)) (dots others kept k : ℕ)
-    → marks_on (inside_of points m n o dots others kept) k
-    ≡ undotted_on points m n o k kept (discs points m o)
-    + (dotted_on points m n o k dots (discs points m n) + dotted_on points m n o k others (discs points n o))
-marks-inside points m n o dots others kept k =
-    let h = λ (face : ℕ × ℕ). cond (nat_eq (component_in points m n o face.0) k) face.1 0 in
+-- the amounts of the three lists of faces, by their marks
+abbrev amounts_at : (ℕ → ℕ) → Points → List (ℕ × ℕ) → List (ℕ × ℕ) → List (ℕ × ℕ) → ℕ → (ℕ → ℕ) → List ℕ → ℕ
+amounts_at amount points m n o c mark arcs =
+    sum_by (λ at. cond (nat_eq (component_in points m n o at.1) c) (amount (mark at.0)) 0) (enumerate_from 0 arcs)
+
+marks-inside : (amount : ℕ → ℕ) (points : Points) (m n o : List (ℕ × ℕ)) (dots others kept c : ℕ)
+    → sum_by (λ face. cond (nat_eq (component_in points m n o face.0) c) (amount face.1) 0) (composed_faces points m n o dots others kept)
+    ≡ amounts_at amount points m n o c (λ j. 2 * (1 - bit kept j)) (discs points m o)
+    + (amounts_at amount points m n o c (bit dots) (discs points m n) + amounts_at amount points m n o c (bit others) (discs points n o))
+marks-inside amount points m n o dots others kept c =
+    let h = λ (face : ℕ × ℕ). cond (nat_eq (component_in points m n o face.0) c) (amount face.1) 0 in
     sum_by-append h (marked_else kept (discs points m o)) (marked dots (discs points m n) ++ marked others (discs points n o))
-    ∙ ap₂ (λ x y. x + y) (sum_by-map h (λ at. (at.1, 1 - bit kept at.0)) (enumerate_from 0 (discs points m o)))
+    ∙ ap₂ (λ x y. x + y) (sum_by-map h (λ at. (at.1, 2 * (1 - bit kept at.0))) (enumerate_from 0 (discs points m o)))
     (sum_by-append h (marked dots (discs points m n)) (marked others (discs points n o))
     ∙ ap₂ (λ x y. x + y) (sum_by-map h (λ at. (at.1, bit dots at.0)) (enumerate_from 0 (discs points m n)))
     (sum_by-map h (λ at. (at.1, bit others at.0)) (enumerate_from 0 (discs points n o))))
 
-weight-parts : (genus dots undotted : ℕ) → weight genus (undotted + dots) ≡ part_coefficient genus dots undotted
-weight-parts genus dots undotted = grind (arith, nat_tests)
+-- where marks have amounts that are known, or none
+
+amounts-known : (amount : ℕ → ℕ) (points : Points) (m n o : List (ℕ × ℕ)) (c : ℕ) (mark known : ℕ → ℕ) (arcs : List ℕ)
+    → ((j : ℕ) → amount (mark j) ≡ known j)
+    → amounts_at amount points m n o c mark arcs
+    ≡ sum_by (λ at. cond (nat_eq (component_in points m n o at.1) c) (known at.0) 0) (enumerate_from 0 arcs)
+amounts-known amount points m n o c mark known arcs are =
+    sum_by-alike (λ at. cond (nat_eq (component_in points m n o at.1) c) (amount (mark at.0)) 0)
+    (λ at. cond (nat_eq (component_in points m n o at.1) c) (known at.0) 0)
+    (λ at. ap (λ x. cond (nat_eq (component_in points m n o at.1) c) x 0) (are at.0)) (enumerate_from 0 arcs)
+
+amounts-none : (amount : ℕ → ℕ) (points : Points) (m n o : List (ℕ × ℕ)) (c : ℕ) (mark : ℕ → ℕ) (arcs : List ℕ)
+    → ((j : ℕ) → amount (mark j) ≡ 0) → amounts_at amount points m n o c mark arcs ≡ 0
+amounts-none amount points m n o c mark arcs are =
+    sum_by-zeros (λ at. cond (nat_eq (component_in points m n o at.1) c) (amount (mark at.0)) 0) (enumerate_from 0 arcs)
+    (λ at. no-amount (nat_eq (component_in points m n o at.1) c) (amount (mark at.0)) (are at.0))
+  where
+    no-amount : (b : Bool) (x : ℕ) → x ≡ 0 → cond b x 0 ≡ 0
+    no-amount true x none = none
+    no-amount false x none = refl
+
+dots-inside : (points : Points) (m n o : List (ℕ × ℕ)) (dots others kept c : ℕ)
+    → dots_on (inside_of points m n o dots others kept) c
+    ≡ dotted_on points m n o c dots (discs points m n) + dotted_on points m n o c others (discs points n o)
+dots-inside points m n o dots others kept c =
+    let dots_in : ℕ → ℕ = λ mark. mark % 2 in
+    marks-inside dots_in points m n o dots others kept c
+    ∙ ap₂ (λ x y. x + y) (amounts-none dots_in points m n o c (λ j. 2 * (1 - bit kept j)) (discs points m o) (λ j. even (1 - bit kept j)))
+    (ap₂ (λ x y. x + y)
+    (amounts-known dots_in points m n o c (bit dots) (bit dots) (discs points m n) (λ j. own (dots / 2 ^ j)))
+    (amounts-known dots_in points m n o c (bit others) (bit others) (discs points n o) (λ j. own (others / 2 ^ j))))
+    ∙ zero_plus (dotted_on points m n o c dots (discs points m n) + dotted_on points m n o c others (discs points n o))
+  where
+    even : (x : ℕ) → 2 * x % 2 ≡ 0
+    even x = omega arith
+
+    own : (q : ℕ) → q % 2 % 2 ≡ q % 2
+    own q = omega arith
+
+    zero_plus : (x : ℕ) → 0 + x ≡ x
+    zero_plus x = omega arith
+
+hollows-inside : (points : Points) (m n o : List (ℕ × ℕ)) (dots others kept c : ℕ)
+    → hollows_on (inside_of points m n o dots others kept) c ≡ undotted_on points m n o c kept (discs points m o)
+hollows-inside points m n o dots others kept c =
+    let hollows_in : ℕ → ℕ = λ mark. mark / 2 in
+    marks-inside hollows_in points m n o dots others kept c
+    ∙ ap₂ (λ x y. x + y)
+    (amounts-known hollows_in points m n o c (λ j. 2 * (1 - bit kept j)) (λ j. 1 - bit kept j) (discs points m o)
+    (λ j. half (1 - bit kept j)))
+    (ap₂ (λ x y. x + y) (amounts-none hollows_in points m n o c (bit dots) (discs points m n) (λ j. none (dots / 2 ^ j)))
+    (amounts-none hollows_in points m n o c (bit others) (discs points n o) (λ j. none (others / 2 ^ j))))
+    ∙ plus_zero (undotted_on points m n o c kept (discs points m o))
+  where
+    half : (x : ℕ) → 2 * x / 2 ≡ x
+    half x = omega arith
+
+    none : (q : ℕ) → q % 2 / 2 ≡ 0
+    none q = omega arith
+
+    plus_zero : (x : ℕ) → x + (0 + 0) ≡ x
+    plus_zero x = omega arith
+
+-- where h and k are 0
+pub part-plain : (genus dots undotted : ℕ) → weight 0 0 genus dots undotted ≡ part_coefficient genus dots undotted
+part-plain genus dots undotted = weight-plain genus dots undotted ∙ by_cases genus dots undotted
+  where
+    by_cases : (genus dots undotted : ℕ) → plain_weight genus (dots + undotted) ≡ part_coefficient genus dots undotted
+    by_cases genus dots undotted = grind (arith, nat_tests)
 
 euler : (l f c : ℕ) → f ≡ c → (l + 4 - (2 * f + 0)) / 4 ≡ (l + 4 - 2 * c) / 4
 euler l f c same =
     let e : l + 4 - (2 * f + 0) ≡ l + 4 - 2 * c = omega (arith, same) in
     ap (λ n. n / 4) e
 
-factor-inside : (points : Points) (m n o : List (ℕ × ℕ)) (dots others kept k : ℕ) → AreJoins points.size points.opened (m ++ (o ++ n))
-    → factor (inside_of points m n o dots others kept) k
-    ≡ factor_in (part_at points m n o dots others kept) (components points m n o) k
-factor-inside points m n o dots others kept k joined =
+factor-inside : (h k : ℕ) (points : Points) (m n o : List (ℕ × ℕ)) (dots others kept c : ℕ)
+    → AreJoins points.size points.opened (m ++ (o ++ n))
+    → factor h k (inside_of points m n o dots others kept) c
+    ≡ factor_in (part_at h k points m n o dots others kept) (components points m n o) c
+factor-inside h k points m n o dots others kept c joined =
     let surface = inside_of points m n o dots others kept in
-    let faces = how_many points m n o k (discs points m o)
-    + (how_many points m n o k (discs points m n) + how_many points m n o k (discs points n o)) in
-    let dotted = dotted_on points m n o k dots (discs points m n) + dotted_on points m n o k others (discs points n o) in
-    let undotted = undotted_on points m n o k kept (discs points m o) in
-    let genus = genus_in points m n o k in
-    ap₂ (λ (b : Bool) (x : ℕ). cond b x 1) (same-components points m n o dots others kept k joined)
-    (ap₂ (λ g c. weight g c) (euler (lowers_on surface k) (faces_on surface k) faces (faces-inside points m n o dots others kept k))
-    (marks-inside points m n o dots others kept k)
-    ∙ weight-parts genus dotted undotted)
+    let faces = how_many points m n o c (discs points m o)
+    + (how_many points m n o c (discs points m n) + how_many points m n o c (discs points n o)) in
+    let dotted = dotted_on points m n o c dots (discs points m n) + dotted_on points m n o c others (discs points n o) in
+    let genus = genus_in points m n o c in
+    ap₂ (λ (b : Bool) (x : ℕ). cond b x 1) (same-components points m n o dots others kept c joined)
+    (ap (λ g. weight h k g (dots_on surface c) (hollows_on surface c))
+    (euler (lowers_on surface c) (faces_on surface c) faces (faces-inside points m n o dots others kept c))
+    ∙ ap₂ (λ d u. weight h k genus d u) (dots-inside points m n o dots others kept c)
+    (hollows-inside points m n o dots others kept c))
 
 distinct-opened : (points : Points) (m : List (ℕ × ℕ)) → IsOpenPairing points m → AreDistinct points.opened
 distinct-opened points m pairing x =
@@ -194,11 +268,11 @@ distinct-opened points m pairing x =
     let same = sum_by-IsPermutation (one_at x) points.opened (ends_of m) pairing.ends in
     omega (arith, few, same)
 
-pub composed-parts : (points : Points) (m n o : List (ℕ × ℕ)) (dots others kept : ℕ) → ArePlaced points → IsOpenPairing points m
+pub composed-parts : (h k : ℕ) (points : Points) (m n o : List (ℕ × ℕ)) (dots others kept : ℕ) → ArePlaced points → IsOpenPairing points m
     → AreAmong points.opened m → AreAmong points.opened n → AreAmong points.opened o
-    → composed points m n o dots others kept ≡ product_over (part_at points m n o dots others kept) (components points m n o)
-composed-parts points m n o dots others kept placed pairing first second third =
-    let f = part_at points m n o dots others kept in
+    → composed h k points m n o dots others kept ≡ product_over (part_at h k points m n o dots others kept) (components points m n o)
+composed-parts h k points m n o dots others kept placed pairing first second third =
+    let f = part_at h k points m n o dots others kept in
     let classes = classes_of points.size (m ++ (o ++ n)) in
     let below = AllByRecursion-weaker (λ x. Contains points.alive x) (λ x. x < points.size) points.opened
     (λ x has. AllByRecursion-at (λ y. y < points.size) points.alive x placed.alive has) placed.opened in
@@ -207,8 +281,8 @@ composed-parts points m n o dots others kept placed pairing first second third =
       below = below;
       among = AreAmong-append points.opened m (o ++ n) first (AreAmong-append points.opened o n third second);
     } in
-    product_below-alike points.size (factor (inside_of points m n o dots others kept)) (factor_in f (components points m n o))
-    (λ k k_below. factor-inside points m n o dots others kept k joined)
+    product_below-alike points.size (factor h k (inside_of points m n o dots others kept)) (factor_in f (components points m n o))
+    (λ c c_below. factor-inside h k points m n o dots others kept c joined)
     ∙ product-distinct points.size f (components points m n o)
     (AllByRecursion-filter (λ x. x < points.size) (is_least classes) points.opened below)
     (distinct-filter (is_least classes) points.opened (distinct-opened points m pairing))

@@ -1,16 +1,18 @@
--- Both ways to compose two terms are one surface, with the faces of both and the outer circles. So two sums agree: that of the
+-- Both ways to compose two terms are one surface, with the faces of both and the outer circles. So two sums agree, modulo p: that of the
 -- products of both terms' entries, over the labels of the circles between them, and that of the composition's coefficients times
 -- the entries of the dot sets from the first pairing to the last. Either sum is the number of two parts laid on each other: both
 -- terms without the circles between them, or the composition and its outside without the discs between them. The parts are
 -- placed, are closed once these are filled, and meet along them. Both overlays have the same components, faces and strips, and so
 -- one number.
-use Rattle.std.proofs.Common.{◌≡◌, ℕ, ◌*◌, ◌^◌, ◌<◌, ◌∙◌, inl, inr, List, [], ◌++◌, map, length, refl, sym, ap, ap₂, arith, append_assoc}
+use Rattle.std.proofs.Common.{◌≡◌, ℕ, ◌+◌, ◌*◌, ◌^◌, ◌<◌, ◌∙◌, inl, inr, List, [], ◌++◌, map, length, refl, sym, ap, ap₂, arith, append_assoc}
 use Rattle.std.specs.List.{AllByRecursion, Contains}
 use Rattle.std.specs.List.Sorted.{IsPermutation}
 use Rattle.std.proofs.lemmas.List.{map-id, length-map}
 use Rattle.std.proofs.lemmas.List.Elements.{Contains-append_left, Contains-append_cases}
 use Rattle.std.proofs.lemmas.List.Sorted.{IsPermutation-refl, IsPermutation-trans, IsPermutation-append_comm, IsPermutation-append_left, IsPermutation-append_right, IsPermutation-map}
 use Rattle.kh_types.specs.Products.{sum_below}
+use Rattle.kh_types.specs.Residues.{Same}
+use Rattle.kh_types.proofs.Residues.{same-equal}
 use Rattle.kh_types.proofs.ClassLemmas.{classes-together}
 use Rattle.kh_types.proofs.Lists.{AllByRecursion-append, AllByRecursion-first, AllByRecursion-second}
 use Rattle.kh_types.proofs.Sums.{sum_below-equal}
@@ -276,10 +278,10 @@ same-faces xs ys moved = rw (map-id xs) moved
 same-places : (xs : List ℕ) → IsPermutation (map (λ x. x) xs) xs
 same-places xs = rw (map-id xs) (IsPermutation-refl xs)
 
-one-surface : (points : Points) (m n o w : List (ℕ × ℕ)) (dots others before after : ℕ) → AreComposed points m n o w
-    → value (overlaid (second_part points n o w others after) (first_part points m n w dots before))
-    ≡ value (overlaid (outer_part points m o w before after) (inner_part points m n o dots others))
-one-surface points m n o w dots others before after all =
+one-surface : (h k : ℕ) (points : Points) (m n o w : List (ℕ × ℕ)) (dots others before after : ℕ) → AreComposed points m n o w
+    → value h k (overlaid (second_part points n o w others after) (first_part points m n w dots before))
+    ≡ value h k (overlaid (outer_part points m o w before after) (inner_part points m n o dots others))
+one-surface h k points m n o w dots others before after all =
     let terms = overlaid (second_part points n o w others after) (first_part points m n w dots before) in
     let parts = overlaid (outer_part points m o w before after) (inner_part points m n o dots others) in
     let laid = laid-terms points m n o w dots others before after all in
@@ -299,34 +301,34 @@ one-surface points m n o w dots others before after all =
       lowers = same-places (points.opened ++ points.opened);
       raises = same-places ([] ++ []);
     } in
-    value-moved (λ x. x) terms parts placed parts_placed (Corresponds-projected (λ x. x) terms parts placed projects)
+    value-moved h k (λ x. x) terms parts placed parts_placed (Corresponds-projected (λ x. x) terms parts placed projects)
 
 -- sums of products in the words of terms
 
-sum-marked : (first second : Surface) (places : List ℕ) (f g : ℕ → ℕ)
-    → ((label : ℕ) → value (with_faces first (marked label places)) ≡ f label)
-    → ((label : ℕ) → value (with_faces second (marked_else label places)) ≡ g label)
-    → sum_of_products first second (at_places places) ≡ sum_below (2 ^ length places) (λ label. g label * f label)
-sum-marked first second places f g is_f is_g =
-    ap (λ k. sum_below (2 ^ k) (λ label. value (with_faces first (first_caps (at_places places) label))
-    * value (with_faces second (second_caps (at_places places) label))))
+sum-marked : (h k : ℕ) (first second : Surface) (places : List ℕ) (f g : ℕ → ℕ)
+    → ((label : ℕ) → value h k (with_faces first (marked label places)) ≡ f label)
+    → ((label : ℕ) → value h k (with_faces second (marked_else label places)) ≡ g label)
+    → sum_of_products h k first second (at_places places) ≡ sum_below (2 ^ length places) (λ label. g label * f label)
+sum-marked h k first second places f g is_f is_g =
+    ap (λ n. sum_below (2 ^ n) (λ label. value h k (with_faces first (first_caps (at_places places) label))
+    * value h k (with_faces second (second_caps (at_places places) label))))
     (length-map places (λ x. (x, x)))
     ∙ sum_below-equal (2 ^ length places)
-    (λ label. value (with_faces first (first_caps (at_places places) label))
-    * value (with_faces second (second_caps (at_places places) label)))
+    (λ label. value h k (with_faces first (first_caps (at_places places) label))
+    * value h k (with_faces second (second_caps (at_places places) label)))
     (λ label. g label * f label)
     (λ label.
-    ap₂ (λ x y. x * y) (ap (λ faces. value (with_faces first faces)) (first_caps-marked label places) ∙ is_f label)
-    (ap (λ faces. value (with_faces second faces)) (second_caps-marked label places) ∙ is_g label)
+    ap₂ (λ x y. x * y) (ap (λ faces. value h k (with_faces first faces)) (first_caps-marked label places) ∙ is_f label)
+    (ap (λ faces. value h k (with_faces second faces)) (second_caps-marked label places) ∙ is_g label)
     ∙ turned (f label) (g label))
   where
     turned : (x y : ℕ) → x * y ≡ y * x
     turned x y = omega arith
 
-value-faces : (points : Points) (m n w faces others : List (ℕ × ℕ)) → IsPermutation faces others
-    → value (sheet points m n w faces) ≡ value (sheet points m n w others)
-value-faces points m n w faces others moved =
-    value-reordered (sheet points m n w faces) (sheet points m n w others)
+value-faces : (h k : ℕ) (points : Points) (m n w faces others : List (ℕ × ℕ)) → IsPermutation faces others
+    → value h k (sheet points m n w faces) ≡ value h k (sheet points m n w others)
+value-faces h k points m n w faces others moved =
+    value-reordered h k (sheet points m n w faces) (sheet points m n w others)
     record {
       size = refl;
       places = refl;
@@ -359,23 +361,29 @@ first-term : (points : Points) (m n w : List (ℕ × ℕ)) (dots before between 
 first-term points m n w dots before between =
     reversed (marked dots (discs points m n)) (marked before (circles points m w)) (marked_else between (circles points n w))
 
-terms-side : (points : Points) (m n o w : List (ℕ × ℕ)) (dots others before after : ℕ) → AreComposed points m n o w
-    → sum_below (2 ^ length (circles points n w))
-    (λ between. entry points m n w dots before between * entry points n o w others between after)
-    ≡ value (overlaid (second_part points n o w others after) (first_part points m n w dots before))
-terms-side points m n o w dots others before after all =
+abbrev term_sum : ℕ → ℕ → Points → List (ℕ × ℕ) → List (ℕ × ℕ) → List (ℕ × ℕ) → List (ℕ × ℕ) → ℕ → ℕ → ℕ → ℕ → ℕ
+term_sum h k points m n o w dots others before after =
+    sum_below (2 ^ length (circles points n w))
+    (λ between. entry h k points m n w dots before between * entry h k points n o w others between after)
+
+terms-side : (p h k : ℕ) (points : Points) (m n o w : List (ℕ × ℕ)) (dots others before after : ℕ) → Same p (h + k) 0
+    → AreComposed points m n o w
+    → Same p (term_sum h k points m n o w dots others before after)
+    (value h k (overlaid (second_part points n o w others after) (first_part points m n w dots before)))
+terms-side p h k points m n o w dots others before after cancels all =
     let second = second_part points n o w others after in
     let first = first_part points m n w dots before in
     let places = circles points n w in
-    sym (sum-marked second first places (λ between. entry points n o w others between after)
-    (λ between. entry points m n w dots before between)
-    (λ between. sym (value-faces points n o w (term_faces points n o w others between after)
+    same-equal p (term_sum h k points m n o w dots others before after) (sum_of_products h k second first (at_places places))
+    (sym (sum-marked h k second first places (λ between. entry h k points n o w others between after)
+    (λ between. entry h k points m n w dots before between)
+    (λ between. sym (value-faces h k points n o w (term_faces points n o w others between after)
     (marked between places ++ (marked_else after (circles points o w) ++ marked others (discs points n o)))
     (second-term points n o w others between after)))
-    (λ between. sym (value-faces points m n w (term_faces points m n w dots before between)
+    (λ between. sym (value-faces h k points m n w (term_faces points m n w dots before between)
     (marked_else between places ++ (marked before (circles points m w) ++ marked dots (discs points m n)))
-    (first-term points m n w dots before between))))
-    ∙ sum-laid second first places 0 (laid-terms points m n o w dots others before after all)
+    (first-term points m n w dots before between)))))
+    ∙ sum-laid p h k second first places 0 cancels (laid-terms points m n o w dots others before after all)
     (rw (first_caps-marked 0 places)
     (closed-term points n o w
     (marked 0 places ++ (marked_else after (circles points o w) ++ marked others (discs points n o))) others 0 after all.second
@@ -406,28 +414,38 @@ closed-composed points m n o dots others kept placed glued =
     IsClosed-sheet (inner points) m o n (term_faces (inner points) m o n 0 0 0) (composed_faces points m n o dots others kept)
     (rw (places-composed points m n o dots others kept placed glued) (IsPermutation-refl places)) glued.closed
 
-discs-side : (points : Points) (m n o w : List (ℕ × ℕ)) (dots others before after : ℕ) → AreComposed points m n o w
-    → sum_below (2 ^ length (discs points m o))
-    (λ kept. composed points m n o dots others kept * entry points m o w kept before after)
-    ≡ value (overlaid (outer_part points m o w before after) (inner_part points m n o dots others))
-discs-side points m n o w dots others before after all =
+abbrev disc_sum : ℕ → ℕ → Points → List (ℕ × ℕ) → List (ℕ × ℕ) → List (ℕ × ℕ) → List (ℕ × ℕ) → ℕ → ℕ → ℕ → ℕ → ℕ
+disc_sum h k points m n o w dots others before after =
+    sum_below (2 ^ length (discs points m o))
+    (λ kept. composed h k points m n o dots others kept * entry h k points m o w kept before after)
+
+discs-side : (p h k : ℕ) (points : Points) (m n o w : List (ℕ × ℕ)) (dots others before after : ℕ) → Same p (h + k) 0
+    → AreComposed points m n o w
+    → Same p (disc_sum h k points m n o w dots others before after)
+    (value h k (overlaid (outer_part points m o w before after) (inner_part points m n o dots others)))
+discs-side p h k points m n o w dots others before after cancels all =
     let outside = outer_part points m o w before after in
     let inside = inner_part points m n o dots others in
     let places = discs points m o in
-    sym (sum-marked outside inside places (λ kept. entry points m o w kept before after)
-    (λ kept. composed points m n o dots others kept) (λ kept. refl) (λ kept. refl))
-    ∙ sum-laid outside inside places 0 (laid-discs points m n o w dots others before after all)
+    same-equal p (disc_sum h k points m n o w dots others before after) (sum_of_products h k outside inside (at_places places))
+    (sym (sum-marked h k outside inside places (λ kept. entry h k points m o w kept before after)
+    (λ kept. composed h k points m n o dots others kept) (λ kept. refl) (λ kept. refl)))
+    ∙ sum-laid p h k outside inside places 0 cancels (laid-discs points m n o w dots others before after all)
     (rw (first_caps-marked 0 places)
     (closed-term points m o w (term_faces points m o w 0 before after) 0 before after all.whole
     (IsPermutation-refl (term_faces points m o w 0 before after))))
     (rw (second_caps-marked 0 places) (closed-composed points m n o dots others 0 all.placed all.inside))
 
-pub composed-sums : (points : Points) (m n o w : List (ℕ × ℕ)) (dots others before after : ℕ) → AreComposed points m n o w
-    → sum_below (2 ^ length (circles points n w))
-    (λ between. entry points m n w dots before between * entry points n o w others between after)
-    ≡ sum_below (2 ^ length (discs points m o))
-    (λ kept. composed points m n o dots others kept * entry points m o w kept before after)
-composed-sums points m n o w dots others before after all =
-    terms-side points m n o w dots others before after all
-    ∙ one-surface points m n o w dots others before after all
-    ∙ sym (discs-side points m n o w dots others before after all)
+pub composed-sums : (p h k : ℕ) (points : Points) (m n o w : List (ℕ × ℕ)) (dots others before after : ℕ) → Same p (h + k) 0
+    → AreComposed points m n o w
+    → Same p
+    (sum_below (2 ^ length (circles points n w))
+    (λ between. entry h k points m n w dots before between * entry h k points n o w others between after))
+    (sum_below (2 ^ length (discs points m o))
+    (λ kept. composed h k points m n o dots others kept * entry h k points m o w kept before after))
+composed-sums p h k points m n o w dots others before after cancels all =
+    terms-side p h k points m n o w dots others before after cancels all
+    ∙ same-equal p (value h k (overlaid (second_part points n o w others after) (first_part points m n w dots before)))
+    (value h k (overlaid (outer_part points m o w before after) (inner_part points m n o dots others)))
+    (one-surface h k points m n o w dots others before after all)
+    ∙ sym (discs-side p h k points m n o w dots others before after cancels all)

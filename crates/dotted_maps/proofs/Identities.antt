@@ -1,13 +1,13 @@
 -- The surface of a pairing with itself: cylinders, one for each circle. So the entry of the term without dots is 1 where both
 -- labels agree, and 0 else, and the matrix of the identity is the unit matrix. First, sums in which one element counts. The
 -- components are the circles of the pairing and its outside, and each has half as many pairs as opened arcs; as it is closed, its
--- Euler count leaves just one circle on either side, and genus 0. Its marks are the first label's bit there, and the other bit of
--- the second label: one, where both labels have the same bit, and it counts 1; else none or two, and it counts 0. So where the
--- labels agree all factors are 1, and where they differ in a bit one factor is 0.
-use Rattle.std.proofs.Common.{◌≡◌, ◌≢◌, ℕ, zero, suc, ◌⊎◌, inl, inr, ◌+◌, ◌-◌, ◌*◌, ◌%◌, ◌^◌, ◌<◌, ◌≤◌, ◌∙◌, List, [], ◌∷◌, ◌++◌, length, get_or, refl, sym, ap, ap₂, arith, Bool, true, false, cond, eq-eqb}
+-- Euler count leaves just one circle on either side, and genus 0. It has a dot where the first label's bit there is 1, and a hollow dot
+-- where that of the second label is 0: one of them, where both labels have the same bit, and it counts 1; else none or both, and it
+-- counts 0. So where the labels agree all factors are 1, and where they differ in a bit one factor is 0.
+use Rattle.std.proofs.Common.{◌≡◌, ◌≢◌, ℕ, zero, suc, ◌⊎◌, inl, inr, ◌+◌, ◌-◌, ◌*◌, ◌/◌, ◌%◌, ◌^◌, ◌<◌, ◌≤◌, ◌∙◌, List, [], ◌∷◌, ◌++◌, length, get_or, refl, sym, ap, ap₂, arith, Bool, true, false, cond, eq-eqb}
 use Rattle.std.specs.Prelude.{nat_eq}
 use Rattle.std.specs.List.{enumerate_from, sum_by, AllByRecursion, Contains}
-use Rattle.std.proofs.Math.Nat.{zero-div}
+use Rattle.std.proofs.Math.Nat.{zero-div, pow-zero}
 use Rattle.std.proofs.lemmas.List.{get_or_default}
 use Rattle.std.proofs.lemmas.Bool.{cases_eq, cases_Bool, eqb-true}
 use Rattle.std.proofs.lemmas.Bool.Decides.{nat_tests}
@@ -20,7 +20,7 @@ use Rattle.kh_types.proofs.ClassLemmas.{classes-together}
 use Rattle.kh_types.proofs.JoinedClasses.{classes_of-same}
 use Rattle.kh_types.proofs.ListSums.{sum_by-map, sum_by-zeros}
 use Rattle.kh_types.proofs.Lists.{AllByRecursion-append, AllByRecursion-first, AllByRecursion-second}
-use Rattle.surface_laws.specs.Surfaces.{Surface, component_of, is_component, faces_on, marks_on, lowers_on, IsClosed, HasGenus, factor, weight, product_below}
+use Rattle.surface_laws.specs.Surfaces.{Surface, component_of, is_component, faces_on, lowers_on, IsClosed, HasGenus, factor, weight, product_below}
 use Rattle.surface_laws.proofs.Components.{AllByRecursion-at, AllByRecursion-weaker, list_any-some}
 use Rattle.surface_laws.proofs.Factors.{factor-at, factor-none}
 use Rattle.surface_laws.proofs.Products.{without, product_below-ones, product_below-without}
@@ -209,10 +209,10 @@ cylinder-at points m w before after x i is has below on =
     (sum-some (is_on points m w k) (circles points m w) i below on) in
     record { once = one; genus = sphere (faces_on surface k) (lowers_on surface k) d c faces strips one }
 
--- and the marks
+-- and the marks: their dots, or their hollow dots
 
-abbrev marks_at : Points → List (ℕ × ℕ) → List (ℕ × ℕ) → ℕ → ℕ × ℕ → ℕ
-marks_at points m w k face = cond (is_on points m w k face.0) face.1 0
+abbrev marks_at : Points → List (ℕ × ℕ) → List (ℕ × ℕ) → ℕ → (ℕ × ℕ → ℕ) → ℕ × ℕ → ℕ
+marks_at points m w k amount face = cond (is_on points m w k face.0) (amount face) 0
 
 bit-zero : (k : ℕ) → bit 0 k ≡ 0
 bit-zero k = ap (λ q. q % 2) (zero-div (2 ^ k))
@@ -221,33 +221,37 @@ no-mark : (b : Bool) (n : ℕ) → n ≡ 0 → cond b n 0 ≡ 0
 no-mark true n none = none
 no-mark false n none = refl
 
-no-dots : (points : Points) (m w : List (ℕ × ℕ)) (k : ℕ) (places : List ℕ)
-    → sum_by (marks_at points m w k) (marked 0 places) ≡ 0
-no-dots points m w k places =
-    sum_by-map (marks_at points m w k) (λ at. (at.1, bit 0 at.0)) (enumerate_from 0 places)
-    ∙ sum_by-zeros (λ at. cond (is_on points m w k at.1) (bit 0 at.0) 0) (enumerate_from 0 places)
-    (λ at. no-mark (is_on points m w k at.1) (bit 0 at.0) (bit-zero at.0))
+no-dots : (points : Points) (m w : List (ℕ × ℕ)) (k : ℕ) (amount : ℕ → ℕ) (places : List ℕ) → amount 0 ≡ 0
+    → sum_by (marks_at points m w k (λ face. amount face.1)) (marked 0 places) ≡ 0
+no-dots points m w k amount places none =
+    sum_by-map (marks_at points m w k (λ face. amount face.1)) (λ at. (at.1, bit 0 at.0)) (enumerate_from 0 places)
+    ∙ sum_by-zeros (λ at. cond (is_on points m w k at.1) (amount (bit 0 at.0)) 0) (enumerate_from 0 places)
+    (λ at. no-mark (is_on points m w k at.1) (amount (bit 0 at.0)) (ap amount (bit-zero at.0) ∙ none))
 
--- the mark of the one circle of each labels
-abbrev pub both_marks : ℕ → ℕ → ℕ → ℕ
-both_marks before after i = bit before i + (1 - bit after i)
+-- what both marks of the one circle of each labels have together
+abbrev both_marks : (ℕ → ℕ) → ℕ → ℕ → ℕ → ℕ
+both_marks amount before after i = amount (bit before i) + amount (2 * (1 - bit after i))
 
-marks-on : (points : Points) (m w : List (ℕ × ℕ)) (before after k i : ℕ) → IsCylinder points m w before after k
+marks-on : (points : Points) (m w : List (ℕ × ℕ)) (before after k i : ℕ) (amount : ℕ → ℕ) → amount 0 ≡ 0
+    → IsCylinder points m w before after k
     → i < length (circles points m w) → is_on points m w k (get_or (circles points m w) i 0) ≡ true
-    → marks_on (itself_at points m w before after) k ≡ both_marks before after i
-marks-on points m w before after k i cylinder below on =
-    let h = marks_at points m w k in
+    → sum_by (marks_at points m w k (λ face. amount face.1)) (term_faces points m m w 0 before after)
+    ≡ both_marks amount before after i
+marks-on points m w before after k i amount none cylinder below on =
+    let h = marks_at points m w k (λ face. amount face.1) in
     let names = circles points m w in
-    let first : sum_by h (marked before names) ≡ bit before i =
+    let f = λ (j : ℕ). amount (bit before j) in
+    let g = λ (j : ℕ). amount (2 * (1 - bit after j)) in
+    let first : sum_by h (marked before names) ≡ amount (bit before i) =
     sum_by-map h (λ at. (at.1, bit before at.0)) (enumerate_from 0 names)
-    ∙ sum-one (is_on points m w k) (bit before) names 0 i cylinder.once below on ∙ ap (bit before) (from_zero i) in
-    let second : sum_by h (marked_else after names) ≡ 1 - bit after i =
-    sum_by-map h (λ at. (at.1, 1 - bit after at.0)) (enumerate_from 0 names)
-    ∙ sum-one (is_on points m w k) (λ j. 1 - bit after j) names 0 i cylinder.once below on ∙ ap (λ j. 1 - bit after j) (from_zero i) in
+    ∙ sum-one (is_on points m w k) f names 0 i cylinder.once below on ∙ ap f (from_zero i) in
+    let second : sum_by h (marked_else after names) ≡ amount (2 * (1 - bit after i)) =
+    sum_by-map h (λ at. (at.1, 2 * (1 - bit after at.0))) (enumerate_from 0 names)
+    ∙ sum-one (is_on points m w k) g names 0 i cylinder.once below on ∙ ap g (from_zero i) in
     sum_by-append h (marked 0 (discs points m m)) (marked before names ++ marked_else after names)
-    ∙ ap₂ (λ x y. x + y) (no-dots points m w k (discs points m m))
+    ∙ ap₂ (λ x y. x + y) (no-dots points m w k amount (discs points m m) none)
     (sum_by-append h (marked before names) (marked_else after names) ∙ ap₂ (λ x y. x + y) first second)
-    ∙ zero_plus (both_marks before after i)
+    ∙ zero_plus (both_marks amount before after i)
   where
     from_zero : (i : ℕ) → 0 + i ≡ i
     from_zero i = omega arith
@@ -255,47 +259,59 @@ marks-on points m w before after k i cylinder below on =
     zero_plus : (x : ℕ) → 0 + x ≡ x
     zero_plus x = omega arith
 
-factor-cylinder : (points : Points) (m w : List (ℕ × ℕ)) (before after x i : ℕ) → IsItself points m w → Contains points.alive x
-    → i < length (circles points m w) → is_on points m w (component_of (bare points m w) x) (get_or (circles points m w) i 0) ≡ true
-    → factor (itself_at points m w before after) (component_of (bare points m w) x) ≡ weight 0 (both_marks before after i)
-factor-cylinder points m w before after x i is has below on =
-    let k = component_of (bare points m w) x in
+-- a disc's dots and hollow dots by its mark
+abbrev dots_in : ℕ → ℕ
+dots_in mark = mark % 2
+
+abbrev hollows_in : ℕ → ℕ
+hollows_in mark = mark / 2
+
+factor-cylinder : (h k : ℕ) (points : Points) (m w : List (ℕ × ℕ)) (before after x i : ℕ) → IsItself points m w
+    → Contains points.alive x → i < length (circles points m w)
+    → is_on points m w (component_of (bare points m w) x) (get_or (circles points m w) i 0) ≡ true
+    → factor h k (itself_at points m w before after) (component_of (bare points m w) x)
+    ≡ weight h k 0 (both_marks dots_in before after i) (both_marks hollows_in before after i)
+factor-cylinder h k points m w before after x i is has below on =
+    let c = component_of (bare points m w) x in
     let surface = itself_at points m w before after in
     let cylinder = cylinder-at points m w before after x i is has below on in
-    factor-at surface k 0 (is_component-of surface x has) cylinder.genus
-    ∙ ap (λ n. weight 0 n) (marks-on points m w before after k i cylinder below on)
+    factor-at h k surface c 0 (is_component-of surface x has) cylinder.genus
+    ∙ ap₂ (λ d o. weight h k 0 d o) (marks-on points m w before after c i dots_in refl cylinder below on)
+    (marks-on points m w before after c i hollows_in refl cylinder below on)
 
 -- where all labels agree, all factors are 1
-same-marks : (b n : ℕ) → b < 2 → n ≡ b + (1 - b) → weight 0 n ≡ 1
-same-marks zero n below is = ap (λ k. weight 0 k) is
-same-marks (suc zero) n below is = ap (λ k. weight 0 k) is
-same-marks (suc (suc b)) n below is = absurd (omega (arith, below))
+same-marks : (h k b d o : ℕ) → b < 2 → d ≡ b % 2 + 2 * (1 - b) % 2 → o ≡ b / 2 + 2 * (1 - b) / 2 → weight h k 0 d o ≡ 1
+same-marks h k zero d o below dots hollows = ap₂ (λ x y. weight h k 0 x y) dots hollows ∙ pow-zero k
+same-marks h k (suc zero) d o below dots hollows = ap₂ (λ x y. weight h k 0 x y) dots hollows ∙ pow-zero h
+same-marks h k (suc (suc b)) d o below dots hollows = absurd (omega (arith, below))
 
-other-marks : (b d n : ℕ) → b < 2 → d < 2 → b ≢ d → n ≡ b + (1 - d) → weight 0 n ≡ 0
-other-marks zero zero n b_below d_below apart is = absurd (apart refl)
-other-marks zero (suc zero) n b_below d_below apart is = ap (λ k. weight 0 k) is
-other-marks (suc zero) zero n b_below d_below apart is = ap (λ k. weight 0 k) is
-other-marks (suc zero) (suc zero) n b_below d_below apart is = absurd (apart refl)
-other-marks (suc (suc b)) d n b_below d_below apart is = absurd (omega (arith, b_below))
-other-marks zero (suc (suc d)) n b_below d_below apart is = absurd (omega (arith, d_below))
-other-marks (suc zero) (suc (suc d)) n b_below d_below apart is = absurd (omega (arith, d_below))
+other-marks : (h k b c d o : ℕ) → b < 2 → c < 2 → b ≢ c → d ≡ b % 2 + 2 * (1 - c) % 2 → o ≡ b / 2 + 2 * (1 - c) / 2
+    → weight h k 0 d o ≡ 0
+other-marks h k zero zero d o b_below c_below apart dots hollows = absurd (apart refl)
+other-marks h k zero (suc zero) d o b_below c_below apart dots hollows = ap₂ (λ x y. weight h k 0 x y) dots hollows
+other-marks h k (suc zero) zero d o b_below c_below apart dots hollows = ap₂ (λ x y. weight h k 0 x y) dots hollows
+other-marks h k (suc zero) (suc zero) d o b_below c_below apart dots hollows = absurd (apart refl)
+other-marks h k (suc (suc b)) c d o b_below c_below apart dots hollows = absurd (omega (arith, b_below))
+other-marks h k zero (suc (suc c)) d o b_below c_below apart dots hollows = absurd (omega (arith, c_below))
+other-marks h k (suc zero) (suc (suc c)) d o b_below c_below apart dots hollows = absurd (omega (arith, c_below))
 
-agree-one : (points : Points) (m w : List (ℕ × ℕ)) (label k : ℕ) → IsItself points m w
-    → factor (itself_at points m w label label) k ≡ 1
-agree-one points m w label k is =
+agree-one : (h k : ℕ) (points : Points) (m w : List (ℕ × ℕ)) (label c : ℕ) → IsItself points m w
+    → factor h k (itself_at points m w label label) c ≡ 1
+agree-one h k points m w label c is =
     let surface = itself_at points m w label label in
-    elim (cases_Bool (is_component surface k)) [
+    elim (cases_Bool (is_component surface c)) [
       | inl component ↦
-          let found = list_any-some (λ x. nat_eq (component_of surface x) k) points.alive component in
-          let same : component_of surface found.0 ≡ k = eqb-true (component_of surface found.0) k found.2 in
+          let found = list_any-some (λ x. nat_eq (component_of surface x) c) points.alive component in
+          let same : component_of surface found.0 ≡ c = eqb-true (component_of surface found.0) c found.2 in
           let name = named-circle points m w found.0 is found.1 in
           let own = own-circle points m w found.0 is found.1 in
-          ap (factor surface) (sym same)
-          ∙ factor-cylinder points m w label label found.0 name.0 is found.1 name.1
+          ap (factor h k surface) (sym same)
+          ∙ factor-cylinder h k points m w label label found.0 name.0 is found.1 name.1
           (eq-eqb (component_of (bare points m w) (get_or (circles points m w) name.0 0)) (component_of (bare points m w) found.0)
-          (ap (λ c. component_of (bare points m w) c) (get_or_default (circles points m w) name.0 0 (component_of (bare points m w) found.0) name.1 ∙ name.2) ∙ own))
-          ∙ same-marks (bit label name.0) (both_marks label label name.0) (bit-below label name.0) refl
-      | inr other ↦ factor-none surface k other
+          (ap (λ y. component_of (bare points m w) y) (get_or_default (circles points m w) name.0 0 (component_of (bare points m w) found.0) name.1 ∙ name.2) ∙ own))
+          ∙ same-marks h k (bit label name.0) (both_marks dots_in label label name.0) (both_marks hollows_in label label name.0)
+          (bit-below label name.0) refl refl
+      | inr other ↦ factor-none h k surface c other
     ]
 
 -- where two labels differ, one factor is 0
@@ -318,9 +334,9 @@ some-differ (suc count) before after = elim (some-differ count before after) [
   ]
 ]
 
-differ-zero : (points : Points) (m w : List (ℕ × ℕ)) (before after : ℕ) → IsItself points m w
-    → Differ (length (circles points m w)) before after → entry points m m w 0 before after ≡ 0
-differ-zero points m w before after is found =
+differ-zero : (h k : ℕ) (points : Points) (m w : List (ℕ × ℕ)) (before after : ℕ) → IsItself points m w
+    → Differ (length (circles points m w)) before after → entry h k points m m w 0 before after ≡ 0
+differ-zero h k points m w before after is found =
     let i = found.place in
     let names = circles points m w in
     let x = get_or names i 0 in
@@ -328,21 +344,22 @@ differ-zero points m w before after is found =
     let has : Contains points.alive x =
     AllByRecursion-at (λ y. Contains points.alive y) names x (least-contained points.size points.alive (m ++ w))
     (i, found.below, get_or_default names i x 0 found.below) in
-    let k = component_of (bare points m w) x in
+    let c = component_of (bare points m w) x in
     let below = class-below points.size points.alive (m ++ (m ++ w)) x (sheet-joins points m w is) has in
-    let none : factor surface k ≡ 0 =
-    factor-cylinder points m w before after x i is has found.below (eq-eqb k k refl)
-    ∙ other-marks (bit before i) (bit after i) (both_marks before after i) (bit-below before i) (bit-below after i) found.differ refl in
-    product_below-without points.size k (factor surface) below
-    ∙ ap (λ z. z * product_below points.size (without k (factor surface))) none
-    ∙ zero_times (product_below points.size (without k (factor surface)))
+    let none : factor h k surface c ≡ 0 =
+    factor-cylinder h k points m w before after x i is has found.below (eq-eqb c c refl)
+    ∙ other-marks h k (bit before i) (bit after i) (both_marks dots_in before after i) (both_marks hollows_in before after i)
+    (bit-below before i) (bit-below after i) found.differ refl refl in
+    product_below-without points.size c (factor h k surface) below
+    ∙ ap (λ z. z * product_below points.size (without c (factor h k surface))) none
+    ∙ zero_times (product_below points.size (without c (factor h k surface)))
   where
     zero_times : (x : ℕ) → 0 * x ≡ 0
     zero_times x = omega arith
 
-agree-entry : (points : Points) (m w : List (ℕ × ℕ)) (label : ℕ) → IsItself points m w → entry points m m w 0 label label ≡ 1
-agree-entry points m w label is =
-    product_below-ones points.size (factor (itself_at points m w label label)) (λ k below. agree-one points m w label k is)
+agree-entry : (h k : ℕ) (points : Points) (m w : List (ℕ × ℕ)) (label : ℕ) → IsItself points m w → entry h k points m m w 0 label label ≡ 1
+agree-entry h k points m w label is =
+    product_below-ones points.size (factor h k (itself_at points m w label label)) (λ c below. agree-one h k points m w label c is)
 
 same-test : (x y : ℕ) → x ≡ y → 1 ≡ one_if (nat_eq x y)
 same-test x y same = grind (arith, nat_tests)
@@ -350,27 +367,27 @@ same-test x y same = grind (arith, nat_tests)
 other-test : (x y : ℕ) → x ≢ y → 0 ≡ one_if (nat_eq x y)
 other-test x y apart = grind (arith, nat_tests)
 
-pub entry-identity : (points : Points) (m w : List (ℕ × ℕ)) (before after : ℕ) → IsItself points m w
+pub entry-identity : (h k : ℕ) (points : Points) (m w : List (ℕ × ℕ)) (before after : ℕ) → IsItself points m w
     → before < 2 ^ length (circles points m w) → after < 2 ^ length (circles points m w)
-    → entry points m m w 0 before after ≡ cond (nat_eq before after) 1 0
-entry-identity points m w before after is before_below after_below =
+    → entry h k points m m w 0 before after ≡ cond (nat_eq before after) 1 0
+entry-identity h k points m w before after is before_below after_below =
     elim (some-differ (length (circles points m w)) before after) [
       | inl same ↦
           let equal : before ≡ after =
           same_from_bits_below (length (circles points m w)) before after before_below after_below same in
-          ap (λ label. entry points m m w 0 before label) (sym equal) ∙ agree-entry points m w before is
+          ap (λ label. entry h k points m m w 0 before label) (sym equal) ∙ agree-entry h k points m w before is
           ∙ same-test before after equal
       | inr found ↦
-          differ-zero points m w before after is found
+          differ-zero h k points m w before after is found
           ∙ other-test before after (λ equal. found.differ (ap (λ label. bit label found.place) equal))
     ]
 
-pub matrix-identity : (p : ℕ) (points : Points) (m w : List (ℕ × ℕ)) (row column : ℕ) → IsItself points m w
+pub matrix-identity : (p h k : ℕ) (points : Points) (m w : List (ℕ × ℕ)) (row column : ℕ) → IsItself points m w
     → row < 2 ^ length (circles points m w) → column < 2 ^ length (circles points m w)
-    → matrix_of p points m m w identity row column ≡ cond (nat_eq row column) 1 0 % p
-matrix-identity p points m w row column is row_below column_below =
+    → matrix_of p h k points m m w identity row column ≡ cond (nat_eq row column) 1 0 % p
+matrix-identity p h k points m w row column is row_below column_below =
     ap (λ n. n % p)
-    (one_time (entry points m m w 0 column row) ∙ entry-identity points m w column row is column_below row_below
+    (one_time (entry h k points m m w 0 column row) ∙ entry-identity h k points m w column row is column_below row_below
     ∙ turned column row)
   where
     one_time : (x : ℕ) → 0 + 1 * x ≡ x

@@ -1,4 +1,4 @@
--- The listed composition has the composition's coefficients, and so it is a composition of the two maps. The part of a component
+-- Where h and k are 0 the listed composition has the composition's coefficients, and so it is a composition of the two maps. The part of a component
 -- is its factor where as many of its discs have no dot as its load allows (its dots and genus together); else it is 0, by cases:
 -- the load is 0, 1 or more. So the product over components is the product of the factors, times a test of all components; this
 -- test holds of the dot sets that are chosen, and of each of them once. Hence the coefficient of a dot set in the list is, pair
@@ -20,7 +20,7 @@ use Rattle.dotted_maps.specs.Maps.{coefficient_in, composed_in, IsComposition}
 use Rattle.dotted_maps.specs.declared.term.Term.{Term}
 use Rattle.dotted_maps.specs.Choices.{undotted_at, factor_at, choices, composed_terms, listed}
 use Rattle.dotted_maps.proofs.LeastPoints.{AreJoins, AreAmong-append, class-named, least-contained}
-use Rattle.dotted_maps.proofs.ComponentParts.{composed-parts}
+use Rattle.dotted_maps.proofs.ComponentParts.{composed-parts, part-plain}
 use Rattle.dotted_maps.proofs.ChoiceCounts.{zeros, choices-counted, choices-below, undotted-zeros}
 
 abbrev one_if : Bool → ℕ
@@ -135,7 +135,7 @@ places points m n o = map (component_in points m n o) (discs points m o)
 abbrev sets : Points → List (ℕ × ℕ) → List (ℕ × ℕ) → List (ℕ × ℕ) → ℕ → ℕ → List ℕ
 sets points m n o dots others = choices (components points m n o) (places points m n o) (undotted_at points m n o dots others)
 
-opened-joins : (points : Points) (m n o : List (ℕ × ℕ)) → AreListed points m n o
+pub opened-joins : (points : Points) (m n o : List (ℕ × ℕ)) → AreListed points m n o
     → AreJoins points.size points.opened (m ++ (o ++ n))
 opened-joins points m n o is = record {
   below = AllByRecursion-weaker (λ x. Contains points.alive x) (λ x. x < points.size) points.opened
@@ -157,7 +157,7 @@ whole-number n = omega arith
 
 composed-chosen : (points : Points) (m n o : List (ℕ × ℕ)) (dots others kept : ℕ) → AreListed points m n o
     → kept < 2 ^ length (discs points m o)
-    → composed points m n o dots others kept
+    → composed 0 0 points m n o dots others kept
     ≡ product_over (factor_at points m n o dots others) (components points m n o)
     * count_by (nat_eq kept) (sets points m n o dots others)
 composed-chosen points m n o dots others kept is below =
@@ -167,10 +167,13 @@ composed-chosen points m n o dots others kept is below =
     let f = factor_at points m n o dots others in
     let within : kept < 2 ^ length ks =
     omega (arith, below, ap (λ k. 2 ^ k) (length-map (discs points m o) (component_in points m n o))) in
-    composed-parts points m n o dots others kept is.placed is.pairing is.first is.second is.third
-    ∙ product-alike (part_at points m n o dots others kept) (λ k. f k * one_if (nat_eq (zeros ks k kept) (left k))) names
+    composed-parts 0 0 points m n o dots others kept is.placed is.pairing is.first is.second is.third
+    ∙ product-alike (part_at 0 0 points m n o dots others kept) (λ k. f k * one_if (nat_eq (zeros ks k kept) (left k))) names
     (λ k.
-    part-split (genus_in points m n o k)
+    part-plain (genus_in points m n o k)
+    (dotted_on points m n o k dots (discs points m n) + dotted_on points m n o k others (discs points n o))
+    (undotted_on points m n o k kept (discs points m o))
+    ∙ part-split (genus_in points m n o k)
     (dotted_on points m n o k dots (discs points m n) + dotted_on points m n o k others (discs points n o))
     (undotted_on points m n o k kept (discs points m o))
     ∙ ap (λ u. f k * one_if (nat_eq u (left k)))
@@ -201,15 +204,15 @@ coefficient-chosen c kept xs =
 
 coefficient-listed : (points : Points) (m n o : List (ℕ × ℕ)) (first second : List Term) (kept : ℕ) → AreListed points m n o
     → kept < 2 ^ length (discs points m o)
-    → coefficient_in (listed points m n o first second) kept ≡ composed_in points m n o first second kept
+    → coefficient_in (listed points m n o first second) kept ≡ composed_in 0 0 points m n o first second kept
 coefficient-listed points m n o first second kept is below =
     let g = λ (term : Term). cond (nat_eq term.dots kept) term.coefficient 0 in
     sum_by-flat_map g (λ term. flat_map (composed_terms points m n o term) second) first
     ∙ sum_by-alike (λ term. sum_by g (flat_map (composed_terms points m n o term) second))
-    (λ term. sum_by (λ other. term.coefficient * other.coefficient * composed points m n o term.dots other.dots kept) second)
+    (λ term. sum_by (λ other. term.coefficient * other.coefficient * composed 0 0 points m n o term.dots other.dots kept) second)
     (λ term. sum_by-flat_map g (composed_terms points m n o term) second
     ∙ sum_by-alike (λ other. sum_by g (composed_terms points m n o term other))
-    (λ other. term.coefficient * other.coefficient * composed points m n o term.dots other.dots kept)
+    (λ other. term.coefficient * other.coefficient * composed 0 0 points m n o term.dots other.dots kept)
     (λ other.
     let unit = product_over (factor_at points m n o term.dots other.dots) (components points m n o) in
     let count = count_by (nat_eq kept) (sets points m n o term.dots other.dots) in
@@ -221,7 +224,7 @@ coefficient-listed points m n o first second kept is below =
     grouped : (a b c : ℕ) → a * b * c ≡ a * (b * c)
     grouped a b c = omega arith
 
-all-flat : {X Y : Type 0} (P : Y → Type 0) (f : X → List Y) (xs : List X) → ((x : X) → AllByRecursion P (f x))
+pub all-flat : {X Y : Type 0} (P : Y → Type 0) (f : X → List Y) (xs : List X) → ((x : X) → AllByRecursion P (f x))
     → AllByRecursion P (flat_map f xs)
 all-flat P f [] all = tt
 all-flat P f (x ∷ xs) all = AllByRecursion-append P (f x) (flat_map f xs) (all x) (all-flat P f xs all)
@@ -229,18 +232,18 @@ all-flat P f (x ∷ xs) all = AllByRecursion-append P (f x) (flat_map f xs) (all
 abbrev with_coefficient : ℕ → ℕ → Term
 with_coefficient c x = record { dots = x; coefficient = c }
 
-abbrev IsBelow : ℕ → Term → Type 0
+abbrev pub IsBelow : ℕ → Term → Type 0
 IsBelow n term = term.dots < n
 
 terms-below : (n c : ℕ) (xs : List ℕ) → AllByRecursion (λ x. x < n) xs → AllByRecursion (IsBelow n) (map (with_coefficient c) xs)
 terms-below n c [] all = tt
 terms-below n c (x ∷ xs) all = (all.0, terms-below n c xs all.1)
 
-below-as : (n k : ℕ) (xs : List ℕ) → n ≡ k → AllByRecursion (λ x. x < n) xs → AllByRecursion (λ x. x < k) xs
+pub below-as : (n k : ℕ) (xs : List ℕ) → n ≡ k → AllByRecursion (λ x. x < n) xs → AllByRecursion (λ x. x < k) xs
 below-as n k xs same all = AllByRecursion-weaker (λ x. x < n) (λ x. x < k) xs (λ x below. omega (arith, same, below)) all
 
 pub IsComposition-listed : (p : ℕ) (points : Points) (m n o : List (ℕ × ℕ)) (first second : List Term) → AreListed points m n o
-    → IsComposition p points m n o first second (listed points m n o first second)
+    → IsComposition p 0 0 points m n o first second (listed points m n o first second)
 IsComposition-listed p points m n o first second is =
     let k = 2 ^ length (discs points m o) in
     let same : 2 ^ length (places points m n o) ≡ k =

@@ -27,13 +27,13 @@ abbrev disc_at : ℕ → ℕ × ℕ → ℕ × ℕ
 disc_at number at = (at.1, bit number at.0)
 
 abbrev other_disc_at : ℕ → ℕ × ℕ → ℕ × ℕ
-other_disc_at number at = (at.1, 1 - bit number at.0)
+other_disc_at number at = (at.1, 2 * (1 - bit number at.0))
 
 abbrev first_cap : ℕ → ℕ × (ℕ × ℕ) → ℕ × ℕ
 first_cap number at = (at.1.0, bit number at.0)
 
 abbrev second_cap : ℕ → ℕ × (ℕ × ℕ) → ℕ × ℕ
-second_cap number at = (at.1.1, 1 - bit number at.0)
+second_cap number at = (at.1.1, 2 * (1 - bit number at.0))
 
 -- the places of marked faces
 
@@ -67,7 +67,7 @@ second-from : (places : List ℕ) (number k : ℕ)
     ≡ map (other_disc_at number) (enumerate_from k places)
 second-from [] number k = refl
 second-from (x ∷ places) number k =
-    ap (λ (faces : List (ℕ × ℕ)). (x, 1 - bit number k) ∷ faces) (second-from places number (k + 1))
+    ap (λ (faces : List (ℕ × ℕ)). (x, 2 * (1 - bit number k)) ∷ faces) (second-from places number (k + 1))
 
 pub first_caps-marked : (number : ℕ) (places : List ℕ) → first_caps (at_places places) number ≡ marked number places
 first_caps-marked number places = first-from places number 0

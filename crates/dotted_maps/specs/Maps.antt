@@ -12,9 +12,9 @@ abbrev pub coefficient_in : List Term → ℕ → ℕ
 coefficient_in terms dots = sum_by (λ term. if nat_eq term.dots dots then term.coefficient else 0) terms
 
 -- the matrix of a map from m to n at what w joins outside: a row for the labels of the circles of n, a column for those of m
-abbrev pub matrix_of : ℕ → Points → List (ℕ × ℕ) → List (ℕ × ℕ) → List (ℕ × ℕ) → List Term → ℕ → ℕ → ℕ
-matrix_of p points m n w terms row column =
-    sum_by (λ term. term.coefficient * entry points m n w term.dots column row) terms % p
+abbrev pub matrix_of : ℕ → ℕ → ℕ → Points → List (ℕ × ℕ) → List (ℕ × ℕ) → List (ℕ × ℕ) → List Term → ℕ → ℕ → ℕ
+matrix_of p h k points m n w terms row column =
+    sum_by (λ term. term.coefficient * entry h k points m n w term.dots column row) terms % p
 
 -- a map times a number
 abbrev pub scaled : ℕ → List Term → List Term
@@ -31,20 +31,20 @@ pub record AreOneMap (p : ℕ) (points : Points) (m n : List (ℕ × ℕ)) (term
   pub coefficients : (dots : ℕ) → dots < 2 ^ length (discs points m n) → Same p (coefficient_in terms dots) (coefficient_in others dots)
 
 -- the coefficient of a dot set in the composition of two maps, the first of them first
-abbrev pub composed_in : Points → List (ℕ × ℕ) → List (ℕ × ℕ) → List (ℕ × ℕ) → List Term → List Term → ℕ → ℕ
-composed_in points m n o first second kept =
-    sum_by (λ term. sum_by (λ other. term.coefficient * other.coefficient * composed points m n o term.dots other.dots kept) second) first
+abbrev pub composed_in : ℕ → ℕ → Points → List (ℕ × ℕ) → List (ℕ × ℕ) → List (ℕ × ℕ) → List Term → List Term → ℕ → ℕ
+composed_in h k points m n o first second kept =
+    sum_by (λ term. sum_by (λ other. term.coefficient * other.coefficient * composed h k points m n o term.dots other.dots kept) second) first
 
 -- a map is the composition of two maps where its dot sets are sets of discs and have these coefficients modulo p
-pub record IsComposition (p : ℕ) (points : Points) (m n o : List (ℕ × ℕ)) (first second whole : List Term) : Type 0 where
+pub record IsComposition (p h k : ℕ) (points : Points) (m n o : List (ℕ × ℕ)) (first second whole : List Term) : Type 0 where
   pub dots : AreDotted points m o whole
   pub coefficients : (kept : ℕ) → kept < 2 ^ length (discs points m o)
-      → Same p (coefficient_in whole kept) (composed_in points m n o first second kept)
+      → Same p (coefficient_in whole kept) (composed_in h k points m n o first second kept)
 
 -- the composition with a term for each dot set
-abbrev pub composition : ℕ → Points → List (ℕ × ℕ) → List (ℕ × ℕ) → List (ℕ × ℕ) → List Term → List Term → List Term
-composition p points m n o first second =
-    map (λ kept. record { dots = kept; coefficient = composed_in points m n o first second kept % p })
+abbrev pub composition : ℕ → ℕ → ℕ → Points → List (ℕ × ℕ) → List (ℕ × ℕ) → List (ℕ × ℕ) → List Term → List Term → List Term
+composition p h k points m n o first second =
+    map (λ kept. record { dots = kept; coefficient = composed_in h k points m n o first second kept % p })
     (range_with_len 0 (2 ^ length (discs points m o)))
 
 -- the identity of a pairing has one term, without dots

@@ -3,6 +3,7 @@ use Rattle.std.specs.Prelude.{ℕ, ◌+◌, ◌-◌, ◌*◌, ◌/◌, List, [],
 use Rattle.std.specs.List.{enumerate_from, count_by, sum_by}
 use Rattle.kh_types.specs.Bits.{bit}
 use Rattle.kh_types.specs.Classes.{classes_of}
+use Rattle.surface_laws.specs.Surfaces.{weight}
 use Rattle.surface_laws.specs.Points.{Points, least_points, discs}
 
 -- the components of the opened arcs under three pairings, by their least arcs
@@ -34,8 +35,8 @@ genus_in points m n o component =
     + (how_many points m n o component (discs points m n) + how_many points m n o component (discs points n o))))
     / 4
 
--- with one dot, or of genus 1 without dots, a component has dots on all discs of the composition; of genus 0 without dots, on all but
--- one
+-- where h and k are 0: with one dot, or of genus 1 without dots, a component has dots on all discs of the composition; of genus 0
+-- without dots, on all but one
 abbrev pub part_coefficient : ℕ → ℕ → ℕ → ℕ
 part_coefficient genus dots undotted =
     if nat_eq (dots + genus) 1 then (if nat_eq undotted 0 then 1 + genus else 0)
@@ -46,9 +47,10 @@ abbrev pub product_over : (ℕ → ℕ) → List ℕ → ℕ
 product_over f [] = 1
 product_over f (x ∷ xs) = f x * product_over f xs
 
--- the part of a component in the coefficient of a dot set
-abbrev pub part_at : Points → List (ℕ × ℕ) → List (ℕ × ℕ) → List (ℕ × ℕ) → ℕ → ℕ → ℕ → ℕ → ℕ
-part_at points m n o dots others kept component =
-    part_coefficient (genus_in points m n o component)
+-- the part of a component in the coefficient of a dot set: its weight with the dots of the terms, and with hollow dots for those that are
+-- missing
+abbrev pub part_at : ℕ → ℕ → Points → List (ℕ × ℕ) → List (ℕ × ℕ) → List (ℕ × ℕ) → ℕ → ℕ → ℕ → ℕ → ℕ
+part_at h k points m n o dots others kept component =
+    weight h k (genus_in points m n o component)
     (dotted_on points m n o component dots (discs points m n) + dotted_on points m n o component others (discs points n o))
     (undotted_on points m n o component kept (discs points m o))

@@ -14,7 +14,7 @@ use Rattle.layer_laws.proofs.PairTests.{pairs-from, same-if}
 use Rattle.layer_laws.proofs.SingleLayers.{dimension-one}
 use Rattle.layer_laws.proofs.TwoPairs.{ArePairs, complex-left, dimension-left, entry-left, left}
 
-nothing-from : (p : ℕ) (layers : Layers) (x y : ℕ) (given : ℕ → ℕ → ℕ → ℕ) → IsTimes p layers x y 0 given → IsNothing p layers x y
+pub nothing-from : (p : ℕ) (layers : Layers) (x y : ℕ) (given : ℕ → ℕ → ℕ → ℕ) → IsTimes p layers x y 0 given → IsNothing p layers x y
 nothing-from p layers x y given times =
     record {
       none = λ state label other below label_below other_below.

@@ -29,13 +29,13 @@ one_object object inner layers = record {
 module _ (p object r : ℕ) (level : ℕ → ℕ) (layers single : Layers) (inner : ℕ → ℕ → ℕ → ℕ → ℕ → ℕ) (field : HasInverses p)
     (like : IsLikeOne p object r level layers single) (nothing : IsNothing p (one_object object inner layers) object object)
     (complex : AreComplex p (cells_of (one_object object inner layers))) where
-  abbrev after : Layers
+  abbrev pub after : Layers
   after = one_object object inner layers
 
   positive : 0 < p
   positive = omega (arith, field.above_one)
 
-  abbrev sign_there : ℕ → ℕ → ℕ
+  abbrev pub sign_there : ℕ → ℕ → ℕ
   sign_there x state = sign_of_power p (r * level state)
 
   at-object : (P : ℕ → Type 0) → P object → (x : ℕ) → Contains (object ∷ []) x → P x
@@ -74,7 +74,7 @@ module _ (p object r : ℕ) (level : ℕ → ℕ) (layers single : Layers) (inne
       regrouped : (a b d : ℕ) → a * b * d ≡ a * (b * d)
       regrouped a b d = omega arith
 
-  renamed-one : AreRenamed p (λ x. 0) sign_there after single
+  pub renamed-one : AreRenamed p (λ x. 0) sign_there after single
   renamed-one =
       record {
         listed = subst (λ (xs : List ℕ). AreListed (λ (x : ℕ). 0) (object ∷ []) xs) (sym like.objects)

@@ -43,12 +43,12 @@ signed-number p a b c d true false positive same even = let e : true ≡ false =
 signed-number p a b c d false true positive same even = let e : false ≡ true = same in cc
 
 -- the objects that are left
-record IsLast (o x : ℕ) : Type 0 where
-  within : x < 8
-  last : is_last o x ≡ true
-  other : x ≢ o
+pub record IsLast (o x : ℕ) : Type 0 where
+  pub within : x < 8
+  pub last : is_last o x ≡ true
+  pub other : x ≢ o
 
-last-is : (o x : ℕ) → Contains (last_objects o) x → IsLast o x
+pub last-is : (o x : ℕ) → Contains (last_objects o) x → IsLast o x
 last-is o x has =
     let kept = Contains-kept (is_last o) (range_with_len 0 8) x has in
     record {
@@ -94,25 +94,25 @@ module _ (p o : ℕ) (count : ℕ → ℕ → ℕ) (saddle : ℕ → ℕ → ℕ
   positive : 0 < p
   positive = omega (arith, field.above_one)
 
-  pairs_first : ArePairs 3 o (above_of o) (below_of o) (kind_before o)
+  pub pairs_first : ArePairs 3 o (above_of o) (below_of o) (kind_before o)
   pairs_first = pairs-at o (kind_before o) above below (near-before o above below)
 
-  pairs_second : ArePairs 3 o (above_of o) (below_of o) (kind_after o)
+  pub pairs_second : ArePairs 3 o (above_of o) (below_of o) (kind_after o)
   pairs_second = pairs-at o (kind_after o) above below (near-after o above below)
 
-  abbrev left_first : Layers
+  abbrev pub left_first : Layers
   left_first = left p 3 o (above_of o) (below_of o) (kind_before o) count saddle first field cut_first pairs_first
 
-  abbrev left_second : Layers
+  abbrev pub left_second : Layers
   left_second = left p 3 o (above_of o) (below_of o) (kind_after o) count saddle second field cut_second pairs_second
 
-  abbrev to : ℕ → ℕ
+  abbrev pub to : ℕ → ℕ
   to = exchanged o
 
-  there : (x : ℕ) → IsLast o x → IsExchanged o x
+  pub there : (x : ℕ) → IsLast o x → IsExchanged o x
   there x is = exchanged-is o x above below is.within is.last
 
-  other-there : (x : ℕ) → IsLast o x → IsLast o (to x)
+  pub other-there : (x : ℕ) → IsLast o x → IsLast o (to x)
   other-there x is =
       let e = there x is in
       record {
@@ -134,11 +134,11 @@ module _ (p o : ℕ) (count : ℕ → ℕ → ℕ) (saddle : ℕ → ℕ → ℕ
       cut_second.labels (to x) state (there x is).within (subst (λ (n : ℕ). state < n) (sym states) below_states)
       ∙ ap (λ (n : ℕ). count n state) (there x is).kind ∙ sym (labels-first x state is below_states)
 
-  there-below : (x state label : ℕ) → IsLast o x → state < first.states → label < first.labels x state → label < second.labels (to x) state
+  pub there-below : (x state label : ℕ) → IsLast o x → state < first.states → label < first.labels x state → label < second.labels (to x) state
   there-below x state label is below_states label_below =
       subst (λ (n : ℕ). label < n) (sym (labels-second x state is below_states)) label_below
 
-  there-state : (state : ℕ) → state < first.states → state < second.states
+  pub there-state : (state : ℕ) → state < first.states → state < second.states
   there-state state below_states = subst (λ (n : ℕ). state < n) (sym states) below_states
 
   inner-exchanged : (x y state label other : ℕ) → IsLast o x → IsLast o y → state < first.states → label < first.labels x state
@@ -202,7 +202,7 @@ module _ (p o : ℕ) (count : ℕ → ℕ → ℕ) (saddle : ℕ → ℕ → ℕ
       listed-later to (λ (x : ℕ). x) (last_objects o) (map to (last_objects o)) (last_objects o) (listed-named to (last_objects o))
       (listed-reordered (map to (last_objects o)) (last_objects o) (listed-exchanged o above below))
 
-  renamed-slide : AreRenamed p to (λ x state. sign_of_power p (turn_of o x)) left_first left_second
+  pub renamed-slide : AreRenamed p to (λ x state. sign_of_power p (turn_of o x)) left_first left_second
   renamed-slide =
       record {
         listed = listed-to;

@@ -50,7 +50,7 @@ pub record ArePairs (k closing above below : ℕ) (kind : ℕ → ℕ) : Type 0 
 
 module _ (p k closing above below : ℕ) (kind : ℕ → ℕ) (count : ℕ → ℕ → ℕ) (saddle : ℕ → ℕ → ℕ → ℕ → ℕ → ℕ) (layers : Layers)
     (field : HasInverses p) (cut : IsCut p k closing kind count saddle layers) (are : ArePairs k closing above below kind) where
-  abbrev closed : ℕ
+  abbrev pub closed : ℕ
   closed = closing + 2 ^ k
 
   abbrev others : List ℕ
@@ -68,19 +68,19 @@ module _ (p k closing above below : ℕ) (kind : ℕ → ℕ) (count : ℕ → �
       cut.labels t state t_within below ∙ ap (λ (n : ℕ). count n state) same ∙ sym (cut.labels u state u_within below)
 
   -- the first
-  abbrev first_number : ℕ
+  abbrev pub first_number : ℕ
   first_number = step_sign p k closing above % p
 
   first-labels : (state : ℕ) → state < layers.states → layers.labels above state ≡ layers.labels closing state
   first-labels state below_states =
       labels-kind above closing state are.above_within are.closing_within (are.near_above above are.above_within are.up) below_states
 
-  first-times : IsTimesIdentity layers closing above first_number
+  pub first-times : IsTimesIdentity layers closing above first_number
   first-times =
       times-identity p layers closing above (step_sign p k closing above) field cut.complex.below are.closing_above first-labels
       (sign-squared p (ones_before k closing above) positive) (cut.merged above are.above_within are.up)
 
-  first-listed : AreListed (λ (o : ℕ). o) layers.objects (closing ∷ above ∷ rest)
+  pub first-listed : AreListed (λ (o : ℕ). o) layers.objects (closing ∷ above ∷ rest)
   first-listed =
       subst (λ (xs : List ℕ). AreListed (λ (o : ℕ). o) xs (closing ∷ above ∷ rest)) (sym cut.objects)
       (listed-reordered (cut_objects k closing) (closing ∷ above ∷ rest) are.listed)
@@ -113,7 +113,7 @@ module _ (p k closing above below : ℕ) (kind : ℕ → ℕ) (count : ℕ → �
   no-way-closed = cut.apart_closed closing are.closing_within are.not_itself
 
   -- the second
-  abbrev second_number : ℕ
+  abbrev pub second_number : ℕ
   second_number = step_sign p k below closing % p
 
   second-labels : (state : ℕ) → state < layers.states → layers.labels closed state ≡ layers.labels below state
@@ -122,7 +122,7 @@ module _ (p k closing above below : ℕ) (kind : ℕ → ℕ) (count : ℕ → �
       ∙ ap (λ (n : ℕ). count n state) (sym (are.near_below below are.below_within are.down))
       ∙ sym (cut.labels below state are.below_within below_states)
 
-  second-times : IsTimesIdentity between below closed second_number
+  pub second-times : IsTimesIdentity between below closed second_number
   second-times =
       times-identity p between below closed (step_sign p k below closing) field complex-between.below
       (λ same. apart below (2 ^ k) closing are.below_within same)

@@ -33,13 +33,13 @@ use Rattle.link_laws.proofs.DroppedKinks.{dimension-dropped_kink}
 use Rattle.link_laws.proofs.Restored.{restored}
 
 -- the smoothing that goes through an added kink tells its sign
-through-sign : (over positive : Bool) → through_at (inner_slot over positive) ≡ one_where positive
+pub through-sign : (over positive : Bool) → through_at (inner_slot over positive) ≡ one_where positive
 through-sign true true = refl
 through-sign true false = refl
 through-sign false true = refl
 through-sign false false = refl
 
-slot-below : (positive ordered : Bool) → (first_slot positive ordered < 4) × (second_slot positive ordered < 4)
+pub slot-below : (positive ordered : Bool) → (first_slot positive ordered < 4) × (second_slot positive ordered < 4)
 slot-below true true = (omega arith, omega arith)
 slot-below true false = (omega arith, omega arith)
 slot-below false true = (omega arith, omega arith)

@@ -25,13 +25,13 @@ use Rattle.link_laws.specs.Links.{HasOtherNumbers, HasOtherOrder, IsLinkChange, 
 use Rattle.link_laws.proofs.ExchangedSums.{sum-reordered}
 use Rattle.link_laws.proofs.SignedCrossings.{order-minus, order-plus, order-slots}
 
-numbers-plus : (old new : Code) → HasOtherNumbers old new → plus_count new.crossings ≡ plus_count old.crossings
+pub numbers-plus : (old new : Code) → HasOtherNumbers old new → plus_count new.crossings ≡ plus_count old.crossings
 numbers-plus old new other =
     ap (λ (n : ℕ). count_by (is_positive new.crossings) (range_with_len 1 n)) other.renumbered.size
     ∙ count_by-alike (is_positive new.crossings) (is_positive old.crossings) 1 (length old.crossings)
     (λ k from below. other.signs k (record { positive = from; within = omega (arith, below) }))
 
-numbers-minus : (old new : Code) → HasOtherNumbers old new → minus_count new.crossings ≡ minus_count old.crossings
+pub numbers-minus : (old new : Code) → HasOtherNumbers old new → minus_count new.crossings ≡ minus_count old.crossings
 numbers-minus old new other = ap₂ (λ (n k : ℕ). n - k) other.renumbered.size (numbers-plus old new other)
 
 -- dimensions

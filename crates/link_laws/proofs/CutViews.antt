@@ -26,12 +26,12 @@ pub none-of : {A : Type 0} (xs : List A) → length xs ≡ 0 → xs ≡ []
 none-of [] none = refl
 none-of (x ∷ xs) none = absurd (omega (arith, none))
 
-one-of : {A : Type 0} (xs : List A) → length xs ≡ 1 → (x : A) × (xs ≡ x ∷ [])
+pub one-of : {A : Type 0} (xs : List A) → length xs ≡ 1 → (x : A) × (xs ≡ x ∷ [])
 one-of [] one = absurd (omega (arith, one))
 one-of (x ∷ []) one = (x, refl)
 one-of (x ∷ y ∷ xs) one = absurd (omega (arith, one))
 
-times-from : (p : ℕ) (layers : Layers) (x y n : ℕ) → IsTimesIdentity layers x y n → IsTimes p layers x y n same_label
+pub times-from : (p : ℕ) (layers : Layers) (x y n : ℕ) → IsTimesIdentity layers x y n → IsTimes p layers x y n same_label
 times-from p layers x y n times =
     record {
       is = λ s label other below label_below other_below.

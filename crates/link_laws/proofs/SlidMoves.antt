@@ -27,7 +27,7 @@ use Rattle.link_laws.proofs.Measured.{between_by, height_by, measured-view, weig
 use Rattle.slide_view_laws.specs.SeenSlides.{HasSeenSlide, IsSeenSlide}
 
 -- a view of three inner crossings, of which one state closes a circle, is seen by kinds
-by-kinds : (code : Code) (view : View) (closing : ℕ) (kind : ℕ → ℕ) (relation : ℕ → ℕ → ℕ → ℕ → Bool) → IsView code view
+pub by-kinds : (code : Code) (view : View) (closing : ℕ) (kind : ℕ → ℕ) (relation : ℕ → ℕ → ℕ → ℕ → Bool) → IsView code view
     → view.inner ≡ 3 → closing < 7 → ((inner : ℕ) → length (view.closed inner) ≡ (if nat_eq inner closing then 1 else 0))
     → ((t : ℕ) → t < 8 → is_near closing t ≡ true → kind t ≡ kind closing)
     → ((t s : ℕ) → t < 8 → AgreeOn view.names (together code view (t + 8 * s)) (relation (kind t) s))

@@ -5,6 +5,7 @@ use Rattle.kh_types.specs.Code.{Code, arc_in}
 use Rattle.kh_types.specs.Residues.{HasInverses}
 use Rattle.cell_laws.specs.Cells.{dimension_at}
 use Rattle.cell_laws.specs.Cubes.{cube_of}
+use Rattle.order_laws.specs.Orders.{IsReordered}
 use Rattle.order_laws.specs.Orders.{listed_by}
 use Rattle.order_laws.proofs.Orders.{dimension-reordered}
 use Rattle.order_laws.proofs.AnyOrder.{accepted-reordered}
@@ -185,6 +186,20 @@ module _ (xs : List (List ℕ)) (c d e : ℕ) (c_below : c < length xs) (d_below
       subst (λ (n : ℕ). place_behind (place_behind e d) (place_behind e c) < n) (sym size-twice)
       (behind-below d_at (place_behind e c) (length (first_to e xs)) d_at-below
       (subst (λ (n : ℕ). place_behind e c < n) (sym size-once) (behind-below e c (length xs) e_below c_below)))
+
+  abbrev pub once_first : List (List ℕ)
+  once_first = first_to e xs
+
+  abbrev pub twice_first : List (List ℕ)
+  twice_first = first_to (place_behind e d) (first_to e xs)
+
+  pub orders-three : IsReordered xs (first_to e xs) × IsReordered (first_to e xs) (first_to (place_behind e d) (first_to e xs))
+      × IsReordered (first_to (place_behind e d) (first_to e xs)) (three_first c d e xs)
+  orders-three = (
+    first-reordered e xs [] e_below,
+    first-reordered d_at (first_to e xs) [] d_at-below,
+    first-reordered c_at (first_to d_at (first_to e xs)) [] c_at-below,
+  )
 
   pub dimension-three : (p loops plus minus : ℕ) → HasInverses p → (i j : ℤ)
       → dimension_at p (cube_of p (record { crossings = three_first c d e xs; loops = loops }) plus minus) i j

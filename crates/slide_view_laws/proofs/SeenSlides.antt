@@ -15,7 +15,7 @@ use Rattle.slide_view_laws.specs.SeenSlides.{HasSeenSlide, IsInOrder}
 use Rattle.slide_view_laws.specs.SlidMoves.{IsSlidFrom, new_number}
 use Rattle.slide_view_laws.specs.SlideViews.{slide_view, three_first}
 use Rattle.slide_view_laws.specs.Triangles.{closing}
-use Rattle.slide_view_laws.proofs.FrontTriangles.{IsRenumberedOnto-three, IsSlid-three, accepted-three, dimension-three, length-three}
+use Rattle.slide_view_laws.proofs.FrontTriangles.{IsRenumberedOnto-three, IsSlid-three, accepted-three, dimension-three, length-three, once_first, orders-three, twice_first}
 use Rattle.slide_view_laws.proofs.Moves.{IsSlidFrom-moved}
 use Rattle.slide_view_laws.proofs.RenamedViews.{IsView-renamed, SeeAlike-renamed}
 use Rattle.slide_view_laws.proofs.SlideFacts.{IsView-old, IsView-new, see-kind_before, see-kind_after, view-same}
@@ -35,6 +35,10 @@ IsInOrder-three : (code : Code) (c d e : ℕ) → IsTrue (accepted code) → c <
 IsInOrder-three code c d e holds c_below d_below e_below = record {
   accepted_too = accepted-three code.crossings c d e c_below d_below e_below code.loops holds;
   size = length-three code.crossings c d e c_below d_below e_below;
+  loops = refl;
+  once = once_first code.crossings c d e c_below d_below e_below;
+  twice = twice_first code.crossings c d e c_below d_below e_below;
+  orders = orders-three code.crossings c d e c_below d_below e_below;
   dimensions = λ p plus minus field i j.
       dimension-three code.crossings c d e c_below d_below e_below p code.loops plus minus field i j;
 }

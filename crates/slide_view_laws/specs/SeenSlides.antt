@@ -1,11 +1,12 @@
 -- A slide as the layers of two views need it.
-use Rattle.std.specs.Prelude.{◌≡◌, ℕ, ℤ, ◌+◌, ◌*◌, ◌<◌, length, nat_eq, if◌then◌else◌, IsTrue}
+use Rattle.std.specs.Prelude.{◌≡◌, ℕ, ℤ, ◌+◌, ◌*◌, ◌<◌, List, length, nat_eq, if◌then◌else◌, IsTrue}
 use Rattle.kh_types.specs.Acceptance.{accepted}
 use Rattle.kh_types.specs.Code.{Code}
 use Rattle.kh_types.specs.Directions.{plus_count, minus_count}
 use Rattle.kh_types.specs.Residues.{HasInverses}
 use Rattle.cell_laws.specs.Cells.{dimension_at}
 use Rattle.cell_laws.specs.Cubes.{cube_of}
+use Rattle.order_laws.specs.Orders.{IsReordered}
 use Rattle.view_laws.specs.Views.{View, IsView, SeeAlike}
 use Rattle.layer_laws.specs.Slid.{kind_before, kind_after}
 
@@ -32,6 +33,10 @@ pub record IsSeenSlide (first second : Code) (first_view second_view : View) (cl
 pub record IsInOrder (code other : Code) : Type 0 where
   pub accepted_too : IsTrue (accepted other)
   pub size : length other.crossings ≡ length code.crossings
+  pub loops : other.loops ≡ code.loops
+  pub once : List (List ℕ)
+  pub twice : List (List ℕ)
+  pub orders : IsReordered code.crossings once × IsReordered once twice × IsReordered twice other.crossings
   pub dimensions : (p plus minus : ℕ) → HasInverses p → (i j : ℤ)
       → dimension_at p (cube_of p other plus minus) i j ≡ dimension_at p (cube_of p code plus minus) i j
 

@@ -29,13 +29,13 @@ use Rattle.square_laws.proofs.Products.{product_sum-zero}
 use Rattle.kh_types.proofs.Sums.{times-zero}
 
 -- the label degree falls by one, and the number of 1-smoothings rises by one
-quantum_same : (circles labels next_circles next_labels before after plus minus : ℕ)
+pub quantum_same : (circles labels next_circles next_labels before after plus minus : ℕ)
     → next_circles + 2 * labels + 1 ≡ circles + 2 * next_labels → after ≡ before + 1
     → pos next_circles -ℤ pos (2 * next_labels) +ℤ (pos (after + plus) -ℤ pos (2 * minus))
     ≡ pos circles -ℤ pos (2 * labels) +ℤ (pos (before + plus) -ℤ pos (2 * minus))
 quantum_same circles labels next_circles next_labels before after plus minus lower up = omega (arith, ints)
 
-homological_next : (before after minus : ℕ) → after ≡ before + 1 → pos after -ℤ pos minus ≡ pos before -ℤ pos minus +ℤ pos 1
+pub homological_next : (before after minus : ℕ) → after ≡ before + 1 → pos after -ℤ pos minus ≡ pos before -ℤ pos minus +ℤ pos 1
 homological_next before after minus up = omega (arith, ints)
 
 next-fits : (code : Code) (tail head : Generator) (crossing : ℕ) → IsTrue (accepted code) → IsCrossing code.crossings crossing
@@ -126,7 +126,7 @@ product_sum-at p code i j tail head positive is passes =
 
 -- at most one crossing leads from a state to another, so a coefficient is one sign or 0
 
-sum_by-small : (f : ℕ → ℕ) (a n bound : ℕ) → 0 < bound → ((x : ℕ) → f x < bound)
+pub sum_by-small : (f : ℕ → ℕ) (a n bound : ℕ) → 0 < bound → ((x : ℕ) → f x < bound)
     → ((x y : ℕ) → a ≤ x → x < y → (f x ≡ 0) ⊎ (f y ≡ 0)) → sum_by f (range_with_len a n) < bound
 sum_by-small f a zero bound positive small one = positive
 sum_by-small f a (suc n) bound positive small one = elim (cases_eq (f a) 0) [

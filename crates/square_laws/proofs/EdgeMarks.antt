@@ -107,11 +107,11 @@ pub record IsEnd (code : Code) (state crossing mark : ℕ) : Type 0 where
       + hits code state (mark ∷ marked) (arc_at_slot code crossing 2)
       ≡ hits code state marked (arc_at_slot code crossing 0) + hits code state marked (arc_at_slot code crossing 2) + 1
 
-hits-there : (code : Code) (state mark : ℕ) (marked : List ℕ) (arc : ℕ) → circle_in code state mark ≡ circle_in code state arc
+pub hits-there : (code : Code) (state mark : ℕ) (marked : List ℕ) (arc : ℕ) → circle_in code state mark ≡ circle_in code state arc
     → hits code state (mark ∷ marked) arc ≡ 1 + hits code state marked arc
 hits-there code state mark marked arc same = grind (arith, nat_tests, hits-cons, hits, eq-eqb, circle_in)
 
-hits-elsewhere : (code : Code) (state mark : ℕ) (marked : List ℕ) (arc : ℕ) → circle_in code state mark ≢ circle_in code state arc
+pub hits-elsewhere : (code : Code) (state mark : ℕ) (marked : List ℕ) (arc : ℕ) → circle_in code state mark ≢ circle_in code state arc
     → hits code state (mark ∷ marked) arc ≡ hits code state marked arc
 hits-elsewhere code state mark marked arc other = grind (arith, nat_tests, hits-cons, hits, ne_eqb, circle_in)
 

@@ -51,7 +51,7 @@ IsName-marked_by code generator =
     (IsName-names code generator.state)
 
 -- each mark is on one circle
-hits-total : (code : Code) (state : ℕ) (marked : List ℕ) → IsTrue (accepted code) → All (IsName code) marked
+pub hits-total : (code : Code) (state : ℕ) (marked : List ℕ) → IsTrue (accepted code) → All (IsName code) marked
     → sum_by (hits code state marked) (circle_names code state) ≡ length marked
 hits-total code state [] is names = grind (arith, nat_tests, sum_by-zeros, hits, hits-sum)
 hits-total code state (mark ∷ marked) is names =

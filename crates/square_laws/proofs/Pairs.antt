@@ -92,19 +92,19 @@ state_sum-other p code tail head a b state other =
     ])
 
 -- two states at opposite corners of a square
-record AreCorners (tail head a b : ℕ) : Type 0 where
-  zero_a : bit tail (place_of a) ≡ 0
-  zero_b : bit tail (place_of b) ≡ 0
-  behind : head ≡ state_behind (state_behind tail a) b
+pub record AreCorners (tail head a b : ℕ) : Type 0 where
+  pub zero_a : bit tail (place_of a) ≡ 0
+  pub zero_b : bit tail (place_of b) ≡ 0
+  pub behind : head ≡ state_behind (state_behind tail a) b
 
-corners_or_not : (tail head a b : ℕ) → AreCorners tail head a b ⊎ (AreCorners tail head a b → ⊥)
+pub corners_or_not : (tail head a b : ℕ) → AreCorners tail head a b ⊎ (AreCorners tail head a b → ⊥)
 corners_or_not tail head a b = grind (arith, nat_tests)
 
-corners-turned : (tail head a b : ℕ) → AreCorners tail head a b → AreCorners tail head b a
+pub corners-turned : (tail head a b : ℕ) → AreCorners tail head a b → AreCorners tail head b a
 corners-turned tail head a b corners = omega arith
 
 -- two steps lead from corner to corner, along two crossings
-corners-steps : (tail middle head a b : ℕ) → place_of a ≢ place_of b → IsStep tail middle a → IsStep middle head b
+pub corners-steps : (tail middle head a b : ℕ) → place_of a ≢ place_of b → IsStep tail middle a → IsStep middle head b
     → AreCorners tail head a b
 corners-steps tail middle head a b differ step later = grind (arith, nat_tests, bit-set_other)
 
@@ -168,7 +168,7 @@ pair_sum-outside : (p : ℕ) (code : Code) (tail head : Generator) (a b : ℕ) �
     → pair_sum p code tail head a b ≡ 0
 pair_sum-outside p code tail head a b outside = grind (arith, nat_tests, pair_sum-states, sum_by-none, state_sum-other)
 
-zeros-mod : (p x y : ℕ) → x ≡ 0 → y ≡ 0 → (x + y) % p ≡ 0
+pub zeros-mod : (p x y : ℕ) → x ≡ 0 → y ≡ 0 → (x + y) % p ≡ 0
 zeros-mod p x y is_x is_y = ap₂ (λ u v. (u + v) % p) is_x is_y ∙ zero-mod p
 
 -- the two ways have opposite signs and as many labels

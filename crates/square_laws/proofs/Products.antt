@@ -13,7 +13,7 @@ use Rattle.kh_types.proofs.ListSums.{sum_by-alike, sum_by-plus, sum_by-times, su
 use Rattle.square_laws.proofs.Pairs.{pair_sum, pair_sum-same, pairs-cancel, product_at}
 
 -- a product of sums
-product-sums : {X : Type 0} (f g : X → ℕ) (xs ys : List X)
+pub product-sums : {X : Type 0} (f g : X → ℕ) (xs ys : List X)
     → sum_by f xs * sum_by g ys ≡ sum_by (λ y. sum_by (λ x. f x * g y) xs) ys
 product-sums {X} f g xs ys =
     let times : (n : ℕ) → sum_by (λ x. f x * n) xs ≡ n * sum_by f xs =
@@ -37,7 +37,7 @@ sum_by-mod p f a (suc n) zeros =
     (sum_by-mod p f (a + 1) n (λ x above below. zeros x (omega arith) (omega arith)))
 
 -- the sum over all pairs of numbers from 1 to n
-abbrev pairs_to : (ℕ → ℕ → ℕ) → ℕ → ℕ
+abbrev pub pairs_to : (ℕ → ℕ → ℕ) → ℕ → ℕ
 pairs_to f n = sum_by (λ a. sum_by (f a) (range_with_len 1 n)) (range_with_len 1 n)
 
 pairs_to-more : (f : ℕ → ℕ → ℕ) (n k : ℕ) → 1 + n ≡ k
@@ -49,7 +49,7 @@ pairs_to-more f n k is_k =
     ∙ sum_by-range_more (λ a. row a + f a k) 1 n k is_k
     ∙ omega (arith, sum_by-plus row (λ a. f a k) (range_with_len 1 n), sum_by-plus (λ a. f a k) (f k) (range_with_len 1 n))
 
-pairs_to-mod : (p : ℕ) (f : ℕ → ℕ → ℕ) (n : ℕ) → ((a b : ℕ) → 1 ≤ a → a < b → b ≤ n → (f a b + f b a) % p ≡ 0)
+pub pairs_to-mod : (p : ℕ) (f : ℕ → ℕ → ℕ) (n : ℕ) → ((a b : ℕ) → 1 ≤ a → a < b → b ≤ n → (f a b + f b a) % p ≡ 0)
     → ((a : ℕ) → f a a ≡ 0) → pairs_to f n % p ≡ 0
 pairs_to-mod p f zero cancel none = zero-mod p
 pairs_to-mod p f (suc n) cancel none =

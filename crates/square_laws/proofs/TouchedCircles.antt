@@ -47,11 +47,11 @@ pub two_in : (x k g : ℕ) → Contains (k ∷ g ∷ []) x → (x ≡ k) ⊎ (x 
 two_in x k g has3 = grind (arith, nat_tests)
 
 -- the circles that become one are touched, before and after
-touched-on : (code : Code) (before crossing arc : ℕ) → IsOn code before crossing arc
+pub touched-on : (code : Code) (before crossing arc : ℕ) → IsOn code before crossing arc
     → is_touched code before crossing (circle_in code before arc) ≡ true
 touched-on code before crossing arc on = grind (arith, nat_tests)
 
-touched-on_after : (code : Code) (before after crossing arc : ℕ) → IsMerge code before after crossing → IsOn code before crossing arc
+pub touched-on_after : (code : Code) (before after crossing arc : ℕ) → IsMerge code before after crossing → IsOn code before crossing arc
     → is_touched code after crossing (circle_in code after arc) ≡ true
 touched-on_after code before after crossing arc merge on = grind (arith, nat_tests)
 
@@ -62,7 +62,7 @@ not_greatest : (p q c : ℕ) → c ≢ p → c ≢ q → c ≢ max p q
 not_greatest p q c not_p not_q = grind arith
 
 -- all others are not touched, and stay
-touched-off : (code : Code) (before after crossing arc : ℕ) → IsTrue (accepted code) → IsMerge code before after crossing
+pub touched-off : (code : Code) (before after crossing arc : ℕ) → IsTrue (accepted code) → IsMerge code before after crossing
     → IsName code arc → IsOff code before crossing arc → is_touched code before crossing (circle_in code before arc) ≡ false
 touched-off code before after crossing arc is merge name off =
     let p = circle_at_slot code before crossing 0 in
@@ -79,7 +79,7 @@ circle-off : (code : Code) (before after crossing arc : ℕ) → IsMerge code be
     → circle_in code after arc ≡ circle_in code before arc
 circle-off code before after crossing arc merge off = omega arith
 
-touched-off_after : (code : Code) (before after crossing arc : ℕ) → IsTrue (accepted code) → IsMerge code before after crossing
+pub touched-off_after : (code : Code) (before after crossing arc : ℕ) → IsTrue (accepted code) → IsMerge code before after crossing
     → IsName code arc → IsOff code before crossing arc → is_touched code after crossing (circle_in code after arc) ≡ false
 touched-off_after code before after crossing arc is merge name off =
     let p = circle_at_slot code before crossing 0 in
@@ -92,17 +92,17 @@ touched-off_after code before after crossing arc is merge name off =
     (Contains-touched code after crossing c (IsCircle-of code after arc is name) touches))))
 
 -- the test of the labels that stay, where the circles touched are those on which arcs are `IsOn` in a state
-record Keeps (code : Code) (tail head two : ℕ) (crossing : ℕ) : Type 0 where
-  on : (arc : ℕ) → IsOn code two crossing arc → is_touched code tail crossing (circle_in code tail arc) ≡ true
-  off : (arc : ℕ) → IsName code arc → IsOff code two crossing arc → is_touched code tail crossing (circle_in code tail arc) ≡ false
-  together : (arc other : ℕ) → IsOff code two crossing arc → circle_in code tail arc ≡ circle_in code tail other
+pub record Keeps (code : Code) (tail head two : ℕ) (crossing : ℕ) : Type 0 where
+  pub on : (arc : ℕ) → IsOn code two crossing arc → is_touched code tail crossing (circle_in code tail arc) ≡ true
+  pub off : (arc : ℕ) → IsName code arc → IsOff code two crossing arc → is_touched code tail crossing (circle_in code tail arc) ≡ false
+  pub together : (arc other : ℕ) → IsOff code two crossing arc → circle_in code tail arc ≡ circle_in code tail other
       → circle_in code head arc ≡ circle_in code head other
 
-abbrev SameOff : Code → Generator → Generator → ℕ → ℕ → Type 0
+abbrev pub SameOff : Code → Generator → Generator → ℕ → ℕ → Type 0
 SameOff code tail head two crossing =
     (arc : ℕ) → IsName code arc → IsOff code two crossing arc → label_of code tail arc ≡ label_of code head arc
 
-keeps-decides : (code : Code) (tail head : Generator) (two crossing : ℕ) → IsTrue (accepted code)
+pub keeps-decides : (code : Code) (tail head : Generator) (two crossing : ℕ) → IsTrue (accepted code)
     → Keeps code tail.state head.state two crossing
     → Decides (keeps_labels code tail head crossing) (SameOff code tail head two crossing)
 keeps-decides code tail head two crossing is keeps =
@@ -148,7 +148,7 @@ split_table : (p q r : ℕ) → p ≤ 1 → q ≤ 1 → r ≤ 1
 split_table p q r p_small q_small r_small = grind (arith, nat_tests)
 
 -- the labels of the names of two circles that become one are those of the arcs at the slots 0 and 2
-labels-two : (code : Code) (two : Generator) (after crossing : ℕ) → IsTrue (accepted code) → IsMerge code two.state after crossing
+pub labels-two : (code : Code) (two : Generator) (after crossing : ℕ) → IsTrue (accepted code) → IsMerge code two.state after crossing
     → label_of code two (min (circle_at_slot code two.state crossing 0) (circle_at_slot code two.state crossing 2))
     + label_of code two (max (circle_at_slot code two.state crossing 0) (circle_at_slot code two.state crossing 2))
     ≡ label_at code two crossing 0 + label_at code two crossing 2
@@ -163,7 +163,7 @@ labels-two code two after crossing is merge =
     either_way : (f : ℕ → ℕ) (p q : ℕ) → f (min p q) + f (max p q) ≡ f p + f q
     either_way f p q = grind arith
 
-label-one : (code : Code) (before crossing : ℕ) (one : Generator) → IsTrue (accepted code) → IsMerge code before one.state crossing
+pub label-one : (code : Code) (before crossing : ℕ) (one : Generator) → IsTrue (accepted code) → IsMerge code before one.state crossing
     → label_of code one (min (circle_at_slot code before crossing 0) (circle_at_slot code before crossing 2)) ≡ label_at code one crossing 0
 label-one code before crossing one is merge =
     let x = arc_at_slot code crossing 0 in

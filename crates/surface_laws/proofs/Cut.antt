@@ -1,11 +1,13 @@
--- A surface cut along any list of circles.
+-- A surface cut along any list of circles: one after another, each of them modulo p (OneCut).
 use Rattle.std.proofs.Common.{◌≡◌, ℕ, suc, ◌+◌, ◌*◌, ◌^◌, ◌<◌, ◌∙◌, List, [], ◌∷◌, map, length, sym, ap, ap₂, append_assoc, append-nil, arith}
 use Rattle.std.specs.List.{sum_by, AllByRecursion, Contains}
 use Rattle.std.proofs.Math.Nat.{pow-suc}
 use Rattle.std.proofs.lemmas.List.Sums.{sum_by-append}
 use Rattle.kh_types.specs.Classes.{AreBelow}
 use Rattle.kh_types.specs.Products.{sum_below}
-use Rattle.kh_types.proofs.Sums.{sum_below-equal}
+use Rattle.kh_types.specs.Residues.{Same}
+use Rattle.kh_types.proofs.Residues.{same-equal}
+use Rattle.kh_types.proofs.Sums.{sum_below-same}
 use Rattle.kh_types.proofs.ListSums.{sum_by-map}
 use Rattle.kh_types.proofs.Lists.{AllByRecursion-append, AllByRecursion-at}
 use Rattle.surface_laws.specs.Surfaces.{Surface, component_of, faces_on, lowers_on, raises_on, IsClosed, value, IsPlaced}
@@ -49,9 +51,9 @@ IsClosed-caps surface circles label other closed =
 
 -- the surface that is opened at the first circle, and capped at the others
 first-opened : (surface : Surface) (circle : ℕ × ℕ) (circles : List (ℕ × ℕ)) (label : ℕ)
-    → IsClosed (capped surface (circle ∷ circles) 0) → IsClosed (opened (capped surface circles label) circle.0 0 circle.1 1)
+    → IsClosed (capped surface (circle ∷ circles) 0) → IsClosed (opened (capped surface circles label) circle.0 0 circle.1 2)
 first-opened surface circle circles label closed =
-    let more : List (ℕ × ℕ) = (circle.0, 0) ∷ (circle.1, 1) ∷ caps circles label in
+    let more : List (ℕ × ℕ) = (circle.0, 0) ∷ (circle.1, 2) ∷ caps circles label in
     IsClosed-marks surface (caps (circle ∷ circles) 0) more
     (places-caps (circle ∷ circles) 0 (2 * label) ∙ ap (λ fs. map place_of_face fs) (caps-even circle circles label)) closed
 
@@ -94,38 +96,48 @@ IsCuttable-rest surface circle circles cuttable = record {
       ((below-size surface circle.0 cuttable.places cuttable.on.0.0, below-size surface circle.1 cuttable.places cuttable.on.0.1), tt);
   places = cuttable.places;
   on = cuttable.on.1;
-  closed = IsClosed-tied (capped surface circles 0) circle.0 0 circle.1 1 cuttable.on.0.0 cuttable.on.0.1
+  closed = IsClosed-tied (capped surface circles 0) circle.0 0 circle.1 2 cuttable.on.0.0 cuttable.on.0.1
       (first-opened surface circle circles 0 cuttable.closed);
 }
 
 -- both labels of the first circle
-first-circle : (surface : Surface) (circle : ℕ × ℕ) (circles : List (ℕ × ℕ)) (label : ℕ) → IsCuttable surface (circle ∷ circles)
-    → value (capped surface (circle ∷ circles) (2 * label)) + value (capped surface (circle ∷ circles) (2 * label + 1))
-    ≡ value (capped (tied surface circle.0 circle.1) circles label)
-first-circle surface circle circles label cuttable =
-    ap₂ (λ (x y : List (ℕ × ℕ)). value (with_faces surface x) + value (with_faces surface y)) (caps-even circle circles label)
-    (caps-odd circle circles label)
-    ∙ value-tied (capped surface circles label) circle.0 circle.1 cuttable.joins
+first-circle : (p h k : ℕ) (surface : Surface) (circle : ℕ × ℕ) (circles : List (ℕ × ℕ)) (label : ℕ) → Same p (h + k) 0
+    → IsCuttable surface (circle ∷ circles)
+    → Same p
+    (value h k (capped surface (circle ∷ circles) (2 * label)) + value h k (capped surface (circle ∷ circles) (2 * label + 1)))
+    (value h k (capped (tied surface circle.0 circle.1) circles label))
+first-circle p h k surface circle circles label none cuttable =
+    let more = caps circles label in
+    same-equal p
+    (value h k (capped surface (circle ∷ circles) (2 * label)) + value h k (capped surface (circle ∷ circles) (2 * label + 1)))
+    (value h k (with_faces surface ((circle.0, 0) ∷ (circle.1, 2) ∷ more))
+    + value h k (with_faces surface ((circle.0, 1) ∷ (circle.1, 0) ∷ more)))
+    (ap₂ (λ (x y : List (ℕ × ℕ)). value h k (with_faces surface x) + value h k (with_faces surface y))
+    (caps-even circle circles label) (caps-odd circle circles label))
+    ∙ value-tied p h k (capped surface circles label) circle.0 circle.1 none cuttable.joins
     (below-size surface circle.0 cuttable.places cuttable.on.0.0) (below-size surface circle.1 cuttable.places cuttable.on.0.1)
     cuttable.on.0.0 cuttable.on.0.1 (first-opened surface circle circles label cuttable.closed)
 
-pub value-glued : (surface : Surface) (circles : List (ℕ × ℕ)) → IsCuttable surface circles
-    → sum_over_labels surface circles ≡ value (glued surface circles)
-value-glued surface [] cuttable =
-    plus_zero (value (with_faces surface [])) ∙ ap value (sym (glued-none surface))
+pub value-glued : (p h k : ℕ) (surface : Surface) (circles : List (ℕ × ℕ)) → Same p (h + k) 0 → IsCuttable surface circles
+    → Same p (sum_over_labels h k surface circles) (value h k (glued surface circles))
+value-glued p h k surface [] none cuttable =
+    same-equal p (sum_over_labels h k surface []) (value h k (glued surface []))
+    (plus_zero (value h k (with_faces surface [])) ∙ ap (value h k) (sym (glued-none surface)))
   where
     plus_zero : (x : ℕ) → x + 0 ≡ x
     plus_zero x = omega arith
-value-glued surface (circle ∷ circles) cuttable =
+value-glued p h k surface (circle ∷ circles) none cuttable =
     let twice : 2 ^ suc (length circles) ≡ 2 * 2 ^ length circles = omega (arith, pow-suc 2 (length circles)) in
-    let cut : ℕ → ℕ = λ label. value (capped surface (circle ∷ circles) label) in
-    ap (λ n. sum_below n cut) twice
-    ∙ sum_below-twice (2 ^ length circles) cut
-    ∙ sum_below-equal (2 ^ length circles) (λ label. cut (2 * label) + cut (2 * label + 1))
-    (λ label. value (capped (tied surface circle.0 circle.1) circles label))
-    (λ label. first-circle surface circle circles label cuttable)
-    ∙ value-glued (tied surface circle.0 circle.1) circles (IsCuttable-rest surface circle circles cuttable)
-    ∙ ap value (glued-first surface circle circles)
+    let cut : ℕ → ℕ = λ label. value h k (capped surface (circle ∷ circles) label) in
+    let rest : ℕ → ℕ = λ label. value h k (capped (tied surface circle.0 circle.1) circles label) in
+    let pairs : ℕ → ℕ = λ label. cut (2 * label) + cut (2 * label + 1) in
+    same-equal p (sum_below (2 ^ suc (length circles)) cut) (sum_below (2 ^ length circles) pairs)
+    (ap (λ n. sum_below n cut) twice ∙ sum_below-twice (2 ^ length circles) cut)
+    ∙ sum_below-same p (2 ^ length circles) pairs rest
+    (λ label. first-circle p h k surface circle circles label none cuttable)
+    ∙ value-glued p h k (tied surface circle.0 circle.1) circles none (IsCuttable-rest surface circle circles cuttable)
+    ∙ same-equal p (value h k (glued (tied surface circle.0 circle.1) circles)) (value h k (glued surface (circle ∷ circles)))
+    (ap (value h k) (glued-first surface circle circles))
 
 closed_as : (surface other : Surface) → surface ≡ other → IsClosed surface → IsClosed other
 closed_as surface other same closed = rw (sym same) closed

@@ -41,7 +41,7 @@ caps-later : (circles : List (ℕ × ℕ)) (label k : ℕ)
     → flat_map (caps_at label) (enumerate_from (k + 1) circles) ≡ flat_map (caps_at (label / 2)) (enumerate_from k circles)
 caps-later [] label k = refl
 caps-later (circle ∷ circles) label k =
-    ap₂ (λ (b : ℕ) (rest : List (ℕ × ℕ)). (circle.0, b) ∷ (circle.1, 1 - b) ∷ rest) (bit-next label k)
+    ap₂ (λ (b : ℕ) (rest : List (ℕ × ℕ)). (circle.0, b) ∷ (circle.1, 2 * (1 - b)) ∷ rest) (bit-next label k)
     (caps-later circles label (k + 1))
 
 bit-even : (l : ℕ) → bit (2 * l) 0 ≡ 0
@@ -57,15 +57,15 @@ half-odd : (l : ℕ) → (2 * l + 1) / 2 ≡ l
 half-odd l = omega arith
 
 pub caps-even : (circle : ℕ × ℕ) (circles : List (ℕ × ℕ)) (label : ℕ)
-    → caps (circle ∷ circles) (2 * label) ≡ (circle.0, 0) ∷ (circle.1, 1) ∷ caps circles label
+    → caps (circle ∷ circles) (2 * label) ≡ (circle.0, 0) ∷ (circle.1, 2) ∷ caps circles label
 caps-even circle circles label =
-    ap₂ (λ (b : ℕ) (rest : List (ℕ × ℕ)). (circle.0, b) ∷ (circle.1, 1 - b) ∷ rest) (bit-even label)
+    ap₂ (λ (b : ℕ) (rest : List (ℕ × ℕ)). (circle.0, b) ∷ (circle.1, 2 * (1 - b)) ∷ rest) (bit-even label)
     (caps-later circles (2 * label) 0 ∙ ap (λ l. caps circles l) (half-even label))
 
 pub caps-odd : (circle : ℕ × ℕ) (circles : List (ℕ × ℕ)) (label : ℕ)
     → caps (circle ∷ circles) (2 * label + 1) ≡ (circle.0, 1) ∷ (circle.1, 0) ∷ caps circles label
 caps-odd circle circles label =
-    ap₂ (λ (b : ℕ) (rest : List (ℕ × ℕ)). (circle.0, b) ∷ (circle.1, 1 - b) ∷ rest) (bit-odd label)
+    ap₂ (λ (b : ℕ) (rest : List (ℕ × ℕ)). (circle.0, b) ∷ (circle.1, 2 * (1 - b)) ∷ rest) (bit-odd label)
     (caps-later circles (2 * label + 1) 0 ∙ ap (λ l. caps circles l) (half-odd label))
 
 -- the places of the discs do not depend on the labels

@@ -1,31 +1,37 @@
 -- A surface cut along one circle.
 --
 -- A surface is cut along one circle where a join of two faces is left out and a disc, with a label, is put on either side. Either the two
--- sides are apart after the cut, or still one component, of one genus less. In both cases the value is the sum over the two labels of the
--- values of the cut surface: a table of weights (Tables) that is checked case by case.
-use Rattle.std.proofs.Common.{◌≡◌, ◌≢◌, ℕ, ◌⊎◌, inl, inr, ◌+◌, ◌*◌, ◌<◌, ◌∙◌, List, [], ◌∷◌, refl, sym, ap, ap₂, arith, true, cond, eq-eqb}
+-- sides are apart after the cut, or still one component, of one genus less. In both cases the value is, modulo p, the sum over the two
+-- labels of the values of the cut surface: so it is with weights (Weights).
+use Rattle.std.proofs.Common.{◌≡◌, ◌≢◌, ℕ, suc, ◌⊎◌, inl, inr, ◌+◌, ◌*◌, ◌/◌, ◌%◌, ◌<◌, ◌∙◌, List, [], ◌∷◌, refl, sym, ap, ap₂, arith, true, cond, eq-eqb}
 use Rattle.std.specs.Prelude.{nat_eq, min, max}
 use Rattle.std.specs.List.{sum_by, Contains}
 use Rattle.std.proofs.lemmas.Bool.{cases_eq, cases_lt}
 use Rattle.std.proofs.lemmas.Bool.Decides.{nat_tests}
 use Rattle.std.proofs.lemmas.List.Sums.{sum_by-cons}
 use Rattle.kh_types.specs.Classes.{AreBelow}
+use Rattle.kh_types.specs.Residues.{Same}
 use Rattle.kh_types.proofs.ClassLemmas.{merged-others}
 use Rattle.kh_types.proofs.JoinedClasses.{merged-same}
 use Rattle.kh_types.proofs.EdgeNames.{becomes_least}
-use Rattle.surface_laws.specs.Surfaces.{Surface, component_of, is_component, faces_on, marks_on, lowers_on, raises_on, HasGenus, IsClosed, weight, factor, value, product_below}
+use Rattle.kh_types.proofs.Residues.{same-mul, same-equal}
+use Rattle.surface_laws.specs.Surfaces.{Surface, component_of, is_component, faces_on, dots_on, hollows_on, lowers_on, raises_on, HasGenus, IsClosed, weight, factor, value, product_below}
 use Rattle.surface_laws.specs.Cuts.{with_faces}
 use Rattle.surface_laws.proofs.Products.{without, rest_of, product_below-without, product_below-two, rest_of-alike, without-alike}
 use Rattle.surface_laws.proofs.Components.{list_any-contained, component-below}
-use Rattle.surface_laws.proofs.Factors.{AreAlike, HaveOneCount-each, factor-alike, genus-alike, factor-at, factor-none, weight-apart, weight-together}
+use Rattle.surface_laws.proofs.Factors.{AreAlike, HaveOneCount-each, factor-alike, genus-alike, factor-at, factor-none}
+use Rattle.surface_laws.proofs.Weights.{weight-apart, weight-together}
 use Rattle.surface_laws.proofs.JoinedCounts.{tied, component_of-tied, amount_at, sum_at-others, sum_at-same, sum_at-lesser, is_component-others, is_component-lesser, is_component-greater}
 
 -- how the counts are sums over places
 abbrev pub place_of_face : ℕ × ℕ → ℕ
 place_of_face face = face.0
 
-abbrev pub marks_of_face : ℕ × ℕ → ℕ
-marks_of_face face = face.1
+abbrev pub dots_of_face : ℕ × ℕ → ℕ
+dots_of_face face = face.1 % 2
+
+abbrev pub hollows_of_face : ℕ × ℕ → ℕ
+hollows_of_face face = face.1 / 2
 
 abbrev pub one_face : ℕ × ℕ → ℕ
 one_face face = 1
@@ -36,7 +42,7 @@ itself place = place
 abbrev pub one_place : ℕ → ℕ
 one_place place = 1
 
--- the surface with a disc at a, with i marks, and one at b, with j marks
+-- the surface with a disc at a, with the mark i, and one at b, with the mark j
 abbrev pub opened : Surface → ℕ → ℕ → ℕ → ℕ → Surface
 opened surface a i b j = with_faces surface ((a, i) ∷ (b, j) ∷ [])
 
@@ -52,13 +58,23 @@ faces_on-opened surface a i b j k =
     let second : ℕ × ℕ = (b, j) in
     two-before (amount_at surface k place_of_face one_face) first second surface.faces
 
-marks_on-opened : (surface : Surface) (a i b j k : ℕ)
-    → marks_on (opened surface a i b j) k
-    ≡ cond (nat_eq (component_of surface a) k) i 0 + (cond (nat_eq (component_of surface b) k) j 0 + marks_on surface k)
-marks_on-opened surface a i b j k =
+dots_on-opened : (surface : Surface) (a i b j k : ℕ)
+    → dots_on (opened surface a i b j) k
+    ≡ cond (nat_eq (component_of surface a) k) (i % 2) 0
+    + (cond (nat_eq (component_of surface b) k) (j % 2) 0 + dots_on surface k)
+dots_on-opened surface a i b j k =
     let first : ℕ × ℕ = (a, i) in
     let second : ℕ × ℕ = (b, j) in
-    two-before (amount_at surface k place_of_face marks_of_face) first second surface.faces
+    two-before (amount_at surface k place_of_face dots_of_face) first second surface.faces
+
+hollows_on-opened : (surface : Surface) (a i b j k : ℕ)
+    → hollows_on (opened surface a i b j) k
+    ≡ cond (nat_eq (component_of surface a) k) (i / 2) 0
+    + (cond (nat_eq (component_of surface b) k) (j / 2) 0 + hollows_on surface k)
+hollows_on-opened surface a i b j k =
+    let first : ℕ × ℕ = (a, i) in
+    let second : ℕ × ℕ = (b, j) in
+    two-before (amount_at surface k place_of_face hollows_of_face) first second surface.faces
 
 two-others : (u v k x y z : ℕ) → k ≢ u → k ≢ v → cond (nat_eq u k) x 0 + (cond (nat_eq v k) y 0 + z) ≡ z
 two-others u v k x y z not_u not_v = grind (arith, nat_tests)
@@ -83,16 +99,18 @@ alike-others surface a i b j k not_a not_b =
       counts = HaveOneCount-each (opened surface a i b j) k (tied surface a b) k
           (faces_on-opened surface a i b j k ∙ two-others u v k 1 1 (faces_on surface k) not_a not_b
           ∙ sym (sum_at-others surface a b k place_of_face one_face surface.faces not_a not_b))
-          (marks_on-opened surface a i b j k ∙ two-others u v k i j (marks_on surface k) not_a not_b
-          ∙ sym (sum_at-others surface a b k place_of_face marks_of_face surface.faces not_a not_b))
+          (dots_on-opened surface a i b j k ∙ two-others u v k (i % 2) (j % 2) (dots_on surface k) not_a not_b
+          ∙ sym (sum_at-others surface a b k place_of_face dots_of_face surface.faces not_a not_b))
+          (hollows_on-opened surface a i b j k ∙ two-others u v k (i / 2) (j / 2) (hollows_on surface k) not_a not_b
+          ∙ sym (sum_at-others surface a b k place_of_face hollows_of_face surface.faces not_a not_b))
           (sym (sum_at-others surface a b k itself one_place surface.lowers not_a not_b))
           (sym (sum_at-others surface a b k itself one_place surface.raises not_a not_b));
     }
 
-factors-others : (surface : Surface) (a i b j k : ℕ) → k ≢ component_of surface a → k ≢ component_of surface b
-    → factor (opened surface a i b j) k ≡ factor (tied surface a b) k
-factors-others surface a i b j k not_a not_b =
-    factor-alike (opened surface a i b j) k (tied surface a b) k (alike-others surface a i b j k not_a not_b)
+factors-others : (h k : ℕ) (surface : Surface) (a i b j c : ℕ) → c ≢ component_of surface a → c ≢ component_of surface b
+    → factor h k (opened surface a i b j) c ≡ factor h k (tied surface a b) c
+factors-others h k surface a i b j c not_a not_b =
+    factor-alike h k (opened surface a i b j) c (tied surface a b) c (alike-others surface a i b j c not_a not_b)
 
 -- the component of a place is one
 pub is_component-of : (surface : Surface) (place : ℕ) → Contains surface.places place
@@ -140,61 +158,86 @@ by_size f u v = elim (cases_lt u v) [
     turned x y = omega arith
 
 -- the opened surface's number
-opened-apart : (surface : Surface) (a i b j g h : ℕ) → component_of surface a < surface.size → component_of surface b < surface.size
-    → Contains surface.places a → Contains surface.places b → component_of surface a ≢ component_of surface b
-    → HasGenus (opened surface a i b j) (component_of surface a) g → HasGenus (opened surface a i b j) (component_of surface b) h
-    → value (opened surface a i b j)
-    ≡ weight g (i + marks_on surface (component_of surface a)) * weight h (j + marks_on surface (component_of surface b))
-    * rest_of surface.size (component_of surface a) (component_of surface b) (factor (tied surface a b))
-opened-apart surface a i b j g h a_below b_below has_a has_b apart has_g has_h =
+opened-apart : (h k : ℕ) (surface : Surface) (a i b j g e : ℕ) → component_of surface a < surface.size
+    → component_of surface b < surface.size → Contains surface.places a → Contains surface.places b
+    → component_of surface a ≢ component_of surface b
+    → HasGenus (opened surface a i b j) (component_of surface a) g → HasGenus (opened surface a i b j) (component_of surface b) e
+    → value h k (opened surface a i b j)
+    ≡ weight h k g (i % 2 + dots_on surface (component_of surface a)) (i / 2 + hollows_on surface (component_of surface a))
+    * weight h k e (j % 2 + dots_on surface (component_of surface b)) (j / 2 + hollows_on surface (component_of surface b))
+    * rest_of surface.size (component_of surface a) (component_of surface b) (factor h k (tied surface a b))
+opened-apart h k surface a i b j g e a_below b_below has_a has_b apart has_g has_e =
     let u = component_of surface a in
     let v = component_of surface b in
     let cut = opened surface a i b j in
-    let at_u : factor cut u ≡ weight g (i + marks_on surface u) =
-    factor-at cut u g (is_component-of cut a has_a) has_g
-    ∙ ap (λ m. weight g m) (marks_on-opened surface a i b j u ∙ two-first u v i j (marks_on surface u) apart) in
-    let at_v : factor cut v ≡ weight h (j + marks_on surface v) =
-    factor-at cut v h (is_component-of cut b has_b) has_h
-    ∙ ap (λ m. weight h m) (marks_on-opened surface a i b j v ∙ two-second u v i j (marks_on surface v) apart) in
-    product_below-two surface.size u v (factor cut) a_below b_below apart
-    ∙ ap (λ z. z * rest_of surface.size u v (factor cut)) (ap₂ (λ x y. x * y) at_u at_v)
-    ∙ ap (λ z. weight g (i + marks_on surface u) * weight h (j + marks_on surface v) * z)
-    (rest_of-alike surface.size u v (factor cut) (factor (tied surface a b)) (factors-others surface a i b j))
+    let at_u : factor h k cut u ≡ weight h k g (i % 2 + dots_on surface u) (i / 2 + hollows_on surface u) =
+    factor-at h k cut u g (is_component-of cut a has_a) has_g
+    ∙ ap₂ (λ d o. weight h k g d o) (dots_on-opened surface a i b j u ∙ two-first u v (i % 2) (j % 2) (dots_on surface u) apart)
+    (hollows_on-opened surface a i b j u ∙ two-first u v (i / 2) (j / 2) (hollows_on surface u) apart) in
+    let at_v : factor h k cut v ≡ weight h k e (j % 2 + dots_on surface v) (j / 2 + hollows_on surface v) =
+    factor-at h k cut v e (is_component-of cut b has_b) has_e
+    ∙ ap₂ (λ d o. weight h k e d o) (dots_on-opened surface a i b j v ∙ two-second u v (i % 2) (j % 2) (dots_on surface v) apart)
+    (hollows_on-opened surface a i b j v ∙ two-second u v (i / 2) (j / 2) (hollows_on surface v) apart) in
+    product_below-two surface.size u v (factor h k cut) a_below b_below apart
+    ∙ ap (λ z. z * rest_of surface.size u v (factor h k cut)) (ap₂ (λ x y. x * y) at_u at_v)
+    ∙ ap (λ z. weight h k g (i % 2 + dots_on surface u) (i / 2 + hollows_on surface u)
+    * weight h k e (j % 2 + dots_on surface v) (j / 2 + hollows_on surface v) * z)
+    (rest_of-alike surface.size u v (factor h k cut) (factor h k (tied surface a b)) (factors-others h k surface a i b j))
 
 -- the glued surface's number
-tied-apart : (surface : Surface) (a i b j g h : ℕ) → component_of surface a < surface.size → component_of surface b < surface.size
-    → Contains surface.places a → component_of surface a ≢ component_of surface b
-    → HasGenus (opened surface a i b j) (component_of surface a) g → HasGenus (opened surface a i b j) (component_of surface b) h
-    → value (tied surface a b)
-    ≡ weight (g + h) (marks_on surface (component_of surface a) + marks_on surface (component_of surface b))
-    * rest_of surface.size (component_of surface a) (component_of surface b) (factor (tied surface a b))
-tied-apart surface a i b j g h a_below b_below has_a apart has_g has_h =
+tied-apart : (h k : ℕ) (surface : Surface) (a i b j g e : ℕ) → component_of surface a < surface.size
+    → component_of surface b < surface.size → Contains surface.places a → component_of surface a ≢ component_of surface b
+    → HasGenus (opened surface a i b j) (component_of surface a) g → HasGenus (opened surface a i b j) (component_of surface b) e
+    → value h k (tied surface a b)
+    ≡ weight h k (g + e) (dots_on surface (component_of surface a) + dots_on surface (component_of surface b))
+    (hollows_on surface (component_of surface a) + hollows_on surface (component_of surface b))
+    * rest_of surface.size (component_of surface a) (component_of surface b) (factor h k (tied surface a b))
+tied-apart h k surface a i b j g e a_below b_below has_a apart has_g has_e =
     let u = component_of surface a in
     let v = component_of surface b in
     let whole = tied surface a b in
-    let lesser : factor whole (min u v) ≡ weight (g + h) (marks_on surface u + marks_on surface v) =
-    factor-at whole (min u v) (g + h) (is_component-lesser surface a b has_a) (genus-apart surface a i b j g h apart has_g has_h)
-    ∙ ap (λ m. weight (g + h) m) (sum_at-lesser surface a b place_of_face marks_of_face surface.faces apart) in
-    let greater : factor whole (max u v) ≡ 1 = factor-none whole (max u v) (is_component-greater surface a b apart) in
-    product_below-two surface.size u v (factor whole) a_below b_below apart
-    ∙ ap (λ z. z * rest_of surface.size u v (factor whole))
-    (by_size (factor whole) u v ∙ ap₂ (λ x y. x * y) lesser greater
-    ∙ times_one (weight (g + h) (marks_on surface u + marks_on surface v)))
+    let both = weight h k (g + e) (dots_on surface u + dots_on surface v) (hollows_on surface u + hollows_on surface v) in
+    let lesser : factor h k whole (min u v) ≡ both =
+    factor-at h k whole (min u v) (g + e) (is_component-lesser surface a b has_a) (genus-apart surface a i b j g e apart has_g has_e)
+    ∙ ap₂ (λ d o. weight h k (g + e) d o) (sum_at-lesser surface a b place_of_face dots_of_face surface.faces apart)
+    (sum_at-lesser surface a b place_of_face hollows_of_face surface.faces apart) in
+    let greater : factor h k whole (max u v) ≡ 1 = factor-none h k whole (max u v) (is_component-greater surface a b apart) in
+    product_below-two surface.size u v (factor h k whole) a_below b_below apart
+    ∙ ap (λ z. z * rest_of surface.size u v (factor h k whole))
+    (by_size (factor h k whole) u v ∙ ap₂ (λ x y. x * y) lesser greater ∙ times_one both)
   where
     times_one : (x : ℕ) → x * 1 ≡ x
     times_one x = omega arith
 
-sum-apart : (g h m k r x y z : ℕ) → x ≡ weight g (0 + m) * weight h (1 + k) * r → y ≡ weight g (1 + m) * weight h (0 + k) * r
-    → z ≡ weight (g + h) (m + k) * r → x + y ≡ z
-sum-apart g h m k r x y z is_x is_y is_z =
-    let zero_m : 0 + m ≡ m = omega arith in
-    let zero_k : 0 + k ≡ k = omega arith in
-    ap₂ (λ s t. s + t) (is_x ∙ ap (λ n. weight g n * weight h (1 + k) * r) zero_m)
-    (is_y ∙ ap (λ n. weight g (1 + m) * weight h n * r) zero_k)
-    ∙ spread (weight g m * weight h (1 + k)) (weight g (1 + m) * weight h k) r
-    ∙ ap (λ s. s * r) (weight-apart g h m k) ∙ sym is_z
+-- a weight by other names of its counts
+weight-named : (h k g d o b c : ℕ) → d ≡ b → o ≡ c → weight h k g d o ≡ weight h k g b c
+weight-named h k g d o b c is_d is_o = ap₂ (λ x y. weight h k g x y) is_d is_o
+
+sum-apart : (p h k g e d o b c r x y z : ℕ) → Same p (h + k) 0
+    → x ≡ weight h k g (0 + d) (0 + o) * weight h k e (0 + b) (1 + c) * r
+    → y ≡ weight h k g (1 + d) (0 + o) * weight h k e (0 + b) (0 + c) * r → z ≡ weight h k (g + e) (d + b) (o + c) * r
+    → Same p (x + y) z
+sum-apart p h k g e d o b c r x y z none is_x is_y is_z =
+    let first : x ≡ weight h k g d o * weight h k e b (suc c) * r =
+    is_x
+    ∙ ap₂ (λ s t. s * t * r) (weight-named h k g (0 + d) (0 + o) d o (zero_plus d) (zero_plus o))
+    (weight-named h k e (0 + b) (1 + c) b (suc c) (zero_plus b) (omega arith)) in
+    let second : y ≡ weight h k g (suc d) o * weight h k e b c * r =
+    is_y
+    ∙ ap₂ (λ s t. s * t * r) (weight-named h k g (1 + d) (0 + o) (suc d) o (omega arith) (zero_plus o))
+    (weight-named h k e (0 + b) (0 + c) b c (zero_plus b) (zero_plus c)) in
+    same-equal p (x + y)
+    ((weight h k g (suc d) o * weight h k e b c + weight h k g d o * weight h k e b (suc c)) * r)
+    (ap₂ (λ s t. s + t) first second
+    ∙ spread (weight h k g d o * weight h k e b (suc c)) (weight h k g (suc d) o * weight h k e b c) r)
+    ∙ same-mul p (weight h k g (suc d) o * weight h k e b c + weight h k g d o * weight h k e b (suc c))
+    (weight h k (g + e) (d + b) (o + c)) r r (weight-apart p h k g d o e b c none) refl
+    ∙ same-equal p (weight h k (g + e) (d + b) (o + c) * r) z (sym is_z)
   where
-    spread : (s t r : ℕ) → s * r + t * r ≡ (s + t) * r
+    zero_plus : (x : ℕ) → 0 + x ≡ x
+    zero_plus x = omega arith
+
+    spread : (s t r : ℕ) → s * r + t * r ≡ (t + s) * r
     spread s t r = omega arith
 
 -- one component gets a handle
@@ -217,25 +260,28 @@ genus-together surface a i b j g same has =
     (sum_at-same surface a b u itself one_place surface.raises same)
     has
 
-others-once : (surface : Surface) (a i b j k : ℕ) → component_of surface a ≡ component_of surface b → k ≢ component_of surface a
-    → factor (opened surface a i b j) k ≡ factor (tied surface a b) k
-others-once surface a i b j k same not_a =
-    factors-others surface a i b j k not_a (λ is. not_a (is ∙ sym same))
+others-once : (h k : ℕ) (surface : Surface) (a i b j c : ℕ) → component_of surface a ≡ component_of surface b
+    → c ≢ component_of surface a → factor h k (opened surface a i b j) c ≡ factor h k (tied surface a b) c
+others-once h k surface a i b j c same not_a =
+    factors-others h k surface a i b j c not_a (λ is. not_a (is ∙ sym same))
 
-opened-together : (surface : Surface) (a i b j g : ℕ) → component_of surface a < surface.size → Contains surface.places a
-    → component_of surface a ≡ component_of surface b → HasGenus (opened surface a i b j) (component_of surface a) g
-    → value (opened surface a i b j)
-    ≡ weight g (i + (j + marks_on surface (component_of surface a)))
-    * product_below surface.size (without (component_of surface a) (factor (tied surface a b)))
-opened-together surface a i b j g a_below has_a same has =
+opened-together : (h k : ℕ) (surface : Surface) (a i b j g : ℕ) → component_of surface a < surface.size
+    → Contains surface.places a → component_of surface a ≡ component_of surface b
+    → HasGenus (opened surface a i b j) (component_of surface a) g
+    → value h k (opened surface a i b j)
+    ≡ weight h k g (i % 2 + (j % 2 + dots_on surface (component_of surface a)))
+    (i / 2 + (j / 2 + hollows_on surface (component_of surface a)))
+    * product_below surface.size (without (component_of surface a) (factor h k (tied surface a b)))
+opened-together h k surface a i b j g a_below has_a same has =
     let u = component_of surface a in
     let v = component_of surface b in
     let cut = opened surface a i b j in
-    product_below-without surface.size u (factor cut) a_below
+    product_below-without surface.size u (factor h k cut) a_below
     ∙ ap₂ (λ x y. x * y)
-    (factor-at cut u g (is_component-of cut a has_a) has
-    ∙ ap (λ m. weight g m) (marks_on-opened surface a i b j u ∙ two-both u v i j (marks_on surface u) same))
-    (without-alike surface.size u (factor cut) (factor (tied surface a b)) (λ k. others-once surface a i b j k same))
+    (factor-at h k cut u g (is_component-of cut a has_a) has
+    ∙ ap₂ (λ d o. weight h k g d o) (dots_on-opened surface a i b j u ∙ two-both u v (i % 2) (j % 2) (dots_on surface u) same)
+    (hollows_on-opened surface a i b j u ∙ two-both u v (i / 2) (j / 2) (hollows_on surface u) same))
+    (without-alike surface.size u (factor h k cut) (factor h k (tied surface a b)) (λ c. others-once h k surface a i b j c same))
 
 tied-component : (surface : Surface) (a b : ℕ) → component_of surface a ≡ component_of surface b → (x : ℕ)
     → component_of (tied surface a b) x ≡ component_of surface x
@@ -243,58 +289,65 @@ tied-component surface a b same x =
     component_of-tied surface a b x
     ∙ merged-same (component_of surface a) (component_of surface b) (component_of surface x) same
 
-tied-together : (surface : Surface) (a i b j g : ℕ) → component_of surface a < surface.size → Contains surface.places a
+tied-together : (h k : ℕ) (surface : Surface) (a i b j g : ℕ) → component_of surface a < surface.size → Contains surface.places a
     → component_of surface a ≡ component_of surface b → HasGenus (opened surface a i b j) (component_of surface a) g
-    → value (tied surface a b)
-    ≡ weight (g + 1) (marks_on surface (component_of surface a))
-    * product_below surface.size (without (component_of surface a) (factor (tied surface a b)))
-tied-together surface a i b j g a_below has_a same has =
+    → value h k (tied surface a b)
+    ≡ weight h k (g + 1) (dots_on surface (component_of surface a)) (hollows_on surface (component_of surface a))
+    * product_below surface.size (without (component_of surface a) (factor h k (tied surface a b)))
+tied-together h k surface a i b j g a_below has_a same has =
     let u = component_of surface a in
     let whole = tied surface a b in
     let is : is_component whole u ≡ true =
     ap (λ c. is_component whole c) (sym (tied-component surface a b same a)) ∙ is_component-of whole a has_a in
-    product_below-without surface.size u (factor whole) a_below
-    ∙ ap (λ x. x * product_below surface.size (without u (factor whole)))
-    (factor-at whole u (g + 1) is (genus-together surface a i b j g same has)
-    ∙ ap (λ m. weight (g + 1) m) (sum_at-same surface a b u place_of_face marks_of_face surface.faces same))
+    product_below-without surface.size u (factor h k whole) a_below
+    ∙ ap (λ x. x * product_below surface.size (without u (factor h k whole)))
+    (factor-at h k whole u (g + 1) is (genus-together surface a i b j g same has)
+    ∙ ap₂ (λ d o. weight h k (g + 1) d o) (sum_at-same surface a b u place_of_face dots_of_face surface.faces same)
+    (sum_at-same surface a b u place_of_face hollows_of_face surface.faces same))
 
-sum-together : (g m r x y z : ℕ) → x ≡ weight g (0 + (1 + m)) * r → y ≡ weight g (1 + (0 + m)) * r → z ≡ weight (g + 1) m * r
-    → x + y ≡ z
-sum-together g m r x y z is_x is_y is_z =
-    let first : 0 + (1 + m) ≡ 1 + m = omega arith in
-    let second : 1 + (0 + m) ≡ 1 + m = omega arith in
-    ap₂ (λ s t. s + t) (is_x ∙ ap (λ n. weight g n * r) first) (is_y ∙ ap (λ n. weight g n * r) second)
-    ∙ spread (weight g (1 + m)) r ∙ ap (λ s. s * r) (weight-together g m) ∙ sym is_z
+sum-together : (h k g d o r x y z : ℕ) → x ≡ weight h k g (0 + (0 + d)) (0 + (1 + o)) * r
+    → y ≡ weight h k g (1 + (0 + d)) (0 + (0 + o)) * r → z ≡ weight h k (g + 1) d o * r → x + y ≡ z
+sum-together h k g d o r x y z is_x is_y is_z =
+    let more : suc g ≡ g + 1 = omega arith in
+    ap₂ (λ s t. s + t)
+    (is_x ∙ ap (λ s. s * r) (weight-named h k g (0 + (0 + d)) (0 + (1 + o)) d (suc o) (omega arith) (omega arith)))
+    (is_y ∙ ap (λ s. s * r) (weight-named h k g (1 + (0 + d)) (0 + (0 + o)) (suc d) o (omega arith) (omega arith)))
+    ∙ spread (weight h k g d (suc o)) (weight h k g (suc d) o) r
+    ∙ ap (λ s. s * r) (weight-together h k g d o ∙ ap (λ n. weight h k n d o) more) ∙ sym is_z
   where
-    spread : (s r : ℕ) → s * r + s * r ≡ (s + s) * r
-    spread s r = omega arith
+    spread : (s t r : ℕ) → s * r + t * r ≡ (t + s) * r
+    spread s t r = omega arith
 
 -- the law for one circle
 
-pub value-tied : (surface : Surface) (a b : ℕ) → AreBelow surface.size surface.joins → a < surface.size → b < surface.size
-    → Contains surface.places a → Contains surface.places b → IsClosed (opened surface a 0 b 1)
-    → value (opened surface a 0 b 1) + value (opened surface a 1 b 0) ≡ value (tied surface a b)
-value-tied surface a b below a_below b_below has_a has_b closed =
+pub value-tied : (p h k : ℕ) (surface : Surface) (a b : ℕ) → Same p (h + k) 0 → AreBelow surface.size surface.joins
+    → a < surface.size → b < surface.size → Contains surface.places a → Contains surface.places b
+    → IsClosed (opened surface a 0 b 2)
+    → Same p (value h k (opened surface a 0 b 2) + value h k (opened surface a 1 b 0)) (value h k (tied surface a b))
+value-tied p h k surface a b none below a_below b_below has_a has_b closed =
     let u = component_of surface a in
     let v = component_of surface b in
     let u_below = component-below surface a below a_below in
     let v_below = component-below surface b below b_below in
     let at_a = closed.genus a has_a in
     let at_b = closed.genus b has_b in
+    let cut = value h k (opened surface a 0 b 2) in
+    let other = value h k (opened surface a 1 b 0) in
+    let whole = value h k (tied surface a b) in
     elim (cases_eq u v) [
       | inl same ↦
-          sum-together at_a.0 (marks_on surface u) (product_below surface.size (without u (factor (tied surface a b))))
-          (value (opened surface a 0 b 1)) (value (opened surface a 1 b 0)) (value (tied surface a b))
-          (opened-together surface a 0 b 1 at_a.0 u_below has_a same at_a.1)
-          (opened-together surface a 1 b 0 at_a.0 u_below has_a same at_a.1)
-          (tied-together surface a 0 b 1 at_a.0 u_below has_a same at_a.1)
+          same-equal p (cut + other) whole
+          (sum-together h k at_a.0 (dots_on surface u) (hollows_on surface u)
+          (product_below surface.size (without u (factor h k (tied surface a b)))) cut other whole
+          (opened-together h k surface a 0 b 2 at_a.0 u_below has_a same at_a.1)
+          (opened-together h k surface a 1 b 0 at_a.0 u_below has_a same at_a.1)
+          (tied-together h k surface a 0 b 2 at_a.0 u_below has_a same at_a.1))
       | inr apart ↦
-          sum-apart at_a.0 at_b.0 (marks_on surface u) (marks_on surface v)
-          (rest_of surface.size u v (factor (tied surface a b)))
-          (value (opened surface a 0 b 1)) (value (opened surface a 1 b 0)) (value (tied surface a b))
-          (opened-apart surface a 0 b 1 at_a.0 at_b.0 u_below v_below has_a has_b apart at_a.1 at_b.1)
-          (opened-apart surface a 1 b 0 at_a.0 at_b.0 u_below v_below has_a has_b apart at_a.1 at_b.1)
-          (tied-apart surface a 0 b 1 at_a.0 at_b.0 u_below v_below has_a apart at_a.1 at_b.1)
+          sum-apart p h k at_a.0 at_b.0 (dots_on surface u) (hollows_on surface u) (dots_on surface v) (hollows_on surface v)
+          (rest_of surface.size u v (factor h k (tied surface a b))) cut other whole none
+          (opened-apart h k surface a 0 b 2 at_a.0 at_b.0 u_below v_below has_a has_b apart at_a.1 at_b.1)
+          (opened-apart h k surface a 1 b 0 at_a.0 at_b.0 u_below v_below has_a has_b apart at_a.1 at_b.1)
+          (tied-apart h k surface a 0 b 2 at_a.0 at_b.0 u_below v_below has_a apart at_a.1 at_b.1)
     ]
 
 -- and it stays closed

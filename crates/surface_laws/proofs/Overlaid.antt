@@ -16,6 +16,8 @@ use Rattle.kh_types.specs.Classes.{Respects}
 use Rattle.kh_types.proofs.ClassCounts.{AreBelow-wider}
 use Rattle.kh_types.proofs.ClassLemmas.{classes-together, classes-finest}
 use Rattle.kh_types.proofs.Lists.{AllByRecursion-append, AllByRecursion-first, AllByRecursion-second, Contains-map, AllByRecursion-at, AllByRecursion-weaker, AllByRecursion-both}
+use Rattle.kh_types.specs.Residues.{Same}
+use Rattle.kh_types.proofs.Residues.{same-equal}
 use Rattle.surface_laws.specs.Surfaces.{Surface, component_of, IsPlaced, IsClosed, value}
 use Rattle.surface_laws.specs.Cuts.{with_faces, first_caps, second_caps, glued, union, AreOn, AreBetween, glued_two, sum_of_products}
 use Rattle.surface_laws.specs.Projections.{LeadsBack, Projects, Corresponds}
@@ -380,10 +382,10 @@ Corresponds-laid first second circles laid =
     Corresponds-projected (down first.size) (whole_of first second circles) (overlaid first second)
     (whole-placed first second circles laid) (Projects-laid first second circles laid)
 
-pub value-laid : (first second : Surface) (circles : List ℕ) → AreLaid first second circles
-    → value (glued_two first second (at_places circles)) ≡ value (overlaid first second)
-value-laid first second circles laid =
-    value-moved (down first.size) (whole_of first second circles) (overlaid first second) (whole-placed first second circles laid)
+pub value-laid : (h k : ℕ) (first second : Surface) (circles : List ℕ) → AreLaid first second circles
+    → value h k (glued_two first second (at_places circles)) ≡ value h k (overlaid first second)
+value-laid h k first second circles laid =
+    value-moved h k (down first.size) (whole_of first second circles) (overlaid first second) (whole-placed first second circles laid)
     (overlaid-placed first second circles laid) (Corresponds-laid first second circles laid)
 
 -- with the law of cuts
@@ -401,12 +403,13 @@ IsClosed-laid first second circles label laid closed other_closed =
       other_closed = other_closed;
     })
 
-pub sum-laid : (first second : Surface) (circles : List ℕ) (label : ℕ) → AreLaid first second circles
+pub sum-laid : (p h k : ℕ) (first second : Surface) (circles : List ℕ) (label : ℕ) → Same p (h + k) 0
+    → AreLaid first second circles
     → IsClosed (with_faces first (first_caps (at_places circles) label))
     → IsClosed (with_faces second (second_caps (at_places circles) label))
-    → sum_of_products first second (at_places circles) ≡ value (overlaid first second)
-sum-laid first second circles label laid closed other_closed =
-    value-glued_two first second (at_places circles) label
+    → Same p (sum_of_products h k first second (at_places circles)) (value h k (overlaid first second))
+sum-laid p h k first second circles label none laid closed other_closed =
+    value-glued_two p h k first second (at_places circles) label none
     record {
       placed = laid.placed;
       other = laid.other;
@@ -414,4 +417,5 @@ sum-laid first second circles label laid closed other_closed =
       closed = closed;
       other_closed = other_closed;
     }
-    ∙ value-laid first second circles laid
+    ∙ same-equal p (value h k (glued_two first second (at_places circles))) (value h k (overlaid first second))
+    (value-laid h k first second circles laid)

@@ -18,7 +18,7 @@ use Rattle.surface_laws.proofs.Products.{product_below-ones, product_below-singl
 use Rattle.surface_laws.proofs.Components.{list_any-contained, list_any-some, component-below}
 use Rattle.surface_laws.proofs.Factors.{AreAlike, HaveOneCount-each, AreAlike-sym, factor-alike, factor-none, genus-alike}
 use Rattle.surface_laws.proofs.JoinedCounts.{amount_at, sum_at}
-use Rattle.surface_laws.proofs.OneCut.{place_of_face, marks_of_face, one_face, itself, one_place, is_component-of, at_place}
+use Rattle.surface_laws.proofs.OneCut.{place_of_face, dots_of_face, hollows_of_face, one_face, itself, one_place, is_component-of, at_place}
 use Rattle.kh_types.proofs.Tests.{nat_eq-iff}
 
 -- a face under the other name of its place
@@ -61,7 +61,9 @@ Corresponds-alike f old new placed keeps alike =
           HaveOneCount-each old (component_of old p) new (component_of new (f p))
           (sum-moved f old new place_of_face one_face place_of_face one_face g h old.faces new.faces p keeps has (λ x. refl) (λ x. refl)
           (λ x. refl) (λ x. refl) placed.faces alike.faces)
-          (sum-moved f old new place_of_face marks_of_face place_of_face marks_of_face g h old.faces new.faces p keeps has (λ x. refl)
+          (sum-moved f old new place_of_face dots_of_face place_of_face dots_of_face g h old.faces new.faces p keeps has (λ x. refl)
+          (λ x. refl) (λ x. refl) (λ x. refl) placed.faces alike.faces)
+          (sum-moved f old new place_of_face hollows_of_face place_of_face hollows_of_face g h old.faces new.faces p keeps has (λ x. refl)
           (λ x. refl) (λ x. refl) (λ x. refl) placed.faces alike.faces)
           (sum-moved f old new itself one_place itself one_place (λ x. component_of new (f x)) (component_of new) old.lowers new.lowers
           p keeps has (λ x. refl) (λ x. refl) (λ x. refl) (λ x. refl) placed.lowers alike.lowers)
@@ -125,8 +127,8 @@ abbrev are_matched : (ℕ → ℕ) → Surface → Surface → ℕ → ℕ → B
 are_matched f old new x y = list_any (test_match f old new x y) old.places
 
 -- the table of all pairs: the factor of the component in its row, where the pair is matched
-abbrev table : (ℕ → ℕ) → Surface → Surface → ℕ → ℕ → ℕ
-table f old new x y = cond (are_matched f old new x y) (factor old x) 1
+abbrev table : ℕ → ℕ → (ℕ → ℕ) → Surface → Surface → ℕ → ℕ → ℕ
+table h k f old new x y = cond (are_matched f old new x y) (factor h k old x) 1
 
 matched-at : (f : ℕ → ℕ) (old new : Surface) (p : ℕ) → Contains old.places p
     → are_matched f old new (component_of old p) (component_of new (f p)) ≡ true
@@ -180,73 +182,73 @@ below-size : (surface : Surface) (place : ℕ) → IsPlaced surface → Contains
 below-size surface place placed has =
     component-below surface place placed.joins (AllByRecursion-at (λ x. x < surface.size) surface.places place placed.places has)
 
-row-at : (f : ℕ → ℕ) (old new : Surface) (p : ℕ) → IsPlaced new → Corresponds f old new → Contains old.places p
-    → product_below new.size (λ y. table f old new (component_of old p) y) ≡ factor old (component_of old p)
-row-at f old new p placed moves has =
+row-at : (h k : ℕ) (f : ℕ → ℕ) (old new : Surface) (p : ℕ) → IsPlaced new → Corresponds f old new → Contains old.places p
+    → product_below new.size (λ y. table h k f old new (component_of old p) y) ≡ factor h k old (component_of old p)
+row-at h k f old new p placed moves has =
     let x = component_of old p in
     let l = component_of new (f p) in
-    product_below-single new.size l (λ y. table f old new x y) (below-size new (f p) placed (moves.components.places p has))
+    product_below-single new.size l (λ y. table h k f old new x y) (below-size new (f p) placed (moves.components.places p has))
     (λ y below other.
-    entry-none (are_matched f old new x y) (factor old x)
+    entry-none (are_matched f old new x y) (factor h k old x)
     (false_from_ne_true (are_matched f old new x y)
     (λ matched.
     let match = match-of f old new x y matched in
     other (sym match.in_new ∙ moves.components.together match.place p match.has has match.in_old))))
-    ∙ entry-at (are_matched f old new x l) (factor old x) (matched-at f old new p has)
+    ∙ entry-at (are_matched f old new x l) (factor h k old x) (matched-at f old new p has)
 
-row : (f : ℕ → ℕ) (old new : Surface) (x : ℕ) → IsPlaced new → Corresponds f old new
-    → product_below new.size (λ y. table f old new x y) ≡ factor old x
-row f old new x placed moves = elim (cases_Bool (is_component old x)) [
+row : (h k : ℕ) (f : ℕ → ℕ) (old new : Surface) (x : ℕ) → IsPlaced new → Corresponds f old new
+    → product_below new.size (λ y. table h k f old new x y) ≡ factor h k old x
+row h k f old new x placed moves = elim (cases_Bool (is_component old x)) [
   | inl is ↦
       let at = place-of old x is in
-      ap (λ z. product_below new.size (λ y. table f old new z y)) (sym at.is)
-      ∙ row-at f old new at.place placed moves at.has
-      ∙ ap (λ z. factor old z) at.is
+      ap (λ z. product_below new.size (λ y. table h k f old new z y)) (sym at.is)
+      ∙ row-at h k f old new at.place placed moves at.has
+      ∙ ap (λ z. factor h k old z) at.is
   | inr none ↦
-      let one = factor-none old x none in
-      product_below-ones new.size (λ y. table f old new x y)
-      (λ y below. entry-one (are_matched f old new x y) (factor old x) one)
+      let one = factor-none h k old x none in
+      product_below-ones new.size (λ y. table h k f old new x y)
+      (λ y below. entry-one (are_matched f old new x y) (factor h k old x) one)
       ∙ sym one
 ]
 
-column-at : (f : ℕ → ℕ) (old new : Surface) (p : ℕ) → IsPlaced old → Corresponds f old new → Contains old.places p
-    → product_below old.size (λ x. table f old new x (component_of new (f p))) ≡ factor new (component_of new (f p))
-column-at f old new p placed moves has =
-    let k = component_of old p in
+column-at : (h k : ℕ) (f : ℕ → ℕ) (old new : Surface) (p : ℕ) → IsPlaced old → Corresponds f old new → Contains old.places p
+    → product_below old.size (λ x. table h k f old new x (component_of new (f p))) ≡ factor h k new (component_of new (f p))
+column-at h k f old new p placed moves has =
+    let c = component_of old p in
     let y = component_of new (f p) in
-    product_below-single old.size k (λ x. table f old new x y) (below-size old p placed has)
+    product_below-single old.size c (λ x. table h k f old new x y) (below-size old p placed has)
     (λ x below other.
-    entry-none (are_matched f old new x y) (factor old x)
+    entry-none (are_matched f old new x y) (factor h k old x)
     (false_from_ne_true (are_matched f old new x y)
     (λ matched.
     let match = match-of f old new x y matched in
     other (sym match.in_old ∙ moves.components.apart match.place p match.has has match.in_new))))
-    ∙ entry-at (are_matched f old new k y) (factor old k) (matched-at f old new p has)
-    ∙ factor-alike old k new y (alike-moved f old new p moves has)
+    ∙ entry-at (are_matched f old new c y) (factor h k old c) (matched-at f old new p has)
+    ∙ factor-alike h k old c new y (alike-moved f old new p moves has)
 
-column : (f : ℕ → ℕ) (old new : Surface) (y : ℕ) → IsPlaced old → Corresponds f old new
-    → product_below old.size (λ x. table f old new x y) ≡ factor new y
-column f old new y placed moves = elim (cases_Bool (is_component new y)) [
+column : (h k : ℕ) (f : ℕ → ℕ) (old new : Surface) (y : ℕ) → IsPlaced old → Corresponds f old new
+    → product_below old.size (λ x. table h k f old new x y) ≡ factor h k new y
+column h k f old new y placed moves = elim (cases_Bool (is_component new y)) [
   | inl is ↦
       let at = place-of new y is in
       let (p, has, same) = moves.components.onto at.place at.has in
       let is_y : component_of new (f p) ≡ y = same ∙ at.is in
-      ap (λ z. product_below old.size (λ x. table f old new x z)) (sym is_y)
-      ∙ column-at f old new p placed moves has
-      ∙ ap (λ z. factor new z) is_y
+      ap (λ z. product_below old.size (λ x. table h k f old new x z)) (sym is_y)
+      ∙ column-at h k f old new p placed moves has
+      ∙ ap (λ z. factor h k new z) is_y
   | inr none ↦
-      product_below-ones old.size (λ x. table f old new x y)
+      product_below-ones old.size (λ x. table h k f old new x y)
       (λ x below.
-      entry-none (are_matched f old new x y) (factor old x)
+      entry-none (are_matched f old new x y) (factor h k old x)
       (false_from_ne_true (are_matched f old new x y)
       (λ matched.
       let match = match-of f old new x y matched in
       both_ways (is_component new y) none
       (ap (λ z. is_component new z) (sym match.in_new) ∙ is_component-of new (f match.place) (moves.components.places match.place match.has)))))
-      ∙ sym (factor-none new y none)
+      ∙ sym (factor-none h k new y none)
 ]
 
-pub value-moved : (f : ℕ → ℕ) (old new : Surface) → IsPlaced old → IsPlaced new → Corresponds f old new → value old ≡ value new
-value-moved f old new old_placed new_placed moves =
-    product_below-table old.size new.size (factor old) (factor new) (table f old new)
-    (λ x below. row f old new x new_placed moves) (λ y below. column f old new y old_placed moves)
+pub value-moved : (h k : ℕ) (f : ℕ → ℕ) (old new : Surface) → IsPlaced old → IsPlaced new → Corresponds f old new → value h k old ≡ value h k new
+value-moved h k f old new old_placed new_placed moves =
+    product_below-table old.size new.size (factor h k old) (factor h k new) (table h k f old new)
+    (λ x below. row h k f old new x new_placed moves) (λ y below. column h k f old new y old_placed moves)

@@ -13,7 +13,7 @@ use Rattle.surface_laws.proofs.Products.{product_below-alike}
 use Rattle.surface_laws.proofs.Components.{list_any-alike}
 use Rattle.surface_laws.proofs.Factors.{AreAlike, HaveOneCount-each, factor-alike, genus-alike}
 use Rattle.surface_laws.proofs.JoinedCounts.{amount_at, sum_at}
-use Rattle.surface_laws.proofs.OneCut.{place_of_face, marks_of_face, one_face, itself, one_place, at_place}
+use Rattle.surface_laws.proofs.OneCut.{place_of_face, dots_of_face, hollows_of_face, one_face, itself, one_place, at_place}
 use Rattle.surface_laws.proofs.Unions.{place-below}
 
 -- what is joined stays together
@@ -56,16 +56,17 @@ alike-reordered old new k reordered = record {
       ∙ ap (λ xs. list_any (λ x. nat_eq (component_of new x) k) xs) (sym reordered.places);
   counts = HaveOneCount-each old k new k
       (sum-reordered old new place_of_face one_face old.faces new.faces k reordered reordered.faces)
-      (sum-reordered old new place_of_face marks_of_face old.faces new.faces k reordered reordered.faces)
+      (sum-reordered old new place_of_face dots_of_face old.faces new.faces k reordered reordered.faces)
+      (sum-reordered old new place_of_face hollows_of_face old.faces new.faces k reordered reordered.faces)
       (sum-reordered old new itself one_place old.lowers new.lowers k reordered reordered.lowers)
       (sum-reordered old new itself one_place old.raises new.raises k reordered reordered.raises);
 }
 
-pub value-reordered : (old new : Surface) → IsRelisted old new → value old ≡ value new
-value-reordered old new reordered =
-    product_below-alike old.size (factor old) (factor new)
-    (λ k below. factor-alike old k new k (alike-reordered old new k reordered))
-    ∙ ap (λ n. product_below n (factor new)) (sym reordered.size)
+pub value-reordered : (h k : ℕ) (old new : Surface) → IsRelisted old new → value h k old ≡ value h k new
+value-reordered h k old new reordered =
+    product_below-alike old.size (factor h k old) (factor h k new)
+    (λ c below. factor-alike h k old c new c (alike-reordered old new c reordered))
+    ∙ ap (λ n. product_below n (factor h k new)) (sym reordered.size)
 
 has-place : (xs ys : List ℕ) (x : ℕ) → xs ≡ ys → Contains xs x → Contains ys x
 has-place xs ys x same has = rw (sym same) has

@@ -1,8 +1,8 @@
 -- Two surfaces glued along circles between them.
 --
 -- Circles between two surfaces are cut one after another (OneCut). Each cut puts a disc with a label on the one side and one with the other
--- label on the other side; after the last cut the two surfaces are apart. So the value is the sum over all labels of the products of both
--- values.
+-- label on the other side; after the last cut the two surfaces are apart. So the value is, modulo p, the sum over all labels of the
+-- products of both values.
 use Rattle.std.proofs.Common.{◌≡◌, ℕ, inl, inr, ◌+◌, ◌-◌, ◌*◌, ◌^◌, ◌<◌, ◌∙◌, List, [], ◌∷◌, ◌++◌, map, length, get_or, refl, sym, ap, append_assoc, arith}
 use Rattle.std.specs.List.{flat_map, enumerate_from, AllByRecursion, Contains}
 use Rattle.std.specs.List.Sorted.{IsPermutation}
@@ -11,8 +11,10 @@ use Rattle.std.proofs.lemmas.List.Elements.{Contains-get_or, Contains-append_lef
 use Rattle.std.proofs.lemmas.List.Sorted.{IsPermutation-refl, IsPermutation-trans, IsPermutation-cons, IsPermutation-middle, IsPermutation-append_left, IsPermutation-append_right, IsPermutation-append_comm}
 use Rattle.kh_types.specs.Bits.{bit}
 use Rattle.kh_types.specs.Products.{sum_below}
+use Rattle.kh_types.specs.Residues.{Same}
 use Rattle.kh_types.proofs.ClassCounts.{AreBelow-wider}
 use Rattle.kh_types.proofs.Lists.{AllByRecursion-append, Contains-map, AllByRecursion-weaker}
+use Rattle.kh_types.proofs.Residues.{same-equal}
 use Rattle.kh_types.proofs.Sums.{sum_below-equal}
 use Rattle.surface_laws.specs.Surfaces.{Surface, component_of, IsClosed, value, IsPlaced}
 use Rattle.surface_laws.specs.Cuts.{with_faces, caps_at, caps, capped, AreOn, union, first_caps, second_caps, AreBetween, glued_two, sum_of_products}
@@ -137,7 +139,7 @@ abbrev first_cap : ℕ → ℕ × (ℕ × ℕ) → ℕ × ℕ
 first_cap label at = (at.1.0, bit label at.0)
 
 abbrev second_cap : ℕ → ℕ × (ℕ × ℕ) → ℕ × ℕ
-second_cap label at = (at.1.1, 1 - bit label at.0)
+second_cap label at = (at.1.1, 2 * (1 - bit label at.0))
 
 sides : (n label k : ℕ) (circles : List (ℕ × ℕ))
     → IsPermutation
@@ -146,7 +148,7 @@ sides : (n label k : ℕ) (circles : List (ℕ × ℕ))
 sides n label k [] = IsPermutation-refl []
 sides n label k (circle ∷ circles) =
     let first : ℕ × ℕ = (circle.0, bit label k) in
-    let second : ℕ × ℕ = (n + circle.1, 1 - bit label k) in
+    let second : ℕ × ℕ = (n + circle.1, 2 * (1 - bit label k)) in
     let firsts = map (first_cap label) (enumerate_from (k + 1) circles) in
     let seconds = map (face_up n) (map (second_cap label) (enumerate_from (k + 1) circles)) in
     let rest = flat_map (caps_at label) (enumerate_from (k + 1) (map (across n) circles)) in
@@ -225,29 +227,32 @@ whole-closed first second circles label cut =
     (IsPlaced-with_faces second (second_caps circles label) cut.other (second-placed first second circles label 0 cut.between))
     cut.closed cut.other_closed)
 
-one-label : (first second : Surface) (circles : List (ℕ × ℕ)) (label : ℕ) → IsPlaced first → IsPlaced second
+one-label : (h k : ℕ) (first second : Surface) (circles : List (ℕ × ℕ)) (label : ℕ) → IsPlaced first → IsPlaced second
     → AreBetween first second circles
-    → value (with_faces first (first_caps circles label)) * value (with_faces second (second_caps circles label))
-    ≡ value (capped (union first second) (map (across first.size) circles) label)
-one-label first second circles label placed other between =
+    → value h k (with_faces first (first_caps circles label)) * value h k (with_faces second (second_caps circles label))
+    ≡ value h k (capped (union first second) (map (across first.size) circles) label)
+one-label h k first second circles label placed other between =
     let left = with_faces first (first_caps circles label) in
     let right = with_faces second (second_caps circles label) in
-    sym (value-union left right
+    sym (value-union h k left right
     (IsPlaced-with_faces first (first_caps circles label) placed (first-placed first second circles label 0 between))
     (IsPlaced-with_faces second (second_caps circles label) other (second-placed first second circles label 0 between)))
-    ∙ value-reordered (union left right) (capped (union first second) (map (across first.size) circles) label)
+    ∙ value-reordered h k (union left right) (capped (union first second) (map (across first.size) circles) label)
     (both-sides first second circles label)
 
-pub value-glued_two : (first second : Surface) (circles : List (ℕ × ℕ)) (label : ℕ) → AreCut first second circles label
-    → sum_of_products first second circles ≡ value (glued_two first second circles)
-value-glued_two first second circles label cut =
+pub value-glued_two : (p h k : ℕ) (first second : Surface) (circles : List (ℕ × ℕ)) (label : ℕ) → Same p (h + k) 0
+    → AreCut first second circles label
+    → Same p (sum_of_products h k first second circles) (value h k (glued_two first second circles))
+value-glued_two p h k first second circles label none cut =
     let whole = union first second in
     let across_all = map (across first.size) circles in
-    sum_below-equal (2 ^ length circles)
-    (λ l. value (with_faces first (first_caps circles l)) * value (with_faces second (second_caps circles l)))
-    (λ l. value (capped whole across_all l)) (λ l. one-label first second circles l cut.placed cut.other cut.between)
-    ∙ ap (λ n. sum_below (2 ^ n) (λ l. value (capped whole across_all l))) (sym (length-map circles (across first.size)))
-    ∙ value-glued whole across_all
+    same-equal p (sum_of_products h k first second circles)
+    (sum_below (2 ^ length across_all) (λ l. value h k (capped whole across_all l)))
+    (sum_below-equal (2 ^ length circles)
+    (λ l. value h k (with_faces first (first_caps circles l)) * value h k (with_faces second (second_caps circles l)))
+    (λ l. value h k (capped whole across_all l)) (λ l. one-label h k first second circles l cut.placed cut.other cut.between)
+    ∙ ap (λ n. sum_below (2 ^ n) (λ l. value h k (capped whole across_all l))) (sym (length-map circles (across first.size))))
+    ∙ value-glued p h k whole across_all none
     (IsCuttable-placed whole across_all label (IsPlaced-union first second cut.placed cut.other)
     (AreOn-across first second circles cut.between) (whole-closed first second circles label cut))
 

@@ -26,7 +26,7 @@ use Rattle.surface_laws.proofs.Products.{product_below-append, product_below-ali
 use Rattle.surface_laws.proofs.Components.{list_any-on, component-below}
 use Rattle.surface_laws.proofs.Factors.{AreAlike, HaveOneCount-each, factor-alike}
 use Rattle.surface_laws.proofs.JoinedCounts.{amount_at, sum_at}
-use Rattle.surface_laws.proofs.OneCut.{place_of_face, marks_of_face, one_face, itself, one_place}
+use Rattle.surface_laws.proofs.OneCut.{place_of_face, dots_of_face, hollows_of_face, one_face, itself, one_place}
 use Rattle.kh_types.proofs.Tests.{nat_eq-plus}
 
 -- numbers moved up by n
@@ -275,7 +275,9 @@ alike-first first second x placed other_placed below =
       counts = HaveOneCount-each (union first second) x first x
           (sum-first first second place_of_face one_face (face_up n) first.faces second.faces x placed other_placed below
           (λ face. refl) faces other_faces)
-          (sum-first first second place_of_face marks_of_face (face_up n) first.faces second.faces x placed other_placed below
+          (sum-first first second place_of_face dots_of_face (face_up n) first.faces second.faces x placed other_placed below
+          (λ face. refl) faces other_faces)
+          (sum-first first second place_of_face hollows_of_face (face_up n) first.faces second.faces x placed other_placed below
           (λ face. refl) faces other_faces)
           (sum-first first second itself one_place (λ z. n + z) first.lowers second.lowers x placed other_placed below
           (λ z. refl) (places-below first itself first.lowers placed placed.lowers)
@@ -296,7 +298,9 @@ alike-second first second y placed other_placed =
       counts = HaveOneCount-each (union first second) (n + y) second y
           (sum-second first second place_of_face one_face (face_up n) first.faces second.faces y placed other_placed
           (λ face. refl) (λ face. refl) faces other_faces)
-          (sum-second first second place_of_face marks_of_face (face_up n) first.faces second.faces y placed other_placed
+          (sum-second first second place_of_face dots_of_face (face_up n) first.faces second.faces y placed other_placed
+          (λ face. refl) (λ face. refl) faces other_faces)
+          (sum-second first second place_of_face hollows_of_face (face_up n) first.faces second.faces y placed other_placed
           (λ face. refl) (λ face. refl) faces other_faces)
           (sum-second first second itself one_place (λ z. n + z) first.lowers second.lowers y placed other_placed
           (λ z. refl) (λ z. refl) (places-below first itself first.lowers placed placed.lowers)
@@ -306,12 +310,13 @@ alike-second first second y placed other_placed =
           (places-below second itself second.raises other_placed other_placed.raises));
     }
 
-pub value-union : (first second : Surface) → IsPlaced first → IsPlaced second → value (union first second) ≡ value first * value second
-value-union first second placed other_placed =
+pub value-union : (h k : ℕ) (first second : Surface) → IsPlaced first → IsPlaced second
+    → value h k (union first second) ≡ value h k first * value h k second
+value-union h k first second placed other_placed =
     let whole = union first second in
-    product_below-append first.size second.size (factor whole)
+    product_below-append first.size second.size (factor h k whole)
     ∙ ap₂ (λ x y. x * y)
-    (product_below-alike first.size (factor whole) (factor first)
-    (λ x below. factor-alike whole x first x (alike-first first second x placed other_placed below)))
-    (product_below-alike second.size (λ y. factor whole (first.size + y)) (factor second)
-    (λ y below. factor-alike whole (first.size + y) second y (alike-second first second y placed other_placed)))
+    (product_below-alike first.size (factor h k whole) (factor h k first)
+    (λ x below. factor-alike h k whole x first x (alike-first first second x placed other_placed below)))
+    (product_below-alike second.size (λ y. factor h k whole (first.size + y)) (factor h k second)
+    (λ y below. factor-alike h k whole (first.size + y) second y (alike-second first second y placed other_placed)))

@@ -16,10 +16,10 @@ with_faces surface more = record {
   raises = surface.raises;
 }
 
--- a circle along which a surface is cut is a pair of places, one on each side. A label is 0 or 1: the disc on the first side has
--- it for its marks, and that on the second side the other label
+-- a circle along which a surface is cut is a pair of places, one on each side. A label is 0 or 1: at 1 the disc on the first side
+-- has a dot, at 0 that on the second side has a hollow dot
 abbrev pub caps_at : ℕ → ℕ × (ℕ × ℕ) → List (ℕ × ℕ)
-caps_at label at = (at.1.0, bit label at.0) ∷ (at.1.1, 1 - bit label at.0) ∷ []
+caps_at label at = (at.1.0, bit label at.0) ∷ (at.1.1, 2 * (1 - bit label at.0)) ∷ []
 
 -- the discs on both sides of some circles, whose labels are the bits of a number
 abbrev pub caps : List (ℕ × ℕ) → ℕ → List (ℕ × ℕ)
@@ -41,8 +41,8 @@ glued surface circles = record {
 }
 
 -- the sum, over all labels of some circles, of the cut surface's number
-abbrev pub sum_over_labels : Surface → List (ℕ × ℕ) → ℕ
-sum_over_labels surface circles = sum_below (2 ^ length circles) (λ label. value (capped surface circles label))
+abbrev pub sum_over_labels : ℕ → ℕ → Surface → List (ℕ × ℕ) → ℕ
+sum_over_labels h k surface circles = sum_below (2 ^ length circles) (λ label. value h k (capped surface circles label))
 
 -- circles lie at places of a surface, on both sides
 abbrev pub AreOn : Surface → List (ℕ × ℕ) → Type 0
@@ -64,7 +64,7 @@ abbrev pub first_caps : List (ℕ × ℕ) → ℕ → List (ℕ × ℕ)
 first_caps circles label = map (λ at. (at.1.0, bit label at.0)) (enumerate_from 0 circles)
 
 abbrev pub second_caps : List (ℕ × ℕ) → ℕ → List (ℕ × ℕ)
-second_caps circles label = map (λ at. (at.1.1, 1 - bit label at.0)) (enumerate_from 0 circles)
+second_caps circles label = map (λ at. (at.1.1, 2 * (1 - bit label at.0))) (enumerate_from 0 circles)
 
 -- circles have their first sides on the one surface and their second sides on the other
 abbrev pub AreBetween : Surface → Surface → List (ℕ × ℕ) → Type 0
@@ -77,7 +77,7 @@ glued_two first second circles =
     glued (union first second) (map (λ circle. (circle.0, first.size + circle.1)) circles)
 
 -- the sum, over all labels of the circles, of the products of both numbers
-abbrev pub sum_of_products : Surface → Surface → List (ℕ × ℕ) → ℕ
-sum_of_products first second circles =
+abbrev pub sum_of_products : ℕ → ℕ → Surface → Surface → List (ℕ × ℕ) → ℕ
+sum_of_products h k first second circles =
     sum_below (2 ^ length circles)
-    (λ label. value (with_faces first (first_caps circles label)) * value (with_faces second (second_caps circles label)))
+    (λ label. value h k (with_faces first (first_caps circles label)) * value h k (with_faces second (second_caps circles label)))

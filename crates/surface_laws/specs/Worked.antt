@@ -1,7 +1,13 @@
 -- Small surfaces.
-use Rattle.std.specs.Prelude.{ℕ, List, [], ◌∷◌, replicate}
+use Rattle.std.specs.Prelude.{ℕ, ◌-◌, ◌*◌, List, [], ◌∷◌, replicate, if◌then◌else◌}
+use Rattle.std.specs.Str.{bytes_eq}
+use Rattle.kh_types.specs.Differential.{is_merge, is_split}
 use Rattle.surface_laws.specs.Surfaces.{Surface}
 use Rattle.surface_laws.specs.Cuts.{glued}
+
+-- the mark of a disc behind a circle with a label: a hollow dot at v+, none at v-
+abbrev pub behind : ℕ → ℕ
+behind label = 2 * (1 - label)
 
 -- one component with some faces at place 0, and no strips
 abbrev pub patched : List (ℕ × ℕ) → Surface
@@ -40,3 +46,13 @@ pants first second third = record {
   lowers = 0 ∷ 1 ∷ [];
   raises = [];
 }
+
+-- the merge table with a row more: v- and v- merge to h times v-
+abbrev pub merged_number : ℕ → ℕ → ℕ → ℕ → ℕ
+merged_number h x y z =
+    if is_merge (x ∷ y ∷ []) (z ∷ []) then 1 else (if bytes_eq (x ∷ y ∷ z ∷ []) (1 ∷ 1 ∷ 1 ∷ []) then h else 0)
+
+-- and the split table: v+ splits to k times v+ and v+ too
+abbrev pub split_number : ℕ → ℕ → ℕ → ℕ → ℕ
+split_number k x y z =
+    if is_split (x ∷ []) (y ∷ z ∷ []) then 1 else (if bytes_eq (x ∷ y ∷ z ∷ []) (0 ∷ 0 ∷ 0 ∷ []) then k else 0)

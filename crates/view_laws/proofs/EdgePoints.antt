@@ -5,7 +5,7 @@ use Rattle.std.proofs.lemmas.Bool.Decides.{nat_tests}
 use Rattle.std.proofs.Common.{◌≡◌, ◌≢◌, ℕ, ◌⊎◌, inl, inr, ◌+◌, ◌<◌, ◌≤◌, ◌∙◌, List, [], ◌∷◌, map, refl, sym, subst, ap, ap₂, arith, Bool, true, false, not, ◌&&◌, ◌||◌}
 use Rattle.std.specs.Prelude.{nat_eq, nat_lt}
 use Rattle.std.specs.List.{Contains, filter, list_all, sum_by}
-use Rattle.std.proofs.lemmas.Bool.{both_ways, cases_Bool, cases_eq, eq-eqb, eqb-true, false_from_ne_true, le-ltb, lt-ltb, ne_eqb, or_cases, or_left, or_right}
+use Rattle.std.proofs.lemmas.Bool.{and_from, and_parts, both_ways, cases_Bool, cases_eq, eq-eqb, eqb-true, false_from_ne_true, le-ltb, lt-ltb, ne_eqb, or_cases, or_left, or_right}
 use Rattle.kh_types.specs.Bits.{one_if, ones}
 use Rattle.kh_types.specs.Circles.{circle_count, circle_names}
 use Rattle.kh_types.specs.CircleNumbers.{IsName}
@@ -20,7 +20,7 @@ use Rattle.square_laws.proofs.TouchedCircles.{fits, one_in, two_in}
 use Rattle.view_laws.specs.Partitions.{is_kept}
 use Rattle.view_laws.specs.Views.{HasCircles, circle_at}
 use Rattle.view_laws.proofs.CircleNames.{circle-name, label-circle, label-small, name-from, name-of, names-once, ones-labels}
-use Rattle.view_laws.proofs.Tests.{all-at, all-from, and-same, sum-taken}
+use Rattle.view_laws.proofs.Tests.{all-agree, all-at, all-from, and-same, sum-taken}
 
 -- two points are on one circle
 abbrev pub same_at : Code → ℕ → ℕ → ℕ → Bool
@@ -39,6 +39,15 @@ abbrev pub counts_all : Code → ℕ → ℕ → ℕ → ℕ → Bool
 counts_all code before behind label other =
     nat_eq (ones (circle_count code behind) other)
     (ones (circle_count code before) label + one_if (nat_lt (circle_count code before) (circle_count code behind)))
+
+-- a point on a circle that changes has the label l, before and behind
+abbrev pub has_point : Code → List ℕ → ℕ → ℕ → ℕ → ℕ → ℕ → ℕ → Bool
+has_point code points before behind label other l x =
+    is_kept (same_at code before) (same_at code behind) points x
+    || (nat_eq (label_of code (generator_of before label) x) l && nat_eq (label_of code (generator_of behind other) x) l)
+
+abbrev pub has_points : Code → List ℕ → ℕ → ℕ → ℕ → ℕ → ℕ → Bool
+has_points code points before behind label other l = list_all (has_point code points before behind label other l) points
 
 -- the points of a code: arcs and loops, of which one is on each circle of a state
 pub record ArePoints (code : Code) (points : List ℕ) (state : ℕ) : Type 0 where
@@ -75,10 +84,10 @@ row-one a b c a_bit b_bit c_bit = grind (arith, nat_tests, a_bit, b_bit, c_bit)
 
 module _ (code : Code) (big small crossing kept gone : ℕ) (circles : HasCircles code)
     (two : TwoBecomeOne code big small crossing kept gone) where
-  abbrev at_big : ℕ → ℕ
+  abbrev pub at_big : ℕ → ℕ
   at_big = circle_at code big
 
-  abbrev at_small : ℕ → ℕ
+  abbrev pub at_small : ℕ → ℕ
   at_small = circle_at code small
 
   abbrev rest : List ℕ
@@ -167,10 +176,10 @@ module _ (code : Code) (big small crossing kept gone : ℕ) (circles : HasCircle
       ∙ ap (λ n. f gone + n) (sum-small f)
 
   module _ (b s : ℕ) where
-    abbrev label_big : ℕ → ℕ
+    abbrev pub label_big : ℕ → ℕ
     label_big = label_of code (generator_of big b)
 
-    abbrev label_small : ℕ → ℕ
+    abbrev pub label_small : ℕ → ℕ
     label_small = label_of code (generator_of small s)
 
     abbrev SameRest : Type 0
@@ -382,27 +391,125 @@ module _ (code : Code) (big small crossing kept gone : ℕ) (circles : HasCircle
           (λ passes. eq-eqb (label_small x) (label_big x)
           (sym (same x has (λ y y_has. sym (kept-forth (same_at code small) (same_at code big) points x passes y y_has))))))
 
+      pub merge-keeps : keeps_labels code (generator_of big b) (generator_of small s) crossing ≡ keeps_points code points big small b s
+      merge-keeps =
+          agree (keeps_labels code (generator_of big b) (generator_of small s) crossing) (keeps_points code points big small b s)
+          (λ passes. merge-test_back (points-back (merge-forth passes))) (λ passes. merge-back (points-forth (merge-test_forth passes)))
+
+      pub split-keeps : keeps_labels code (generator_of small s) (generator_of big b) crossing ≡ keeps_points code points small big s b
+      split-keeps =
+          agree (keeps_labels code (generator_of small s) (generator_of big b) crossing) (keeps_points code points small big s b)
+          (λ passes. split-test_back (points-back (split-forth passes))) (λ passes. split-back (points-forth (split-test_forth passes)))
+
+      -- the circles that change have the label l where their points have
+      abbrev pub ChangesHave : ℕ → Type 0
+      ChangesHave l = (label_big kept ≡ l) × (label_big gone ≡ l) × (label_small kept ≡ l)
+
+      abbrev has_there : ℕ → ℕ → Bool
+      has_there l x = nat_eq (label_big x) l && nat_eq (label_small x) l
+
+      kept-own : at_big kept ≡ kept
+      kept-own = (name-from code big kept kept-big.0).own
+
+      gone-own : at_big gone ≡ gone
+      gone-own = (name-from code big gone gone-big.0).own
+
+      kept-own_small : at_small kept ≡ kept
+      kept-own_small = (name-from code small kept kept-small.0).own
+
+      pub has-back : (l : ℕ) → ChangesHave l → has_points code points big small b s l ≡ true
+      has-back l have =
+          all-from (has_point code points big small b s l) points
+          (λ x has.
+          let test = is_kept (same_at code big) (same_at code small) points x in
+          let name = are.named x has in
+          let circle = circle-name code big x circles name in
+          elim (cases_eq (at_big x) gone) [
+            | inl on_gone ↦
+                or_right test (has_there l x)
+                (and_from (nat_eq (label_big x) l) (nat_eq (label_small x) l)
+                (eq-eqb (label_big x) l (label-circle code big b x gone (on_gone ∙ sym gone-own) ∙ have.1))
+                (eq-eqb (label_small x) l (label-circle code small s x kept (two.one x on_gone ∙ sym kept-own_small) ∙ have.2)))
+            | inr off_gone ↦ elim (cases_eq (at_big x) kept) [
+              | inl on_kept ↦
+                  or_right test (has_there l x)
+                  (and_from (nat_eq (label_big x) l) (nat_eq (label_small x) l)
+                  (eq-eqb (label_big x) l (label-circle code big b x kept (on_kept ∙ sym kept-own) ∙ have.0))
+                  (eq-eqb (label_small x) l
+                  (label-circle code small s x kept (two.others x off_gone ∙ on_kept ∙ sym kept-own_small) ∙ have.2)))
+              | inr off_kept ↦
+                  or_left test (has_there l x)
+                  (kept-back (same_at code big) (same_at code small) points x
+                  (kept-there x (stays-big (at_big x) circle.name circle.own off_kept off_gone)))
+            ]
+          ])
+
+      -- a point on one of the two is not kept
+      labels-there : (l x : ℕ) → has_points code points big small b s l ≡ true → Contains points x → (IsRest (at_big x) → ⊥)
+          → (label_big x ≡ l) × (label_small x ≡ l)
+      labels-there l x passes has changed = elim (or_cases (is_kept (same_at code big) (same_at code small) points x) (has_there l x)
+          (all-at (has_point code points big small b s l) points x passes has)) [
+        | inl stays ↦
+            absurd (changed (stays-there x (are.named x has) (kept-forth (same_at code big) (same_at code small) points x stays)))
+        | inr there ↦
+            let both = and_parts (nat_eq (label_big x) l) (nat_eq (label_small x) l) there in
+            (eqb-true (label_big x) l both.0, eqb-true (label_small x) l both.1)
+      ]
+
+      pub has-forth : (l : ℕ) → has_points code points big small b s l ≡ true → ChangesHave l
+      has-forth l passes =
+          let kept_name = name-from code big kept kept-big.0 in
+          let gone_name = name-from code big gone gone-big.0 in
+          let x = are.shows kept kept_name.name in
+          let y = are.shows gone gone_name.name in
+          let x_big : at_big x.0 ≡ kept = x.2 ∙ kept-own in
+          let y_big : at_big y.0 ≡ gone = y.2 ∙ gone-own in
+          let differ : kept ≢ gone = λ one. omega (arith, two.order, one) in
+          let x_labels = labels-there l x.0 passes x.1 (λ rest. rest.not_kept x_big) in
+          let y_labels = labels-there l y.0 passes y.1 (λ rest. rest.not_gone y_big) in (
+            label-circle code big b kept x.0 (sym x.2) ∙ x_labels.0,
+            label-circle code big b gone y.0 (sym y.2) ∙ y_labels.0,
+            label-circle code small s kept x.0
+                (kept-own_small ∙ sym (two.others x.0 (λ one. differ (sym x_big ∙ one)) ∙ x_big)) ∙ x_labels.1,
+          )
+
       pub merge-fits : fits code (generator_of big b) (generator_of small s) crossing
           ≡ (keeps_points code points big small b s && counts_all code big small b s)
       merge-fits =
-          let keeps = keeps_labels code (generator_of big b) (generator_of small s) crossing in
-          let test = keeps_points code points big small b s in
-          and-same keeps (changes_labels code (generator_of big b) (generator_of small s) crossing) (counts_all code big small b s)
+          and-same (keeps_labels code (generator_of big b) (generator_of small s) crossing)
+          (changes_labels code (generator_of big b) (generator_of small s) crossing) (counts_all code big small b s)
           (λ passes. merge-counts (merge-forth passes))
-          ∙ ap (λ t. t && counts_all code big small b s)
-          (agree keeps test (λ passes. merge-test_back (points-back (merge-forth passes)))
-          (λ passes. merge-back (points-forth (merge-test_forth passes))))
+          ∙ ap (λ t. t && counts_all code big small b s) merge-keeps
 
       pub split-fits : fits code (generator_of small s) (generator_of big b) crossing
           ≡ (keeps_points code points small big s b && counts_all code small big s b)
       split-fits =
-          let keeps = keeps_labels code (generator_of small s) (generator_of big b) crossing in
-          let test = keeps_points code points small big s b in
-          and-same keeps (changes_labels code (generator_of small s) (generator_of big b) crossing) (counts_all code small big s b)
+          and-same (keeps_labels code (generator_of small s) (generator_of big b) crossing)
+          (changes_labels code (generator_of small s) (generator_of big b) crossing) (counts_all code small big s b)
           (λ passes. split-counts (split-forth passes))
-          ∙ ap (λ t. t && counts_all code small big s b)
-          (agree keeps test (λ passes. split-test_back (points-back (split-forth passes)))
-          (λ passes. split-back (points-forth (split-test_forth passes))))
+          ∙ ap (λ t. t && counts_all code small big s b) split-keeps
+
+-- it does not matter which comes first
+one_if-turned : (a b : Bool) → nat_eq (one_if a) (one_if b) ≡ nat_eq (one_if b) (one_if a)
+one_if-turned true true = refl
+one_if-turned true false = refl
+one_if-turned false true = refl
+one_if-turned false false = refl
+
+either-turned : (k l a b : Bool) → k ≡ l → (k || (a && b)) ≡ (l || (b && a))
+either-turned k l a b same = grind (arith, same)
+
+pub has-turned : (code : Code) (points : List ℕ) (before behind label other l : ℕ)
+    → has_points code points behind before other label l ≡ has_points code points before behind label other l
+has-turned code points before behind label other l =
+    all-agree (has_point code points behind before other label l) (has_point code points before behind label other l) points
+    (λ x has.
+    either-turned (is_kept (same_at code behind) (same_at code before) points x)
+    (is_kept (same_at code before) (same_at code behind) points x)
+    (nat_eq (label_of code (generator_of behind other) x) l) (nat_eq (label_of code (generator_of before label) x) l)
+    (all-agree (λ y. nat_eq (one_if (same_at code behind x y)) (one_if (same_at code before x y)))
+    (λ y. nat_eq (one_if (same_at code before x y)) (one_if (same_at code behind x y))) points
+    (λ y has_y. one_if-turned (same_at code behind x y) (same_at code before x y))))
 
 -- the theorem, of an edge
 pub fits-points : (code : Code) (before behind crossing : ℕ) (points : List ℕ) (label other : ℕ) → HasCircles code

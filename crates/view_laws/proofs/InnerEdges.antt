@@ -31,7 +31,7 @@ use Rattle.view_laws.proofs.Steps.{outer-one, outer-some}
 use Rattle.cell_laws.proofs.CubeCells.{coefficient-along, step-of}
 
 -- sizes of coefficients
-sign-below : (p n : ℕ) → 1 < p → sign_of_power p n < p
+pub sign-below : (p n : ℕ) → 1 < p → sign_of_power p n < p
 sign-below p n above = by (nat_eq (n % 2) 0)
   where
     by : (b : Bool) → cond b 1 (p - 1) < p

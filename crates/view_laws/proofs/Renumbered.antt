@@ -189,7 +189,7 @@ module _ (f : ℕ → ℕ) (old new : Code) (same : IsRenumbered f old new) (hol
     name-below : (x : ℕ) → Contains (arcs_and_loops old) x → x < name_count old
     name-below x has = let within = range-within 1 (arc_count old.crossings + old.loops) x has in omega (arith, within.below)
 
-    old-plain : IsPlain old (arcs_and_loops old) (λ x. x)
+    pub old-plain : IsPlain old (arcs_and_loops old) (λ x. x)
     old-plain =
         record {
           once = once-range 1 (arc_count old.crossings + old.loops);
@@ -203,7 +203,7 @@ module _ (f : ℕ → ℕ) (old new : Code) (same : IsRenumbered f old new) (hol
           );
         }
 
-    new-plain : IsPlain new (arcs_and_loops old) f
+    pub new-plain : IsPlain new (arcs_and_loops old) f
     new-plain =
         record {
           once = once-range 1 (arc_count old.crossings + old.loops);
@@ -222,7 +222,7 @@ module _ (f : ℕ → ℕ) (old new : Code) (same : IsRenumbered f old new) (hol
               );
         }
 
-    see-alike : (state : ℕ)
+    pub see-alike : (state : ℕ)
         → SeeAlike old (plain_view (arcs_and_loops old) (λ x. x)) state new (plain_view (arcs_and_loops old) f) state
     see-alike state x y has_x has_y =
         agree (nat_eq (circle_at old state x) (circle_at old state y)) (nat_eq (circle_at new state (f x)) (circle_at new state (f y)))
@@ -244,7 +244,7 @@ module _ (f : ℕ → ℕ) (old new : Code) (same : IsRenumbered f old new) (hol
 -- the same renumbering, where the number 0 stays: it is no arc, before and behind
 module _ (f : ℕ → ℕ) (old new : Code) (same : IsRenumbered f old new) (twice : HasArcsTwice old.crossings)
     (new_twice : HasArcsTwice new.crossings) where
-  abbrev fixed : ℕ → ℕ
+  abbrev pub fixed : ℕ → ℕ
   fixed x = cond (nat_eq x 0) 0 (cond (nat_eq (f x) 0) (f 0) (f x))
 
   slot-arc : (crossings : List (List ℕ)) → HasArcsTwice crossings → (place slot : ℕ) → place < length crossings → slot < 4
@@ -279,7 +279,7 @@ module _ (f : ℕ → ℕ) (old new : Code) (same : IsRenumbered f old new) (twi
     ]
   ]
 
-  fixed-below : (x : ℕ) → x < name_count old → fixed x < name_count old
+  pub fixed-below : (x : ℕ) → x < name_count old → fixed x < name_count old
   fixed-below x below = elim (fixed-cases x below) [
     | inl zero_case ↦ omega (arith, zero_case.1, below)
     | inr (inl gone) ↦ omega (arith, gone.2, same.below 0 (omega arith))
@@ -314,7 +314,7 @@ module _ (f : ℕ → ℕ) (old new : Code) (same : IsRenumbered f old new) (twi
     ]
   ]
 
-  renumbered-fixed : IsRenumbered fixed old new
+  pub renumbered-fixed : IsRenumbered fixed old new
   renumbered-fixed =
       record {
         size = same.size;

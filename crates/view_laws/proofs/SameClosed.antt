@@ -1,5 +1,5 @@
 -- Edges between states at which the same circles close inside: those keep their labels, and what is seen changes by its saddle's number.
-use Rattle.std.proofs.Common.{◌≡◌, ◌≢◌, ℕ, zero, suc, ◌⊎◌, inl, inr, ◌+◌, ◌*◌, ◌^◌, ◌<◌, ◌≤◌, ◌∙◌, List, [], ◌∷◌, ◌++◌, length, map, refl, sym, subst, ap, ap₂, arith, Bool, true, false, not, ◌&&◌, ◌||◌}
+use Rattle.std.proofs.Common.{◌≡◌, ◌≢◌, ℕ, zero, suc, ◌⊎◌, inl, inr, ◌+◌, ◌^◌, ◌<◌, ◌≤◌, ◌∙◌, List, [], ◌∷◌, ◌++◌, length, map, refl, sym, subst, ap, ap₂, arith, Bool, true, false, not, ◌&&◌, ◌||◌}
 use Rattle.std.specs.Prelude.{nat_eq, nat_lt}
 use Rattle.std.specs.List.{Contains, list_all, sum_by}
 use Rattle.std.proofs.lemmas.Bool.{eq-eqb, eqb-true, lt-ltb, ltb-true, ne_eqb}
@@ -35,7 +35,7 @@ few-same (z ∷ []) x y few (suc k, below, is) has_too = absurd (omega (arith, b
 few-same (z ∷ []) x y few (zero, below, is) (suc k, below_too, is_too) = absurd (omega (arith, below_too))
 few-same (z ∷ w ∷ xs) x y few has has_too = absurd (omega (arith, few))
 
-lt-more : (a m n : ℕ) → nat_lt (a + m) (a + n) ≡ nat_lt m n
+pub lt-more : (a m n : ℕ) → nat_lt (a + m) (a + n) ≡ nat_lt m n
 lt-more a m n =
     agree (nat_lt (a + m) (a + n)) (nat_lt m n) (λ passes. lt-ltb m n (omega (arith, ltb-true (a + m) (a + n) passes)))
     (λ passes. lt-ltb (a + m) (a + n) (omega (arith, ltb-true m n passes)))
@@ -43,22 +43,22 @@ lt-more a m n =
 module _ (code : Code) (view : View) (is : IsView code view) (circles : HasCircles code) (before behind : ℕ)
     (before_below : before < 2 ^ length code.crossings) (behind_below : behind < 2 ^ length code.crossings)
     (same_closed : closed_at view behind ≡ closed_at view before) where
-  abbrev zs : List ℕ
+  abbrev pub zs : List ℕ
   zs = closed_at view before
 
-  abbrev points : List ℕ
+  abbrev pub points : List ℕ
   points = zs ++ map view.arc view.names
 
-  abbrev r : ℕ → ℕ → Bool
+  abbrev pub r : ℕ → ℕ → Bool
   r = together code view before
 
-  abbrev s : ℕ → ℕ → Bool
+  abbrev pub s : ℕ → ℕ → Bool
   s = together code view behind
 
   few : length zs ≤ 1
   few = few-closed code view is circles before before_below
 
-  named : (z : ℕ) → Contains zs z → IsName code z
+  pub named : (z : ℕ) → Contains zs z → IsName code z
   named = closed-name code view is circles before before_below
 
   apart-before : (z n : ℕ) → Contains zs z → Contains view.names n → circle_at code before z ≢ circle_at code before (view.arc n)
@@ -69,7 +69,7 @@ module _ (code : Code) (view : View) (is : IsView code view) (circles : HasCircl
       is.apart behind z n behind_below (subst (λ (xs : List ℕ). Contains xs z) (sym same_closed) has) has_n
 
   -- a circle that closes has the same points before and behind: only its own
-  closed-kept : (z : ℕ) → Contains zs z → is_kept (same_at code before) (same_at code behind) points z ≡ true
+  pub closed-kept : (z : ℕ) → Contains zs z → is_kept (same_at code before) (same_at code behind) points z ≡ true
   closed-kept z has =
       kept-back (same_at code before) (same_at code behind) points z
       (λ y has_y. elim (Contains-append_cases zs (map view.arc view.names) y has_y) [
@@ -86,7 +86,7 @@ module _ (code : Code) (view : View) (is : IsView code view) (circles : HasCircl
       ])
 
   -- and a name is kept among the points where it is kept among the names
-  name-kept : (n : ℕ) → Contains view.names n
+  pub name-kept : (n : ℕ) → Contains view.names n
       → is_kept (same_at code before) (same_at code behind) points (view.arc n) ≡ is_kept r s view.names n
   name-kept n has =
       let test = λ (y : ℕ). nat_eq (one_if (same_at code before (view.arc n) y)) (one_if (same_at code behind (view.arc n) y)) in
@@ -100,32 +100,32 @@ module _ (code : Code) (view : View) (is : IsView code view) (circles : HasCircl
       (list_all-map test view.arc view.names)
 
   module _ (label other : ℕ) where
-    abbrev c : ℕ
+    abbrev pub c : ℕ
     c = closed_part code view is circles before before_below label
 
-    abbrev d : ℕ
+    abbrev pub d : ℕ
     d = closed_part code view is circles behind behind_below other
 
-    abbrev l : ℕ
+    abbrev pub l : ℕ
     l = seen_part code view is circles before before_below label
 
-    abbrev m : ℕ
+    abbrev pub m : ℕ
     m = seen_part code view is circles behind behind_below other
 
-    abbrev u : ℕ → ℕ
+    abbrev pub u : ℕ → ℕ
     u = lab code view is circles before before_below label
 
-    abbrev v : ℕ → ℕ
+    abbrev pub v : ℕ → ℕ
     v = lab code view is circles behind behind_below other
 
-    keeps-closed : list_all (keeps_point code points before behind label other) zs ≡ nat_eq c d
+    pub keeps-closed : list_all (keeps_point code points before behind label other) zs ≡ nat_eq c d
     keeps-closed =
         all-agree (keeps_point code points before behind label other) (λ z. nat_eq (u z) (v z)) zs
         (λ z has. ap (λ b. not b || nat_eq (u z) (v z)) (closed-kept z has))
         ∙ sym (ap (λ (xs : List ℕ). nat_eq c (number_from (map v xs))) same_closed
         ∙ bits-same u v zs (λ x. label-small code before label x) (λ x. label-small code behind other x))
 
-    keeps-names : list_all (keeps_point code points before behind label other) (map view.arc view.names)
+    pub keeps-names : list_all (keeps_point code points before behind label other) (map view.arc view.names)
         ≡ keeps_classes r s view.names l m
     keeps-names =
         list_all-map (keeps_point code points before behind label other) view.arc view.names

@@ -30,13 +30,13 @@ module _ (code : Code) (view : View) (is : IsView code view) (circles : HasCircl
     (alone_below : alone < 2 ^ length code.crossings) (joined_below : joined < 2 ^ length code.crossings) (z : ℕ)
     (alone_closed : closed_at view alone ≡ z ∷ []) (joined_closed : closed_at view joined ≡ [])
     (alike : AgreeOn view.names (together code view alone) (together code view joined)) where
-  abbrev points : List ℕ
+  abbrev pub points : List ℕ
   points = (z ∷ []) ++ map view.arc view.names
 
-  abbrev r : ℕ → ℕ → Bool
+  abbrev pub r : ℕ → ℕ → Bool
   r = together code view alone
 
-  abbrev s : ℕ → ℕ → Bool
+  abbrev pub s : ℕ → ℕ → Bool
   s = together code view joined
 
   z-closed : Contains (closed_at view alone) z
@@ -82,7 +82,7 @@ module _ (code : Code) (view : View) (is : IsView code view) (circles : HasCircl
         ap (same_at code alone (view.arc n)) (sym made.2) ∙ alike n made.0 has made.1 ∙ ap (same_at code joined (view.arc n)) made.2
   ]
 
-  z-differs : ((y : ℕ) → Contains points y → same_at code alone z y ≡ same_at code joined z y) → ⊥
+  pub z-differs : ((y : ℕ) → Contains points y → same_at code alone z y ≡ same_at code joined z y) → ⊥
   z-differs same =
       let n = z-with.0 in
       let with_z = z-with.1 in
@@ -93,19 +93,19 @@ module _ (code : Code) (view : View) (is : IsView code view) (circles : HasCircl
       ∙ eq-eqb (circle_at code joined z) (circle_at code joined (view.arc n)) (sym with_z.one))
 
   module _ (a j : ℕ) where
-    abbrev u : ℕ → ℕ
+    abbrev pub u : ℕ → ℕ
     u n = lab code view is circles alone alone_below a (view.arc n)
 
-    abbrev v : ℕ → ℕ
+    abbrev pub v : ℕ → ℕ
     v n = lab code view is circles joined joined_below j (view.arc n)
 
-    abbrev l : ℕ
+    abbrev pub l : ℕ
     l = seen_part code view is circles alone alone_below a
 
-    abbrev m : ℕ
+    abbrev pub m : ℕ
     m = seen_part code view is circles joined joined_below j
 
-    abbrev z_label : ℕ
+    abbrev pub z_label : ℕ
     z_label = lab code view is circles alone alone_below a z
 
     abbrev SameLabels : Type 0
@@ -165,7 +165,7 @@ module _ (code : Code) (view : View) (is : IsView code view) (circles : HasCircl
         nothing : (n : ℕ) → 0 + n ≡ n
         nothing n = omega arith
 
-    more-alone : circle_count code alone ≡ circle_count code joined + 1
+    pub more-alone : circle_count code alone ≡ circle_count code joined + 1
     more-alone =
         let first = count-parts code view is circles alone alone_below
         ∙ ap (λ (xs : List ℕ). length xs + length seen_alone) alone_closed in
@@ -264,13 +264,13 @@ module _ (code : Code) (view : View) (is : IsView code view) (circles : HasCircl
         (ones (circle_count code joined) j + one_if (nat_lt (circle_count code joined) (circle_count code alone)))
         (omega (arith, minus, more, sums-same labels, ones-alone, ones-joined)))
 
-    among-alone : (y : ℕ) → Contains (closed_at view alone) y → Contains (z ∷ []) y
+    pub among-alone : (y : ℕ) → Contains (closed_at view alone) y → Contains (z ∷ []) y
     among-alone y has = subst (λ (xs : List ℕ). Contains xs y) alone_closed has
 
-    among-joined : (y : ℕ) → Contains (closed_at view joined) y → Contains (z ∷ []) y
+    pub among-joined : (y : ℕ) → Contains (closed_at view joined) y → Contains (z ∷ []) y
     among-joined y has = absurd (omega (arith, (subst (λ (xs : List ℕ). Contains xs y) joined_closed has).1))
 
-    only-z : (y : ℕ) → Contains (z ∷ []) y → IsName code y
+    pub only-z : (y : ℕ) → Contains (z ∷ []) y → IsName code y
     only-z y has = elim (Contains-cases z y [] has) [
       | inl here ↦ subst (λ (x : ℕ). IsName code x) here z-name
       | inr none ↦ absurd (omega (arith, none.1))

@@ -5,6 +5,6 @@ pub returns : goal.returns
 returns c = record {
   closed = λ first second circles label placed other along.
       IsClosed-laid first second circles label record { placed = placed; other = other; along = along };
-  sum = λ first second circles label placed other along.
-      sum-laid first second circles label record { placed = placed; other = other; along = along };
+  sum = λ p h k first second circles label none placed other along.
+      sum-laid p h k first second circles label none record { placed = placed; other = other; along = along };
 }
