@@ -14,7 +14,7 @@ use Rattle.kh_types.proofs.Lists.{Contains-flat_map, Contains-map, Contains-rang
 use Rattle.kh_types.proofs.ListSums.{sum_by-alike, sum_by-some}
 use Rattle.square_laws.proofs.Degrees.{coefficient-below, coefficient-next}
 use Rattle.square_laws.proofs.Pairs.{coefficient-one, edge_or_zero}
-use Rattle.square_laws.proofs.Products.{product_sum-zero}
+use Rattle.square_laws.proofs.PlainSquares.{product_sum-zero}
 use Rattle.square_laws.proofs.Signs.{power_sign}
 use Rattle.square_laws.proofs.TouchedCircles.{fits}
 use Rattle.cell_laws.specs.Cells.{AreComplex}

@@ -18,3 +18,15 @@ pub mod SameElements
 pub mod Labels
 pub mod SplitLabels
 pub mod CellLists
+pub mod DeformedCells
+pub mod Degrees
+pub mod LeftSurvivors
+pub mod AlikeSurvivors
+pub mod LastSurvivors
+pub mod LeftFiltered
+pub mod Reductions
+pub mod Ends
+pub mod LayerSurvivors
+pub mod LevelSurvivors
+pub mod DeformedAlong
+pub mod FilteredCubes

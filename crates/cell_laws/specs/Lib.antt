@@ -5,3 +5,7 @@ pub mod Cubes
 pub mod WorkedCells
 pub mod Layers
 pub mod Signs
+pub mod DeformedCubes
+pub mod Filtered
+pub mod Shortest
+pub mod WorkedFilters

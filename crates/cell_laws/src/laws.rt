@@ -5,3 +5,7 @@ pub mod cubes;
 pub mod layers;
 pub mod listings;
 pub mod worked;
+pub mod deformed_cubes;
+pub mod survivor_layers;
+pub mod survivors;
+pub mod worked_survivors;

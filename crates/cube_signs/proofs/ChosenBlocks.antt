@@ -29,7 +29,7 @@ use Rattle.sparse_block.specs.Complexes.{NamedComplex, all_alive, degree_from_li
 use Rattle.sparse_block.specs.Entries.{Entry, value_at, AreEntries}
 use Rattle.sparse_block.proofs.BuildLemmas.{sizes-all_alive}
 use Rattle.sparse_block.proofs.DegreeLemmas.{length-at}
-use Rattle.square_laws.proofs.Degrees.{product_sum-at}
+use Rattle.square_laws.proofs.PlainSquares.{product_sum-at}
 use Rattle.cube_signs.specs.Chosen.{chosen_at, chosen_block, coefficients, list_degree, IsClosed}
 use Rattle.cube_signs.specs.ChosenParts.{all_places, all_places_to, chosen_to, AreChosenParts, AreMovedColumns}
 use Rattle.cube_signs.specs.Columns.{IsTail}

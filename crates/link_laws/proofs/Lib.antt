@@ -16,3 +16,16 @@ pub mod Paths
 pub mod AddedMoves
 pub mod WorkedPaths
 pub mod PieceLinks
+pub mod FilteredMeasured
+pub mod AllSurvivors
+pub mod PlainSurvivors
+pub mod SlideSurvivors
+pub mod BigonSurvivors
+pub mod NumberSurvivors
+pub mod ReversedSurvivors
+pub mod KinkSurvivors
+pub mod ChangedSurvivors
+pub mod AddedSurvivors
+pub mod FilteredOne
+pub mod LevelSurvivors
+pub mod FilteredViews

@@ -1,3 +1,4 @@
 pub mod SeenBy
 pub mod Links
 pub mod WorkedLinks
+pub mod CodeSurvivors

@@ -5,3 +5,4 @@
 pub mod laws;
 pub mod moves;
 pub mod worked;
+pub mod survivors;

@@ -24,7 +24,7 @@ use Rattle.square_laws.proofs.Merges.{IsSwitch}
 use Rattle.square_laws.proofs.TouchedCircles.{fits, fits-decides}
 use Rattle.mark_laws.specs.Turns.{turn_count}
 use Rattle.mark_laws.proofs.LessMarks.{less-turns, less_count, lists_less, turns-marked}
-use Rattle.square_laws.proofs.Paths.{marks-sum}
+use Rattle.square_laws.proofs.MarkSums.{marks-sum}
 
 -- how many of the lists behind an edge give the labels of a generator
 abbrev behind_count : Bool → Code → Generator → ℕ → List ℕ → ℕ

@@ -30,7 +30,7 @@ use Rattle.square_laws.proofs.LabelNumbers.{IsName-names, sum_by-names}
 use Rattle.square_laws.proofs.Marks.{hits, hits-circle, hits-cons, hits-exchanged, hits-sum}
 use Rattle.square_laws.proofs.Merges.{circle_in}
 use Rattle.mark_laws.specs.Turns.{is_lowered, turn_count}
-use Rattle.square_laws.proofs.Paths.{term-marked, marks-sum}
+use Rattle.square_laws.proofs.MarkSums.{term-marked, marks-sum}
 
 -- the labels of a generator but for one circle, where they are 1 more
 pub record IsLowered (code : Code) (labels : ℕ → ℕ) (generator : Generator) (circle : ℕ) : Type 0 where

@@ -9,3 +9,5 @@ pub mod ShuffledDarts
 pub mod ShuffledFaces
 pub mod AnyOrder
 pub mod Reordered
+pub mod ExchangedNumbers
+pub mod ExchangedSurvivors

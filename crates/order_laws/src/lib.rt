@@ -4,3 +4,4 @@
 
 pub mod laws;
 pub mod worked;
+pub mod survivors;

@@ -17,15 +17,14 @@ use Rattle.kh_types.specs.Code.{Code, IsCrossing, place_of}
 use Rattle.kh_types.specs.Circles.{circle_count}
 use Rattle.kh_types.specs.Differential.{coefficient, coefficient_at, edge_sign}
 use Rattle.kh_types.specs.Directions.{minus_count, plus_count}
-use Rattle.kh_types.specs.Generators.{Generator, generators, generators_at, has_degrees, homological_degree, one_count, quantum_degree}
+use Rattle.kh_types.specs.Generators.{Generator, has_degrees, homological_degree, one_count, quantum_degree}
 use Rattle.square_laws.specs.NextDegrees.{IsNext}
 use Rattle.square_laws.proofs.Merges.{IsSwitch, switch-edge}
-use Rattle.kh_types.proofs.ListSums.{sum_by-alike, sum_by-filter, sum_by-none}
+use Rattle.kh_types.proofs.ListSums.{sum_by-none}
 use Rattle.square_laws.proofs.MarkedLabels.{labels-lower}
 use Rattle.square_laws.proofs.TouchedCircles.{fits, fits-decides}
 use Rattle.square_laws.proofs.Signs.{ones-set_below}
 use Rattle.square_laws.proofs.Pairs.{IsStep, coefficient_at-edge, edge_or_zero}
-use Rattle.square_laws.proofs.Products.{product_sum-zero}
 use Rattle.kh_types.proofs.Sums.{times-zero}
 
 -- the label degree falls by one, and the number of 1-smoothings rises by one
@@ -56,7 +55,7 @@ next-fits code tail head crossing is is_crossing step fit =
     }
 
 -- where the degrees are others, the coefficient is 0
-coefficient-zero : (p : ℕ) (code : Code) (tail head : Generator) → IsTrue (accepted code) → (IsNext code tail head → ⊥)
+pub coefficient-zero : (p : ℕ) (code : Code) (tail head : Generator) → IsTrue (accepted code) → (IsNext code tail head → ⊥)
     → coefficient p code tail head ≡ 0
 coefficient-zero p code tail head is other =
     sum_by-none (coefficient_at p code tail head) 1 (length code.crossings)
@@ -72,7 +71,7 @@ coefficient-zero p code tail head is other =
     ])
 
 -- a generator has the degrees, or it has not, by the test
-has_degrees-from : (code : Code) (i j : ℤ) (generator : Generator) → homological_degree code generator ≡ i
+pub has_degrees-from : (code : Code) (i j : ℤ) (generator : Generator) → homological_degree code generator ≡ i
     → quantum_degree code generator ≡ j → has_degrees code i j generator ≡ true
 has_degrees-from code i j generator is_i is_j = grind (arith, nat_tests)
 
@@ -98,31 +97,6 @@ coefficient-next p code tail head is some = elim (next_or_not code tail head) [
   | inl next ↦ next
   | inr other ↦ absurd (some (coefficient-zero p code tail head is other))
 ]
-
--- so the product sums to 0 over the middle generators of the degrees between
-pub product_sum-at : (p : ℕ) (code : Code) (i j : ℤ) (tail head : Generator) → 0 < p → IsTrue (accepted code)
-    → has_degrees code i j tail ≡ true
-    → sum_by (λ middle. coefficient p code middle head * coefficient p code tail middle) (generators_at code (i +ℤ pos 1) j) % p ≡ 0
-product_sum-at p code i j tail head positive is passes =
-    let next = i +ℤ pos 1 in
-    let term = λ (middle : Generator). coefficient p code middle head * coefficient p code tail middle in
-    let degrees = degrees-from_test code i j tail passes in
-    ap (λ s. s % p)
-    (sum_by-filter term (has_degrees code next j) (generators code)
-    ∙ sum_by-alike (λ middle. cond (has_degrees code next j middle) (term middle) 0) term
-    (λ middle. elim (cases_Bool (has_degrees code next j middle)) [
-      | inl within ↦ ap (λ b. cond b (term middle) 0) within
-      | inr outside ↦
-          ap (λ b. cond b (term middle) 0) outside
-          ∙ sym (times-zero (coefficient p code middle head) (coefficient p code tail middle)
-          (coefficient-zero p code tail middle is (λ step.
-          let so : true ≡ false =
-          sym (has_degrees-from code next j middle (step.homological ∙ ap (λ z. z +ℤ pos 1) degrees.0) (step.quantum ∙ degrees.1))
-          ∙ outside in
-          absurd (cc))))
-    ])
-    (generators code))
-    ∙ product_sum-zero p code tail head positive is
 
 -- at most one crossing leads from a state to another, so a coefficient is one sign or 0
 

@@ -6,7 +6,7 @@ pub mod EdgeMarks
 pub mod MarkBounds
 pub mod TouchedCircles
 pub mod MarkedLabels
-pub mod Paths
+pub mod MarkSums
 pub mod Signs
 pub mod Pairs
 pub mod Products
@@ -14,3 +14,13 @@ pub mod Degrees
 pub mod Matrices
 pub mod BlockDegrees
 pub mod BlockComplexes
+pub mod Numbers
+pub mod OneLabels
+pub mod EdgeNumbers
+pub mod Weights
+pub mod DeformedPaths
+pub mod EdgeSums
+pub mod DeformedSquares
+pub mod RaisedDegrees
+pub mod SameNumbers
+pub mod PlainSquares

@@ -14,7 +14,8 @@ use Rattle.kh_types.specs.Differential.{coefficient, differential}
 use Rattle.kh_types.specs.Generators.{Generator, generator_of, generators, generators_at, has_degrees}
 use Rattle.kh_types.proofs.MatrixTests.{entry-past_rows}
 use Rattle.kh_types.proofs.ListSums.{sum_by-none, sum_by-places, sum_by-range_alike}
-use Rattle.square_laws.proofs.Degrees.{coefficient-below, product_sum-at}
+use Rattle.square_laws.proofs.Degrees.{coefficient-below}
+use Rattle.square_laws.proofs.PlainSquares.{product_sum-at}
 use Rattle.kh_types.proofs.Sums.{zero-times, times-zero}
 
 -- the generator at a place

@@ -1,16 +1,10 @@
--- The product of neighbouring coefficients, summed over all middle generators, is 0 modulo p.
-use Rattle.std.proofs.lemmas.Bool.Decides.{nat_tests}
-use Rattle.std.proofs.Common.{◌≡◌, ℕ, zero, suc, ◌+◌, ◌*◌, ◌%◌, ◌<◌, ◌≤◌, ◌∙◌, List, length, sym, ap, ap₂, arith, IsTrue}
+-- Products of sums, and sums over all pairs of numbers of which the two orders cancel.
+use Rattle.std.proofs.Common.{◌≡◌, ℕ, zero, suc, ◌+◌, ◌*◌, ◌%◌, ◌<◌, ◌≤◌, ◌∙◌, List, sym, ap, ap₂, arith}
 use Rattle.std.specs.List.{sum_by, range_with_len}
 use Rattle.std.proofs.lemmas.List.Sums.{sum_by-cons}
 use Rattle.std.proofs.Math.Nat.{zero-mod, add-mod}
-use Rattle.kh_types.specs.Acceptance.{accepted}
-use Rattle.kh_types.specs.Code.{Code, crossing_numbers}
-use Rattle.kh_types.specs.Generators.{Generator, generators}
-use Rattle.kh_types.specs.Differential.{coefficient_at, coefficient}
 use Rattle.kh_types.proofs.Ranges.{sum_by-range_more}
-use Rattle.kh_types.proofs.ListSums.{sum_by-alike, sum_by-plus, sum_by-times, sum_by-turned}
-use Rattle.square_laws.proofs.Pairs.{pair_sum, pair_sum-same, pairs-cancel, product_at}
+use Rattle.kh_types.proofs.ListSums.{sum_by-alike, sum_by-plus, sum_by-times}
 
 -- a product of sums
 pub product-sums : {X : Type 0} (f g : X → ℕ) (xs ys : List X)
@@ -62,28 +56,3 @@ pairs_to-mod p f (suc n) cancel none =
     ∙ plus-mod p (pairs_to f n + sum_by (λ a. f a k + f k a) (range_with_len 1 n)) (f k k)
     (plus-mod p (pairs_to f n) (sum_by (λ a. f a k + f k a) (range_with_len 1 n)) before now)
     (ap (λ x. x % p) (none k) ∙ zero-mod p)
-
--- the sum of products over all middle generators is the sum over all pairs of crossings
-abbrev pub product_sum : ℕ → Code → Generator → Generator → ℕ
-product_sum p code tail head =
-    sum_by (λ middle. coefficient p code middle head * coefficient p code tail middle) (generators code)
-
-product_sum-pairs : (p : ℕ) (code : Code) (tail head : Generator)
-    → product_sum p code tail head ≡ pairs_to (pair_sum p code tail head) (length code.crossings)
-product_sum-pairs p code tail head =
-    let ns = crossing_numbers code.crossings in
-    let term = λ (middle : Generator) (a b : ℕ). product_at p code tail head a b middle in
-    sum_by-alike (λ middle. coefficient p code middle head * coefficient p code tail middle)
-    (λ middle. sum_by (λ a. sum_by (term middle a) ns) ns)
-    (λ middle. product-sums (coefficient_at p code middle head) (coefficient_at p code tail middle) ns ns)
-    (generators code)
-    ∙ sum_by-turned (λ middle a. sum_by (term middle a) ns) (generators code) ns
-    ∙ sum_by-alike (λ a. sum_by (λ middle. sum_by (term middle a) ns) (generators code))
-    (λ a. sum_by (λ b. pair_sum p code tail head a b) ns)
-    (λ a. sum_by-turned (λ middle b. term middle a b) (generators code) ns) ns
-
--- the differential squares to zero, over all middle generators
-pub product_sum-zero : (p : ℕ) (code : Code) (tail head : Generator) → 0 < p → IsTrue (accepted code)
-    → product_sum p code tail head % p ≡ 0
-product_sum-zero p code tail head positive is =
-    grind (arith, nat_tests, product_sum-pairs, pairs_to-mod, pair_sum, pairs-cancel, pair_sum-same)

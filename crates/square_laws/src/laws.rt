@@ -5,3 +5,5 @@ pub mod blocks;
 pub mod coefficients;
 pub mod known;
 pub mod squares;
+pub mod deformed;
+pub mod known_deformed;
