@@ -94,12 +94,12 @@ def unnamed(page):
     return [it.partition("::")[2] for it in STATEMENTS if " " not in it and f"`{it.partition('::')[2]}`" not in page]
 
 
-def statement_page():
-    """The page that `tools/statement` writes."""
+def statement_pages():
+    """The pages that `tools/statement` writes, by their names."""
     loader = importlib.machinery.SourceFileLoader("statement", os.path.join(TOP, "tools", "statement"))
     module = importlib.util.module_from_spec(importlib.util.spec_from_loader("statement", loader))
     loader.exec_module(module)
-    return module.written_page()
+    return {name: text() for name, text in module.WRITTEN.items()}
 
 
 def faults(read):
@@ -108,6 +108,7 @@ def faults(read):
     page = read("docs", "DEFINITIONS.md")
     yield "DEFINITIONS.md has the cone of what README.md claims", ", ".join(wrong_names(page)) or None
     yield "DEFINITIONS.md has each definition behind those that it rests on", ", ".join(early_names(page)) or None
-    yield "STATEMENT.md is written anew", "`tests/rules.py --write` mends it" if read("docs", "STATEMENT.md") != statement_page() else None
+    for name, text in statement_pages().items():
+        yield f"{name} is written anew", "`tests/rules.py --write` mends it" if read("docs", name) != text else None
     for path in (("README.md",), ("docs", "THEOREM.md")):
         yield f"{path[-1]} has the sizes of cones", "`tests/rules.py --write` mends it" if read(*path) != with_sizes(read(*path)) else None

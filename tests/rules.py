@@ -326,7 +326,8 @@ def main():
         write(with_heads(read("docs", "ARCHITECTURE.md"), stands_on()), "docs", "ARCHITECTURE.md")
         write(believed.with_sizes(with_lengths(read("docs", "THEOREM.md"))), "docs", "THEOREM.md")
         write(believed.with_sizes(with_length_of_edge(read("README.md"))), "README.md")
-        write(believed.statement_page(), "docs", "STATEMENT.md")
+        for name, text in believed.statement_pages().items():
+            write(text, "docs", name)
     broken = [f"{name}: {fault}" for name, fault in faults() if fault]
     print("\n".join(broken) or "no rule is broken")
     return 1 if broken else 0

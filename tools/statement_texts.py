@@ -117,6 +117,28 @@ CODES = "The worked values speak of these codes:"
 
 LAWS_OF_A_FILE = "Laws that show what these mean:"
 
+S_HEAD = """\
+# What one has to believe of s
+
+This page is written by `tools/statement`. Rasmussen's s of a code over the field of p elements is
+
+{s}
+It rests on {all} definitions. Those of the cube, of degrees, ranks and signs stand on [the first page](STATEMENT.md), with how to read them
+and what the standard library's words mean. The other {definitions}, {lines} lines, are here, each behind those that it names, with their
+values and the laws that speak of them. What s is in the topologist's words, by hand and with its sources: [S](S.md).
+
+Two words more of the standard library: `get_or l k x` is the element of the list l at the place k, counted from 0, and x past the end;
+`int_div_euclid` divides integers and rounds down, where the divisor is positive.
+"""
+
+S_END = """\
+## What is still trusted
+
+That this is Rasmussen's number, with his sign, is for you to see: by the values above, by [the sources](S.md#what-is-cited-and-not-claimed),
+and by a comparison: an unproved program, written from these definitions, finds s of all knots of up to ten crossings as they are known. That s
+bounds the genus of surfaces is a theorem of his that is cited, and not proved here.
+"""
+
 TITLES = {
     "crates/kh_types/specs/Bits.antt": "Bits of numbers",
     "crates/kh_types/specs/Classes.antt": "Numbers joined into classes",
@@ -132,6 +154,12 @@ TITLES = {
     "crates/kh_types/specs/StateSum.antt": "The Jones polynomial",
     "crates/kh_runs/src/status.rt": "How a run ends",
     "crates/kh_runs/specs/Homology.antt": "What is written",
+    "crates/square_laws/specs/Deformed.antt": "The deformed differential",
+    "crates/cell_laws/specs/Cells.antt": "Complexes over cells of any kind",
+    "crates/cell_laws/specs/Filtered.antt": "Survivors",
+    "crates/cell_laws/specs/DeformedCubes.antt": "The deformed cube as cells",
+    "crates/link_laws/specs/CodeSurvivors.antt": "Survivors of a code",
+    "crates/link_laws/specs/LastPages.antt": "The last page, and s",
 }
 
 # CRATE::FUNCTION, and the labels of some of its clauses, or all
@@ -158,6 +186,20 @@ LAWS = (
     "jones_sum::circles_give_binomial_coefficients",
     "jones_sum::coefficients_tell_the_polynomial same_text",
     "euler_laws::euler_characteristic_is_the_state_sum coefficient",
+)
+
+# The laws of the second page.
+S_LAWS = (
+    "square_laws::deformed_coefficients_at_zero_are_plain plain",
+    "square_laws::deformed_coefficients_square_to_zero",
+    "cell_laws::deformed_cubes_are_filtered",
+    "cell_laws::complexes_are_filtered unfiltered",
+    "cell_laws::survivors_fall_to_none",
+    "cell_laws::survivors_of_level_cells lasting",
+    "cell_laws::reductions_count_survivors",
+    "link_laws::survivors_at_zero_are_homology",
+    "link_laws::links_have_one_last_page",
+    "link_laws::knots_have_one_s",
 )
 
 WORDS = (
