@@ -19,7 +19,7 @@ use Rattle.scan_laws.specs.EndCounts.{counted_from}
 use Rattle.scan_laws.proofs.Counts.{lasting-counted, survivors-counted}
 use Rattle.scan_laws.proofs.DeformedBase.{alike-deformed}
 use Rattle.cell_laws.proofs.FilteredCubes.{AreFiltered-cube}
-use Rattle.scan_laws.proofs.Survivors.{Stays, stays-alike, stays-step}
+use Rattle.scan_laws.proofs.KeptSurvivors.{Stays, stays-alike, stays-step}
 
 module _ (p h : ℕ) (code : Code) (plus minus : ℕ) (field : HasInverses p) (is : IsTrue (accepted code)) where
   positive : 0 < p

@@ -1,4 +1,4 @@
-use Rattle.scan_laws.proofs.Survivors.{level-step}
+use Rattle.scan_laws.proofs.KeptSurvivors.{level-step}
 use Rattle.scan_laws.proofs.survivors.plain_steps_are_level.Goals as goal
 
 pub returns : goal.returns
