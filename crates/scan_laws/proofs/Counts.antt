@@ -84,10 +84,10 @@ module _ (p hd hh : ℕ) (code : Code) (is : IsTrue (accepted code)) (scan : Sca
 
   pub survivors-counted : HasInverses p → AreFiltered p cells → counted_from code.loops plus minus scan i t ≡ survivors p cells i t
   survivors-counted field filtered =
-      sym (survivors-last p cells field filtered.below (coefficient-none p hd hh code is scan of last plus minus i t) i t ∙ from-last)
+      sym (survivors-last p cells field filtered.below (coefficient-none p hd hh code is scan of last.done plus minus last) i t ∙ from-last)
 
   pub lasting-counted : HasInverses p → AreFiltered p cells → counted_with code.loops plus minus scan i t ≡ lasting p cells i t
   lasting-counted field filtered =
       sym (lasting-reduced p cells cells field filtered
-      (IsReduction.over (coefficient-none p hd hh code is scan of last plus minus i t)) i t
-      ∙ cells-last p hd hh code is scan of last plus minus i t)
+      (IsReduction.over (coefficient-none p hd hh code is scan of last.done plus minus last)) i t
+      ∙ cells-last p hd hh code is scan of last.done plus minus i t)
