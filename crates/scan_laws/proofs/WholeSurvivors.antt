@@ -33,7 +33,7 @@ use Rattle.scan_laws.specs.EndCounts.{counted_from}
 use Rattle.scan_laws.specs.LevelSteps.{IsEndOfEvenScan, IsEndOfLevelScan, IsEvenLast, IsEvenStep, IsEvenlyReached, IsLevelReached, IsLevelStep}
 use Rattle.scan_laws.specs.Steps.{IsLast}
 use Rattle.scan_laws.proofs.Base.{alike-deformed}
-use Rattle.scan_laws.proofs.Counts.{lasting-counted, survivors-counted}
+use Rattle.scan_laws.proofs.End.{lasting-counted, survivors-counted}
 use Rattle.scan_laws.proofs.Ending.{even-ends, level-ends}
 use Rattle.scan_laws.proofs.Kept.{coefficients-below}
 use Rattle.scan_laws.proofs.KeptSurvivors.{Stays, dimension-step, stays-step}
@@ -144,12 +144,12 @@ module _ (p h k : ℕ) (opposed : opposite p h ≡ k) (code : Code) (plus minus 
     pub survivors-reached : counted_from code.loops plus minus scan i t ≡ survivors p (deformed_cube_of p h code plus minus) i t
     survivors-reached =
         let stands = stands-reached scan reached in
-        survivors-counted p h k code is scan stands.of last plus minus i t field stands.filtered ∙ stands.count i t
+        survivors-counted p h k code is scan stands.of last.done plus minus last field stands.filtered i t ∙ stands.count i t
 
     pub lasting-reached : counted_with code.loops plus minus scan i t ≡ lasting p (deformed_cube_of p h code plus minus) i t
     lasting-reached =
         let stands = stands-reached scan reached in
-        lasting-counted p h k code is scan stands.of last plus minus i t field stands.filtered
+        lasting-counted p h k code is scan stands.of last.done plus minus last field stands.filtered i t
         ∙ ap₂ (λ m n. m - n) (stands.count i t) (stands.count i (t +ℤ pos 1))
 
 -- with the crossings in any order
