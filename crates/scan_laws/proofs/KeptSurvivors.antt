@@ -66,7 +66,8 @@ module _ (Q : Layer × Layer → Type 0) (p hd hh : ℕ) (code : Code) (plus min
 
   small : (x y : Layer) → left.coefficient x y < p
   small x y =
-      mod_below (before.coefficient x y + (p - sum_by (way_back p before.coefficient x y) made.pairs % p)) p (omega (arith, field.above_one))
+      mod_below (before.coefficient x y + (p - sum_by (way_back p before.coefficient x y) made.pairs % p)) p
+      (omega (arith, field.above_one))
 
   below : (x y : Layer) → behind.coefficient x y < p
   below = coefficients-below p hd hh code plus minus next field.above_one
@@ -91,14 +92,15 @@ module _ (Q : Layer × Layer → Type 0) (p hd hh : ℕ) (code : Code) (plus min
 
     pub dimension-made : ((pair : Layer × Layer) → Contains made.pairs pair
         → (complex_of p hd hh code plus minus scan).quantum pair.1 ≡ (complex_of p hd hh code plus minus scan).quantum pair.0)
-        → (i j : ℤ) → dimension_at p (complex_of p hd hh code plus minus next) i j ≡ dimension_at p (complex_of p hd hh code plus minus scan) i j
+        → (i j : ℤ)
+        → dimension_at p (complex_of p hd hh code plus minus next) i j ≡ dimension_at p (complex_of p hd hh code plus minus scan) i j
     dimension-made level i j =
         dimension-alike p made.name one left behind made.alike field small below i j
         ∙ dimension-left_level p before filtered made.pairs made.rest made.listed level field made.are i j
 
 -- the elimination of an entry of the least gap leaves no smaller one
-pub gap-kept : (p hd hh : ℕ) (code : Code) (plus minus : ℕ) (scan next : Scan) (out : IsEliminated p hd hh code plus minus scan next) (gap : ℤ)
-    → HaveGap (complex_of p hd hh code plus minus scan) gap
+pub gap-kept : (p hd hh : ℕ) (code : Code) (plus minus : ℕ) (scan next : Scan) (out : IsEliminated p hd hh code plus minus scan next)
+    (gap : ℤ) → HaveGap (complex_of p hd hh code plus minus scan) gap
     → level_of (scan.object out.less.head) -ℤ level_of (scan.object out.less.tail) ≡ gap
     → HaveGap (complex_of p hd hh code plus minus next) gap
 gap-kept p hd hh code plus minus scan next out gap least is x y has_x has_y some =

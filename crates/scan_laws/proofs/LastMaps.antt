@@ -1,6 +1,6 @@
--- Behind all crossings no arc is open: each map is one number, its amount, times the identity, and none other than 0 leads from an object to
--- itself, by degrees. A coefficient other than 0 joins equal labels of objects between which the amount is not 0, so that it rises as their
--- levels do.
+-- Behind all crossings no arc is open: each map is one number, its amount, times the identity, and none other than 0 leads from an object
+-- to itself, by degrees. A coefficient other than 0 joins equal labels of objects between which the amount is not 0, so that it rises as
+-- their levels do.
 use Rattle.std.proofs.Common.{◌≡◌, ◌≢◌, ℕ, inl, inr, ◌+◌, ◌*◌, ◌%◌, ◌^◌, ◌<◌, ◌∙◌, ℤ, pos, ◌+ℤ◌, ◌-ℤ◌, List, [], length, refl, sym, subst, ap, ap₂, arith, IsTrue}
 use Rattle.std.specs.Prelude.{nat_eq, ◌++◌, ◌≤ℤ◌, if◌then◌else◌}
 use Rattle.std.specs.List.{Contains, filter}
@@ -132,7 +132,8 @@ module _ (p hd hh : ℕ) (code : Code) (plus minus : ℕ) (field : HasInverses p
       → amount x.object y.object ≡ 0 → layer_coefficient layers x y ≡ 0
   nothing-there x y has_x has_y same none =
       inside-state layers x y same
-      ∙ matrix-same p hd hh (points_at code scan.done) (pairs_of scan x.object) (pairs_of scan y.object) (joined_outside code scan.done x.state)
+      ∙ matrix-same p hd hh (points_at code scan.done) (pairs_of scan x.object) (pairs_of scan y.object)
+      (joined_outside code scan.done x.state)
       (scan.terms x.object y.object) [] y.label x.label
       (record {
         dots = of.dots x.object y.object has_x has_y;
@@ -182,14 +183,16 @@ module _ (p hd hh : ℕ) (code : Code) (plus minus : ℕ) (field : HasInverses p
           let at = level-some cells x y some in
           let rises = rises-last x y has_x has_y at.1 in
           absurd (rises.0 (last.terms x.object y.object 0 (cell-from layers x has_x).object (cell-from layers y has_y).object
-          (level (layers.quantum y) (layers.quantum x) (level_of (scan.object y.object)) (level_of (scan.object x.object)) rises.1 (sym at.0))
+          (level (layers.quantum y) (layers.quantum x) (level_of (scan.object y.object)) (level_of (scan.object x.object)) rises.1
+          (sym at.0))
           (omega (arith, one-set x.object y.object)) ∙ zero-mod p))
     ]
       where
         level : (q r g h : ℤ) → q -ℤ r ≡ g -ℤ h → q ≡ r → g ≡ h
         level q r g h rise same = omega (arith, ints, rise, same)
 
-    pub dimension-last : (i j : ℤ) → dimension_at p (complex_of p hd hh code plus minus scan) i j ≡ counted_with code.loops plus minus scan i j
+    pub dimension-last : (i j : ℤ)
+        → dimension_at p (complex_of p hd hh code plus minus scan) i j ≡ counted_with code.loops plus minus scan i j
     dimension-last i j =
         sym (dimension-level p cells i j)
         ∙ dimension-nothing p (level_part cells) field (complex-level p cells filtered).below level-none i j

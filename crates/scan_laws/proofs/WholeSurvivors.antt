@@ -1,5 +1,5 @@
--- What steps reach has the survivors of the deformed cube, and before the last stage its dimensions too, which are those of the cube. So the
--- end of a scan counts survivors, and what it counts before its last stage are dimensions.
+-- What steps reach has the survivors of the deformed cube, and before the last stage its dimensions too, which are those of the cube. So
+-- the end of a scan counts survivors, and what it counts before its last stage are dimensions.
 use Rattle.std.proofs.Common.{◌≡◌, ℕ, ◌+◌, ◌-◌, ◌∙◌, ◌<◌, ℤ, pos, ◌+ℤ◌, List, sym, subst, ap₂, arith, IsTrue}
 use Rattle.std.proofs.lemmas.Int.{ints}
 use Rattle.kh_types.specs.Acceptance.{accepted}
@@ -77,7 +77,8 @@ module _ (p h k : ℕ) (opposed : opposite p h ≡ k) (code : Code) (plus minus 
   cube-filtered = AreFiltered-cube p h code plus minus positive is
 
   first-alike : AreAlike p name one cube (complex_of p h k code plus minus first_scan)
-  first-alike = subst (λ n. AreAlike p name one cube (complex_of p h n code plus minus first_scan)) opposed (alike-deformed p h plus minus code)
+  first-alike =
+      subst (λ n. AreAlike p name one cube (complex_of p h n code plus minus first_scan)) opposed (alike-deformed p h plus minus code)
 
   first-below : (x y : Layer) → (complex_of p h k code plus minus first_scan).coefficient x y < p
   first-below = coefficients-below p h k code plus minus first_scan field.above_one

@@ -1,5 +1,5 @@
--- Two scans with h = 1: that of the trefoil over two elements, and that of the Hopf link over three, with its crossings the other way round.
--- They have the objects of the plain scans, and more maps behind the last crossing.
+-- Two scans with h = 1: that of the trefoil over two elements, and that of the Hopf link over three, with its crossings the other way
+-- round. They have the objects of the plain scans, and more maps behind the last crossing.
 use Rattle.std.specs.Prelude.{List, [], ◌∷◌}
 use Rattle.scan_laws.specs.Scans.{Scan}
 use Rattle.scan_laws.specs.Worked.{hopf_left_3, hopf_left_4, hopf_one, hopf_packed, hopf_with, one_done, three_with, two_done, two_left}
@@ -55,8 +55,8 @@ between_pages = three_with (3 ∷ 9 ∷ 14 ∷ 16 ∷ []) ((3, 9) ∷ [])
 abbrev pub last_page : Scan
 last_page = three_with (14 ∷ 16 ∷ []) []
 
--- of the Hopf link there are also coefficients from 3 to 5 and 7, and 4 and 6 to 8; those from 0 to 4, 1 to 5 and 6 to 9 are eliminated, and
--- then it goes on as the plain scan does
+-- of the Hopf link there are also coefficients from 3 to 5 and 7, and from 4 and 6 to 8; those from 0 to 4, 1 to 5 and 6 to 9 are
+-- eliminated, and then it goes on as the plain scan does
 abbrev pub deformed_two : Scan
 deformed_two =
     hopf_with (0 ∷ 1 ∷ 2 ∷ 3 ∷ 4 ∷ 5 ∷ 6 ∷ 7 ∷ 8 ∷ 9 ∷ 10 ∷ 11 ∷ [])

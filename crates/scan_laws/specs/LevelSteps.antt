@@ -48,7 +48,8 @@ IsEvenlyReached p hd hh code scan = Leads (IsEvenStep p hd hh code) first_scan s
 abbrev pub IsLevelReached : ℕ → ℕ → ℕ → Code → ℕ → ℕ → Scan → Type 0
 IsLevelReached p hd hh code plus minus scan = Leads (IsLevelStep p hd hh code plus minus) first_scan scan
 
--- a scan is before its last stage where all crossings are done and no map is left between objects of one level: the coefficients there are 0
+-- a scan is before its last stage where all crossings are done and no map is left between objects of one level: all coefficients there
+-- are 0
 pub record IsEvenLast (p : ℕ) (code : Code) (scan : Scan) : Type 0 where
   pub done : scan.done ≡ length code.crossings
   pub terms : (x y kept : ℕ) → Contains scan.numbers x → Contains scan.numbers y

@@ -1,6 +1,6 @@
-//! Scans of the deformed theory count survivors, and before their last stage dimensions. The laws of
-//! one step hold for all numbers hd and hh of two dots and of two hollow dots that are together 0
-//! modulo p.
+//! Scans of the deformed theory count survivors, and before their last stage dimensions. The laws
+//! of one step hold for all numbers hd and hh of two dots and of two hollow dots that are together
+//! 0 modulo p.
 
 ghost use Rattle.std.specs.Prelude.{◌≡◌, ◌≢◌, ℕ, ◌+◌, ◌%◌, ◌<◌, ℤ, ◌-ℤ◌, ◌≤ℤ◌, List, length, IsTrue};
 ghost use Rattle.std.specs.List.{Contains};
@@ -54,8 +54,8 @@ pub fn level_entries_are_shortest()
         → IsShortest (complex_of p hd hh code plus minus scan) pair }
 {}
 
-/// Behind all crossings the gap of the levels is that of the complex: where no entry between objects
-/// falls short of it, no coefficient does.
+/// Behind all crossings the gap of the levels is that of the complex: where no entry between
+/// objects falls short of it, no coefficient does.
 pub fn gaps_are_those_of_levels()
     ensures { (p hd hh : ℕ) (code : Code) (plus minus : ℕ) (scan : Scan) (gap : ℤ)
         → HasInverses p → Same p (hd + hh) 0 → IsTrue (accepted code) → IsScanOf code scan
@@ -117,20 +117,22 @@ pub fn steps_keep_survivors()
         ≡ dimension_at p (complex_of p hd hh code plus minus scan) i j }
 {}
 
-/// The theorem: where such a scan of an accepted code ends, in whatever order it takes the crossings,
-/// its objects count the survivors of the deformed cube, and what lasts up to each quantum degree.
-/// And in every order there is an end.
+/// The theorem: where such a scan of an accepted code ends, in whatever order it takes the
+/// crossings, its objects count the survivors of the deformed cube, and what lasts up to each
+/// quantum degree. And in every order there is an end.
 pub fn scans_count_survivors()
     ensures survivors { (p h : ℕ) (code : Code) (crossings : List (List ℕ)) (scan : Scan)
         → HasInverses p → IsTrue (accepted code)
         → IsEndOfLevelScan p h (opposite p h) code crossings scan → (i t : ℤ)
         → counted_from code.loops (plus_count code.crossings) (minus_count code.crossings) scan i t
-        ≡ survivors p (deformed_cube_of p h code (plus_count code.crossings) (minus_count code.crossings)) i t }
+        ≡ survivors p
+        (deformed_cube_of p h code (plus_count code.crossings) (minus_count code.crossings)) i t }
     ensures lasting { (p h : ℕ) (code : Code) (crossings : List (List ℕ)) (scan : Scan)
         → HasInverses p → IsTrue (accepted code)
         → IsEndOfLevelScan p h (opposite p h) code crossings scan → (i j : ℤ)
         → counted code scan i j
-        ≡ lasting p (deformed_cube_of p h code (plus_count code.crossings) (minus_count code.crossings)) i j }
+        ≡ lasting p
+        (deformed_cube_of p h code (plus_count code.crossings) (minus_count code.crossings)) i j }
     ensures possible { (p h : ℕ) (code : Code) (crossings : List (List ℕ))
         → HasInverses p → IsTrue (accepted code) → IsReordered code.crossings crossings
         → (scan : Scan) × IsEndOfLevelScan p h (opposite p h) code crossings scan }
@@ -215,5 +217,6 @@ pub fn evenly_reached_scans()
         → counted_table p code scan ≡ table p code }
     ensures ends { (p h : ℕ) (code : Code) (scan : Scan)
         → HasInverses p → IsTrue (accepted code) → IsEvenlyReached p h (opposite p h) code scan
-        → (last : Scan) × Leads (IsEvenStep p h (opposite p h) code) scan last × IsEvenLast p code last }
+        → (last : Scan) × Leads (IsEvenStep p h (opposite p h) code) scan last
+        × IsEvenLast p code last }
 {}

@@ -129,7 +129,8 @@ pub fn reductions_count_survivors<A>()
 /// any cells are those of this part. The elimination of a family of pivots between equal quantum
 /// degrees is that of this part there, and keeps its dimensions.
 pub fn level_parts_are_complexes<A>()
-    ensures complex { (p : ℕ) (cells : Cells A) → AreFiltered p cells → AreComplex p (level_part cells) }
+    ensures complex { (p : ℕ) (cells : Cells A)
+        → AreFiltered p cells → AreComplex p (level_part cells) }
     ensures dimensions { (p : ℕ) (cells : Cells A) (i j : ℤ)
         → dimension_at p (level_part cells) i j ≡ dimension_at p cells i j }
     ensures left { (p : ℕ) (cells : Cells A) (pairs : List (A × A)) (rest : List A)
@@ -137,10 +138,13 @@ pub fn level_parts_are_complexes<A>()
         → ((pair : A × A) → Contains pairs pair → cells.quantum pair.1 ≡ cells.quantum pair.0)
         → (x y : A) → Contains cells.list x → Contains cells.list y
         → cells.quantum x ≡ cells.quantum y
-        → eliminated p (level_part cells).coefficient pairs x y ≡ eliminated p cells.coefficient pairs x y }
+        → eliminated p (level_part cells).coefficient pairs x y
+        ≡ eliminated p cells.coefficient pairs x y }
     ensures eliminations { (p : ℕ) (cells : Cells A) (pairs : List (A × A)) (rest : List A)
         → HasInverses p → AreFiltered p cells
-        → AreListed (λ (x : A). x) cells.list (all_of pairs rest) → ArePivots cells.coefficient pairs
+        → AreListed (λ (x : A). x) cells.list (all_of pairs rest)
+        → ArePivots cells.coefficient pairs
         → ((pair : A × A) → Contains pairs pair → cells.quantum pair.1 ≡ cells.quantum pair.0)
-        → (i j : ℤ) → dimension_at p (cells_left p cells pairs rest) i j ≡ dimension_at p cells i j }
+        → (i j : ℤ)
+        → dimension_at p (cells_left p cells pairs rest) i j ≡ dimension_at p cells i j }
 {}

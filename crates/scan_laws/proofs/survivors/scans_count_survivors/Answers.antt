@@ -19,7 +19,7 @@ returns c =
           let plus = plus_count code.crossings in
           let minus = minus_count code.crossings in
           let listed = listed_by code crossings in
-          let has = level-end p h k refl listed plus minus field (accepted-reordered code.loops code.crossings crossings order is) first_scan
-          (leads-none (IsLevelStep p h k listed plus minus) first_scan) in
+          let listed_is = accepted-reordered code.loops code.crossings crossings order is in
+          let has = level-end p h k refl listed plus minus field listed_is first_scan (leads-none (IsLevelStep p h k listed plus minus) first_scan) in
           (has.end, record { order = order; reached = has.leads; last = has.last });
     }
