@@ -30,3 +30,4 @@ pub mod LayerSurvivors
 pub mod LevelSurvivors
 pub mod DeformedAlong
 pub mod FilteredCubes
+pub mod LevelParts

@@ -9,3 +9,4 @@ pub mod DeformedCubes
 pub mod Filtered
 pub mod Shortest
 pub mod WorkedFilters
+pub mod LevelParts

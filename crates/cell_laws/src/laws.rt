@@ -2,10 +2,10 @@
 
 pub mod cells;
 pub mod cubes;
+pub mod deformed_cubes;
 pub mod layers;
 pub mod listings;
-pub mod worked;
-pub mod deformed_cubes;
 pub mod survivor_layers;
 pub mod survivors;
+pub mod worked;
 pub mod worked_survivors;

@@ -1,77 +1,188 @@
--- The theorem: what steps reach has the survivors of the deformed cube.
-use Rattle.std.proofs.Common.{◌≡◌, ℕ, ◌+◌, ◌-◌, ◌∙◌, ℤ, pos, ◌+ℤ◌, List, [], ◌∷◌, ◌++◌, refl, sym, subst, ap₂, arith, ◌<◌, IsTrue}
+-- What steps reach has the survivors of the deformed cube, and before the last stage its dimensions too, which are those of the cube. So
+-- the end of a scan counts survivors, and what it counts before its last stage are dimensions.
+use Rattle.std.proofs.Common.{◌≡◌, ℕ, ◌+◌, ◌-◌, ◌∙◌, ◌<◌, ℤ, pos, ◌+ℤ◌, List, sym, subst, ap₂, arith, IsTrue}
+use Rattle.std.proofs.lemmas.Int.{ints}
 use Rattle.kh_types.specs.Acceptance.{accepted}
 use Rattle.kh_types.specs.Code.{Code}
-use Rattle.kh_types.specs.Generators.{Generator}
-use Rattle.kh_types.specs.Residues.{HasInverses}
-use Rattle.cell_laws.specs.Layers.{layer_of}
-use Rattle.cell_laws.specs.Filtered.{lasting, survivors}
+use Rattle.kh_types.specs.Differential.{coefficient}
+use Rattle.kh_types.specs.Directions.{minus_count, plus_count}
+use Rattle.kh_types.specs.Generators.{Generator, quantum_degree}
+use Rattle.kh_types.specs.Residues.{HasInverses, Same}
+use Rattle.kh_types.specs.Table.{dimension}
 use Rattle.square_laws.specs.Deformed.{opposite}
-use Rattle.cell_laws.specs.DeformedCubes.{deformed_cube_of}
 use Rattle.square_laws.proofs.Numbers.{opposite-sum}
+use Rattle.square_laws.proofs.RaisedDegrees.{deformed-equal}
+use Rattle.cell_laws.specs.Alike.{AreAlike}
+use Rattle.cell_laws.specs.Cells.{Cells, dimension_at}
+use Rattle.cell_laws.specs.Cubes.{cube_of}
+use Rattle.cell_laws.specs.DeformedCubes.{deformed_cube_of}
+use Rattle.cell_laws.specs.Filtered.{AreFiltered, lasting, survivors}
+use Rattle.cell_laws.specs.Layers.{Layer, layer_of}
+use Rattle.cell_laws.proofs.AlikeCells.{dimension-alike}
+use Rattle.cell_laws.proofs.AlikeSurvivors.{filtered-alike, survivors-alike}
+use Rattle.cell_laws.proofs.FilteredCubes.{AreFiltered-cube}
+use Rattle.cell_laws.proofs.LevelParts.{dimension-equal}
+use Rattle.order_laws.specs.Orders.{listed_by}
+use Rattle.order_laws.proofs.AnyOrder.{accepted-reordered}
+use Rattle.order_laws.proofs.ExchangedSurvivors.{survivors-reordered}
+use Rattle.order_laws.proofs.Orders.{dimension-reordered}
 use Rattle.scan_laws.specs.Scans.{Scan, first_scan}
 use Rattle.scan_laws.specs.Complexes.{complex_of}
-use Rattle.scan_laws.specs.Counts.{counted_with}
-use Rattle.scan_laws.specs.Steps.{IsLast, last_of}
-use Rattle.scan_laws.proofs.ScansOf.{scan-first}
-use Rattle.scan_laws.specs.LevelSteps.{AreLevelSteps, IsLevelReached, IsLevelStep}
+use Rattle.scan_laws.specs.Counts.{counted, counted_with}
 use Rattle.scan_laws.specs.EndCounts.{counted_from}
-use Rattle.scan_laws.proofs.Counts.{lasting-counted, survivors-counted}
-use Rattle.scan_laws.proofs.DeformedBase.{alike-deformed}
-use Rattle.cell_laws.proofs.FilteredCubes.{AreFiltered-cube}
-use Rattle.scan_laws.proofs.Survivors.{Stays, stays-alike, stays-step}
+use Rattle.scan_laws.specs.LevelSteps.{IsEndOfEvenScan, IsEndOfLevelScan, IsEvenLast, IsEvenStep, IsEvenlyReached, IsLevelReached, IsLevelStep}
+use Rattle.scan_laws.specs.Steps.{IsLast}
+use Rattle.scan_laws.proofs.Base.{alike-deformed}
+use Rattle.scan_laws.proofs.End.{lasting-counted, survivors-counted}
+use Rattle.scan_laws.proofs.Ending.{even-ends, level-ends}
+use Rattle.scan_laws.proofs.Kept.{coefficients-below}
+use Rattle.scan_laws.proofs.KeptSurvivors.{Stays, dimension-step, stays-step}
+use Rattle.scan_laws.proofs.LastMaps.{dimension-last}
+use Rattle.scan_laws.proofs.Leading.{HasEnd, leads-kept, leads-more, leads-none}
+use Rattle.scan_laws.proofs.ScansOf.{scan-first}
 
-module _ (p h : ℕ) (code : Code) (plus minus : ℕ) (field : HasInverses p) (is : IsTrue (accepted code)) where
+-- dimensions of the deformed cube are those of the cube
+cube-dimension : (p h : ℕ) (code : Code) (plus minus : ℕ) → 1 < p → IsTrue (accepted code) → (i j : ℤ)
+    → dimension_at p (deformed_cube_of p h code plus minus) i j ≡ dimension_at p (cube_of p code plus minus) i j
+cube-dimension p h code plus minus above is i j =
+    sym (dimension-equal (deformed_cube_of p h code plus minus) (coefficient p code)
+    (λ x y has_x has_y same. sym (deformed-equal p h code x y above is
+    (let e : quantum_degree code y ≡ quantum_degree code x = omega (arith, ints, same) in e))) p i j)
+
+-- each scan that is reached evenly is reached
+pub reached-level : (p hd hh : ℕ) (code : Code) (plus minus : ℕ) (scan : Scan) → IsEvenlyReached p hd hh code scan
+    → IsLevelReached p hd hh code plus minus scan
+reached-level p hd hh code plus minus scan reached =
+    leads-kept (IsEvenStep p hd hh code) (IsLevelReached p hd hh code plus minus)
+    (λ at next leads step. leads-more (IsLevelStep p hd hh code plus minus) first_scan at next leads (IsLevelStep.even step))
+    first_scan scan (leads-none (IsLevelStep p hd hh code plus minus) first_scan) reached
+
+module _ (p h k : ℕ) (opposed : opposite p h ≡ k) (code : Code) (plus minus : ℕ) (field : HasInverses p) (is : IsTrue (accepted code)) where
   positive : 0 < p
   positive = omega (arith, field.above_one)
 
+  pub cancels-opposed : Same p (h + k) 0
+  cancels-opposed = subst (λ n. Same p (h + n) 0) opposed (opposite-sum p h positive)
+
+  abbrev cube : Cells Generator
+  cube = deformed_cube_of p h code plus minus
+
+  abbrev name : Generator → Layer
+  name x = layer_of 0 x.state x.label
+
+  abbrev one : Generator → ℕ
+  one x = 1
+
+  cube-filtered : AreFiltered p cube
+  cube-filtered = AreFiltered-cube p h code plus minus positive is
+
+  first-alike : AreAlike p name one cube (complex_of p h k code plus minus first_scan)
+  first-alike =
+      subst (λ n. AreAlike p name one cube (complex_of p h n code plus minus first_scan)) opposed (alike-deformed p h plus minus code)
+
+  first-below : (x y : Layer) → (complex_of p h k code plus minus first_scan).coefficient x y < p
+  first-below = coefficients-below p h k code plus minus first_scan field.above_one
+
   abbrev Stands : Scan → Type 0
-  Stands scan = Stays p h (opposite p h) code plus minus (deformed_cube_of p h code plus minus) scan
+  Stands scan = Stays p h k code plus minus (deformed_cube_of p h code plus minus) scan
 
   stands-first : Stands first_scan
   stands-first =
-      stays-alike p h (opposite p h) code plus minus (deformed_cube_of p h code plus minus) first_scan
-      (λ (x : Generator). layer_of 0 x.state x.label) field (scan-first code) (AreFiltered-cube p h code plus minus positive is)
-      (alike-deformed p h plus minus code)
+      record {
+        of = scan-first code;
+        filtered = filtered-alike p name one cube (complex_of p h k code plus minus first_scan) first-below first-alike cube-filtered;
+        count = λ i t. survivors-alike p name one cube (complex_of p h k code plus minus first_scan) first-alike field cube-filtered.below
+            first-below i t;
+      }
 
-  stands-later : (scan : Scan) (later : List Scan) → Stands scan → AreLevelSteps p h (opposite p h) code plus minus scan later
-      → Stands (last_of scan later)
-  stands-later scan [] stands steps = stands
-  stands-later scan (next ∷ later) stands steps =
-      let stays = stays-step p h (opposite p h) code plus minus field (opposite-sum p h positive) is scan next stands.of stands.filtered steps.0 in
-      stands-later next later
-      (record { of = stays.of; filtered = stays.filtered; count = λ i t. stays.count i t ∙ stands.count i t }) steps.1
+  stands-step : (scan next : Scan) → Stands scan → IsLevelStep p h k code plus minus scan next → Stands next
+  stands-step scan next stands step =
+      let stays = stays-step p h k code plus minus field cancels-opposed is scan next stands.of stands.filtered step in
+      record { of = stays.of; filtered = stays.filtered; count = λ i t. stays.count i t ∙ stands.count i t }
 
-  pub stands-reached : (scan : Scan) → IsLevelReached p h (opposite p h) code plus minus scan → Stands scan
-  stands-reached scan reached = subst (λ (s : Scan). Stands s) reached.last (stands-later first_scan reached.later stands-first reached.steps)
+  pub stands-reached : (scan : Scan) → IsLevelReached p h k code plus minus scan → Stands scan
+  stands-reached scan reached = leads-kept (IsLevelStep p h k code plus minus) Stands stands-step first_scan scan stands-first reached
 
-  module _ (scan : Scan) (reached : IsLevelReached p h (opposite p h) code plus minus scan) (last : IsLast p h (opposite p h) code scan)
-      (i t : ℤ) where
-    pub survivors-whole : counted_from code.loops plus minus scan i t ≡ survivors p (deformed_cube_of p h code plus minus) i t
-    survivors-whole =
+  -- before the last stage
+  abbrev StandsEven : Scan → Type 0
+  StandsEven scan =
+      Stays p h k code plus minus (deformed_cube_of p h code plus minus) scan
+      × ((i j : ℤ) → dimension_at p (complex_of p h k code plus minus scan) i j ≡ dimension_at p (deformed_cube_of p h code plus minus) i j)
+
+  even-reached : (scan : Scan) → IsEvenlyReached p h k code scan → StandsEven scan
+  even-reached scan reached =
+      leads-kept (IsEvenStep p h k code) StandsEven
+      (λ at next stands step. (
+        stands-step at next stands.0 (IsLevelStep.even step),
+        λ i j. dimension-step p h k code plus minus field cancels-opposed is at next stands.0.of stands.0.filtered step i j ∙ stands.1 i j,
+      ))
+      first_scan scan (
+        stands-first,
+        λ i j. dimension-alike p name one cube (complex_of p h k code plus minus first_scan) first-alike field cube-filtered.below
+            first-below i j,
+      )
+      reached
+
+  pub dimension-even : (scan : Scan) → IsEvenlyReached p h k code scan → IsEvenLast p code scan → (i j : ℤ)
+      → counted_with code.loops plus minus scan i j ≡ dimension_at p (cube_of p code plus minus) i j
+  dimension-even scan reached last i j =
+      let stands = even-reached scan reached in
+      sym (dimension-last p h k code plus minus field cancels-opposed is scan stands.0.of stands.0.filtered last.done last i j)
+      ∙ stands.1 i j ∙ cube-dimension p h code plus minus field.above_one is i j
+
+  -- from each that is reached there are steps to an end, and to one before the last stage
+  pub level-end : (scan : Scan) → IsLevelReached p h k code plus minus scan
+      → HasEnd (IsLevelStep p h k code plus minus) (IsLast p h k code) scan
+  level-end scan reached =
+      let stands = stands-reached scan reached in level-ends p h k code plus minus field cancels-opposed is scan stands.of stands.filtered
+
+  pub even-end : (scan : Scan) → IsEvenlyReached p h k code scan → HasEnd (IsEvenStep p h k code) (IsEvenLast p code) scan
+  even-end scan reached =
+      let stands = even-reached scan reached in
+      even-ends p h k code plus minus field cancels-opposed is scan stands.0.of stands.0.filtered
+
+  module _ (scan : Scan) (reached : IsLevelReached p h k code plus minus scan) (last : IsLast p h k code scan) (i t : ℤ) where
+    pub survivors-reached : counted_from code.loops plus minus scan i t ≡ survivors p (deformed_cube_of p h code plus minus) i t
+    survivors-reached =
         let stands = stands-reached scan reached in
-        survivors-counted p h (opposite p h) code is scan stands.of last plus minus i t field stands.filtered ∙ stands.count i t
+        survivors-counted p h k code is scan stands.of last.done plus minus last field stands.filtered i t ∙ stands.count i t
 
-    pub lasting-whole : counted_with code.loops plus minus scan i t ≡ lasting p (deformed_cube_of p h code plus minus) i t
-    lasting-whole =
+    pub lasting-reached : counted_with code.loops plus minus scan i t ≡ lasting p (deformed_cube_of p h code plus minus) i t
+    lasting-reached =
         let stands = stands-reached scan reached in
-        lasting-counted p h (opposite p h) code is scan stands.of last plus minus i t field stands.filtered
+        lasting-counted p h k code is scan stands.of last.done plus minus last field stands.filtered i t
         ∙ ap₂ (λ m n. m - n) (stands.count i t) (stands.count i (t +ℤ pos 1))
 
--- what is reached
-pub reached-first : (p hd hh : ℕ) (code : Code) (plus minus : ℕ) → IsLevelReached p hd hh code plus minus first_scan
-reached-first p hd hh code plus minus = record { later = []; steps = tt; last = refl }
+-- with the crossings in any order
+module _ (p h k : ℕ) (opposed : opposite p h ≡ k) (code : Code) (crossings : List (List ℕ)) (scan : Scan) (field : HasInverses p)
+    (is : IsTrue (accepted code)) where
+  abbrev plus : ℕ
+  plus = plus_count code.crossings
 
-steps-one : (p hd hh : ℕ) (code : Code) (plus minus : ℕ) (scan : Scan) (later : List Scan) (middle next : Scan)
-    → AreLevelSteps p hd hh code plus minus scan later → last_of scan later ≡ middle → IsLevelStep p hd hh code plus minus middle next
-    → AreLevelSteps p hd hh code plus minus scan (later ++ (next ∷ [])) × (last_of scan (later ++ (next ∷ [])) ≡ next)
-steps-one p hd hh code plus minus scan [] middle next steps last step =
-    ((subst (λ (s : Scan). IsLevelStep p hd hh code plus minus s next) (sym last) step, tt), refl)
-steps-one p hd hh code plus minus scan (first ∷ later) middle next steps last step =
-    let rest = steps-one p hd hh code plus minus first later middle next steps.1 last step in ((steps.0, rest.0), rest.1)
+  abbrev minus : ℕ
+  minus = minus_count code.crossings
 
-pub reached-step : (p hd hh : ℕ) (code : Code) (plus minus : ℕ) (scan next : Scan) → IsLevelReached p hd hh code plus minus scan
-    → IsLevelStep p hd hh code plus minus scan next → IsLevelReached p hd hh code plus minus next
-reached-step p hd hh code plus minus scan next reached step =
-    let more = steps-one p hd hh code plus minus first_scan reached.later scan next reached.steps reached.last step in
-    record { later = reached.later ++ (next ∷ []); steps = more.0; last = more.1 }
+  module _ (end : IsEndOfLevelScan p h k code crossings scan) (i t : ℤ) where
+    same : (t : ℤ) → survivors p (deformed_cube_of p h (listed_by code crossings) plus minus) i t
+        ≡ survivors p (deformed_cube_of p h code plus minus) i t
+    same t = survivors-reordered p h code.loops plus minus field i t code.crossings crossings end.order
+
+    listed_is : IsTrue (accepted (listed_by code crossings))
+    listed_is = accepted-reordered code.loops code.crossings crossings end.order is
+
+    pub survivors-whole : counted_from code.loops (plus_count code.crossings) (minus_count code.crossings) scan i t
+        ≡ survivors p (deformed_cube_of p h code (plus_count code.crossings) (minus_count code.crossings)) i t
+    survivors-whole =
+        survivors-reached p h k opposed (listed_by code crossings) plus minus field listed_is scan end.reached end.last i t ∙ same t
+
+    pub lasting-whole : counted code scan i t
+        ≡ lasting p (deformed_cube_of p h code (plus_count code.crossings) (minus_count code.crossings)) i t
+    lasting-whole =
+        lasting-reached p h k opposed (listed_by code crossings) plus minus field listed_is scan end.reached end.last i t
+        ∙ ap₂ (λ m n. m - n) (same t) (same (t +ℤ pos 1))
+
+  pub dimension-whole : IsEndOfEvenScan p h k code crossings scan → (i j : ℤ) → counted code scan i j ≡ dimension p code i j
+  dimension-whole end i j =
+      dimension-even p h k opposed (listed_by code crossings) plus minus field
+      (accepted-reordered code.loops code.crossings crossings end.order is) scan end.reached end.last i j
+      ∙ dimension-reordered p code.loops plus minus field i j code.crossings crossings end.order

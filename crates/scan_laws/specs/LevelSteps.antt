@@ -1,15 +1,18 @@
--- The steps of a scan that keep survivors.
-use Rattle.std.specs.Prelude.{◌≡◌, ℕ, ℤ, pos, ◌+ℤ◌, List, [], ◌∷◌, length}
+-- The steps of a scan that keep survivors, and those among them that keep dimensions.
+use Rattle.std.specs.Prelude.{◌≡◌, ℕ, ◌<◌, ℤ, pos, ◌+ℤ◌, List, length}
 use Rattle.std.specs.List.{Contains}
 use Rattle.kh_types.specs.Code.{Code}
+use Rattle.kh_types.specs.Directions.{minus_count, plus_count}
+use Rattle.kh_types.specs.Residues.{Same}
+use Rattle.dotted_maps.specs.Maps.{coefficient_in}
 use Rattle.cell_laws.specs.Layers.{Layer}
-use Rattle.order_laws.specs.Orders.{IsReordered, listed_by}
 use Rattle.cell_laws.specs.Shortest.{IsShortest}
-use Rattle.scan_laws.specs.Scans.{Object, Scan, first_scan}
+use Rattle.order_laws.specs.Orders.{IsReordered, listed_by}
+use Rattle.scan_laws.specs.Scans.{Object, Scan, dot_sets, first_scan}
 use Rattle.scan_laws.specs.Complexes.{complex_of}
 use Rattle.scan_laws.specs.Adding.{IsAdding}
 use Rattle.scan_laws.specs.Eliminating.{IsEliminating, cancelled_pairs}
-use Rattle.scan_laws.specs.Steps.{IsLast, IsRenumbering, last_of}
+use Rattle.scan_laws.specs.Steps.{IsLast, IsRenumbering, Leads}
 
 -- the level of an object: its shift and its degree together. At one outer state, and with equal labels, the quantum degrees of two objects
 -- differ as their levels do
@@ -27,21 +30,40 @@ pub record IsShort (p hd hh : ℕ) (code : Code) (plus minus : ℕ) (scan next :
   pub shortest : (pair : Layer × Layer) → Contains (cancelled_pairs code scan less.tail less.head) pair
       → IsShortest (complex_of p hd hh code plus minus scan) pair
 
--- one step: of a scan, where an entry is eliminated between objects of one level or is a shortest one
-pub data IsLevelStep (p hd hh : ℕ) (code : Code) (plus minus : ℕ) (scan next : Scan) : Type 0 where
-  added : IsAdding p hd hh code scan next → IsLevelStep p hd hh code plus minus scan next
-  level : IsLevel p hd hh code scan next → IsLevelStep p hd hh code plus minus scan next
-  short : IsShort p hd hh code plus minus scan next → IsLevelStep p hd hh code plus minus scan next
-  renumbered : IsRenumbering p hd hh code scan next → IsLevelStep p hd hh code plus minus scan next
+-- one step before the last stage: a crossing is added, an entry is eliminated between objects of one level, or objects get other numbers
+pub data IsEvenStep (p hd hh : ℕ) (code : Code) (scan next : Scan) : Type 0 where
+  added : IsAdding p hd hh code scan next → IsEvenStep p hd hh code scan next
+  level : IsLevel p hd hh code scan next → IsEvenStep p hd hh code scan next
+  renumbered : IsRenumbering p hd hh code scan next → IsEvenStep p hd hh code scan next
 
--- scans that follow one another by such steps
-abbrev pub AreLevelSteps : ℕ → ℕ → ℕ → Code → ℕ → ℕ → Scan → List Scan → Type 0
-AreLevelSteps p hd hh code plus minus scan [] = Unit {0}
-AreLevelSteps p hd hh code plus minus scan (next ∷ later) =
-    IsLevelStep p hd hh code plus minus scan next × AreLevelSteps p hd hh code plus minus next later
+-- one step of any stage: such a one, or a shortest entry is eliminated
+pub data IsLevelStep (p hd hh : ℕ) (code : Code) (plus minus : ℕ) (scan next : Scan) : Type 0 where
+  even : IsEvenStep p hd hh code scan next → IsLevelStep p hd hh code plus minus scan next
+  short : IsShort p hd hh code plus minus scan next → IsLevelStep p hd hh code plus minus scan next
 
 -- such steps lead to a scan from before the first crossing
-pub record IsLevelReached (p hd hh : ℕ) (code : Code) (plus minus : ℕ) (scan : Scan) : Type 0 where
-  pub later : List Scan
-  pub steps : AreLevelSteps p hd hh code plus minus first_scan later
-  pub last : last_of first_scan later ≡ scan
+abbrev pub IsEvenlyReached : ℕ → ℕ → ℕ → Code → Scan → Type 0
+IsEvenlyReached p hd hh code scan = Leads (IsEvenStep p hd hh code) first_scan scan
+
+abbrev pub IsLevelReached : ℕ → ℕ → ℕ → Code → ℕ → ℕ → Scan → Type 0
+IsLevelReached p hd hh code plus minus scan = Leads (IsLevelStep p hd hh code plus minus) first_scan scan
+
+-- a scan is before its last stage where all crossings are done and no map is left between objects of one level: all coefficients there
+-- are 0
+pub record IsEvenLast (p : ℕ) (code : Code) (scan : Scan) : Type 0 where
+  pub done : scan.done ≡ length code.crossings
+  pub terms : (x y kept : ℕ) → Contains scan.numbers x → Contains scan.numbers y
+      → level_of (scan.object y) ≡ level_of (scan.object x) → kept < dot_sets code scan x y
+      → Same p (coefficient_in (scan.terms x y) kept) 0
+
+-- before the last stage of a scan that takes the crossings of a code in some order
+pub record IsEndOfEvenScan (p hd hh : ℕ) (code : Code) (crossings : List (List ℕ)) (scan : Scan) : Type 0 where
+  pub order : IsReordered code.crossings crossings
+  pub reached : IsEvenlyReached p hd hh (listed_by code crossings) scan
+  pub last : IsEvenLast p (listed_by code crossings) scan
+
+-- the end of a scan that does, with the numbers of positive and of negative crossings of the code
+pub record IsEndOfLevelScan (p hd hh : ℕ) (code : Code) (crossings : List (List ℕ)) (scan : Scan) : Type 0 where
+  pub order : IsReordered code.crossings crossings
+  pub reached : IsLevelReached p hd hh (listed_by code crossings) (plus_count code.crossings) (minus_count code.crossings) scan
+  pub last : IsLast p hd hh (listed_by code crossings) scan

@@ -1,23 +1,29 @@
-//! Scans count survivors.
+//! Scans of the deformed theory count survivors, and before their last stage dimensions. The laws
+//! of one step hold for all numbers hd and hh of two dots and of two hollow dots that are together
+//! 0 modulo p.
 
-ghost use Rattle.std.specs.Prelude.{◌≡◌, ℕ, ◌+◌, ℤ, ◌-ℤ◌, length, IsTrue, ◌<◌};
+ghost use Rattle.std.specs.Prelude.{◌≡◌, ◌≢◌, ℕ, ◌+◌, ◌%◌, ◌<◌, ℤ, ◌-ℤ◌, ◌≤ℤ◌, List, length, IsTrue};
 ghost use Rattle.std.specs.List.{Contains};
 ghost use Rattle.kh_types.specs.Acceptance.{accepted};
 ghost use Rattle.kh_types.specs.Code.{Code};
+ghost use Rattle.kh_types.specs.Directions.{minus_count, plus_count};
 ghost use Rattle.kh_types.specs.Residues.{HasInverses, Same};
+ghost use Rattle.kh_types.specs.Table.{dimension, table};
+ghost use Rattle.dotted_maps.specs.Maps.{coefficient_in};
 ghost use Rattle.cell_laws.specs.Alike.{AreAlike};
-ghost use Rattle.cell_laws.specs.Cells.{AreComplex};
+ghost use Rattle.cell_laws.specs.Cells.{AreComplex, dimension_at};
 ghost use Rattle.cell_laws.specs.Layers.{Layer, layer_of};
 ghost use Rattle.cell_laws.specs.Filtered.{AreFiltered, lasting, survivors};
 ghost use Rattle.cell_laws.specs.Shortest.{HaveGap, IsShortest};
 ghost use Rattle.square_laws.specs.Deformed.{opposite};
 ghost use Rattle.cell_laws.specs.DeformedCubes.{deformed_cube_of};
+ghost use Rattle.order_laws.specs.Orders.{IsReordered};
 ghost use Rattle.scan_laws.specs.Scans.{IsScanOf, Scan, first_scan};
 ghost use Rattle.scan_laws.specs.Complexes.{complex_of};
-ghost use Rattle.scan_laws.specs.Counts.{counted_with};
+ghost use Rattle.scan_laws.specs.Counts.{counted, counted_table, counted_with};
 ghost use Rattle.scan_laws.specs.Eliminating.{IsEliminating, cancelled_pairs};
-ghost use Rattle.scan_laws.specs.Steps.{IsLast, IsScanStep};
-ghost use Rattle.scan_laws.specs.LevelSteps.{IsLevelReached, IsLevelStep, level_of};
+ghost use Rattle.scan_laws.specs.Steps.{IsLast, IsScanStep, Leads};
+ghost use Rattle.scan_laws.specs.LevelSteps.{IsEndOfEvenScan, IsEndOfLevelScan, IsEvenLast, IsEvenStep, IsEvenlyReached, IsLevelReached, IsLevelStep, level_of};
 ghost use Rattle.scan_laws.specs.EndCounts.{counted_from};
 
 /// Before the first crossing the complex of the scan is the deformed cube, cell by cell, where two
@@ -48,6 +54,19 @@ pub fn level_entries_are_shortest()
         → IsShortest (complex_of p hd hh code plus minus scan) pair }
 {}
 
+/// Behind all crossings the gap of the levels is that of the complex: where no entry between
+/// objects falls short of it, no coefficient does.
+pub fn gaps_are_those_of_levels()
+    ensures { (p hd hh : ℕ) (code : Code) (plus minus : ℕ) (scan : Scan) (gap : ℤ)
+        → HasInverses p → Same p (hd + hh) 0 → IsTrue (accepted code) → IsScanOf code scan
+        → AreFiltered p (complex_of p hd hh code plus minus scan)
+        → scan.done ≡ length code.crossings
+        → ((x y : ℕ) → Contains scan.numbers x → Contains scan.numbers y
+        → coefficient_in (scan.terms x y) 0 % p ≢ 0
+        → gap ≤ℤ (level_of (scan.object y) -ℤ level_of (scan.object x)))
+        → HaveGap (complex_of p hd hh code plus minus scan) gap }
+{}
+
 /// The elimination of an entry of the least gap leaves no smaller one.
 pub fn eliminations_keep_scan_gaps()
     ensures { (p hd hh : ℕ) (code : Code) (plus minus : ℕ) (scan next : Scan) (gap : ℤ)
@@ -59,27 +78,21 @@ pub fn eliminations_keep_scan_gaps()
 {}
 
 /// Where the complex keeps the quantum degree, as it does for h = 0, each step of a scan is such a
-/// step.
+/// step, and one before the last stage.
 pub fn plain_steps_are_level()
-    ensures { (p hd hh : ℕ) (code : Code) (plus minus : ℕ) (scan next : Scan)
+    ensures level { (p hd hh : ℕ) (code : Code) (plus minus : ℕ) (scan next : Scan)
         → HasInverses p → Same p (hd + hh) 0 → IsTrue (accepted code) → IsScanOf code scan
         → AreComplex p (complex_of p hd hh code plus minus scan)
         → IsScanStep p hd hh code scan next → IsLevelStep p hd hh code plus minus scan next }
-{}
-
-/// What a program keeps that scans a code so: the first scan is reached, and each step leads from
-/// one that is to another.
-pub fn level_reached_scans()
-    ensures first { (p hd hh : ℕ) (code : Code) (plus minus : ℕ)
-        → IsLevelReached p hd hh code plus minus first_scan }
-    ensures step { (p hd hh : ℕ) (code : Code) (plus minus : ℕ) (scan next : Scan)
-        → IsLevelReached p hd hh code plus minus scan
-        → IsLevelStep p hd hh code plus minus scan next
-        → IsLevelReached p hd hh code plus minus next }
+    ensures even { (p hd hh : ℕ) (code : Code) (plus minus : ℕ) (scan next : Scan)
+        → HasInverses p → Same p (hd + hh) 0 → IsTrue (accepted code) → IsScanOf code scan
+        → AreComplex p (complex_of p hd hh code plus minus scan)
+        → IsScanStep p hd hh code scan next → IsEvenStep p hd hh code scan next }
 {}
 
 /// Each such step keeps that a scan is one of the code, that its complex is filtered, and how many
-/// classes survive from any quantum degree on, at any homological degree.
+/// classes survive from any quantum degree on, at any homological degree. One before the last stage
+/// keeps the dimensions that the coefficients between equal quantum degrees have.
 pub fn steps_keep_survivors()
     ensures of { (p hd hh : ℕ) (code : Code) (plus minus : ℕ) (scan next : Scan)
         → HasInverses p → Same p (hd + hh) 0 → IsTrue (accepted code) → IsScanOf code scan
@@ -96,12 +109,63 @@ pub fn steps_keep_survivors()
         → IsLevelStep p hd hh code plus minus scan next → (i t : ℤ)
         → survivors p (complex_of p hd hh code plus minus next) i t
         ≡ survivors p (complex_of p hd hh code plus minus scan) i t }
+    ensures dimensions { (p hd hh : ℕ) (code : Code) (plus minus : ℕ) (scan next : Scan)
+        → HasInverses p → Same p (hd + hh) 0 → IsTrue (accepted code) → IsScanOf code scan
+        → AreFiltered p (complex_of p hd hh code plus minus scan)
+        → IsEvenStep p hd hh code scan next → (i j : ℤ)
+        → dimension_at p (complex_of p hd hh code plus minus next) i j
+        ≡ dimension_at p (complex_of p hd hh code plus minus scan) i j }
 {}
 
-/// The theorem: what such steps reach is a scan of the code, its complex is filtered and has the
-/// survivors of the deformed cube; and where it is a last one, its objects count them, and count
-/// what lasts up to each quantum degree.
+/// The theorem: where such a scan of an accepted code ends, in whatever order it takes the
+/// crossings, its objects count the survivors of the deformed cube, and what lasts up to each
+/// quantum degree. And in every order there is an end.
 pub fn scans_count_survivors()
+    ensures survivors { (p h : ℕ) (code : Code) (crossings : List (List ℕ)) (scan : Scan)
+        → HasInverses p → IsTrue (accepted code)
+        → IsEndOfLevelScan p h (opposite p h) code crossings scan → (i t : ℤ)
+        → counted_from code.loops (plus_count code.crossings) (minus_count code.crossings) scan i t
+        ≡ survivors p
+        (deformed_cube_of p h code (plus_count code.crossings) (minus_count code.crossings)) i t }
+    ensures lasting { (p h : ℕ) (code : Code) (crossings : List (List ℕ)) (scan : Scan)
+        → HasInverses p → IsTrue (accepted code)
+        → IsEndOfLevelScan p h (opposite p h) code crossings scan → (i j : ℤ)
+        → counted code scan i j
+        ≡ lasting p
+        (deformed_cube_of p h code (plus_count code.crossings) (minus_count code.crossings)) i j }
+    ensures possible { (p h : ℕ) (code : Code) (crossings : List (List ℕ))
+        → HasInverses p → IsTrue (accepted code) → IsReordered code.crossings crossings
+        → (scan : Scan) × IsEndOfLevelScan p h (opposite p h) code crossings scan }
+{}
+
+/// Before its last stage, which eliminates between objects of different levels, a scan counts the
+/// dimensions of the code, whatever h is: where all crossings are done, each entry was eliminated
+/// between objects of one level, and none is left there. And in every order there is such a scan.
+pub fn even_scans_count_dimensions()
+    ensures dimensions { (p h : ℕ) (code : Code) (crossings : List (List ℕ)) (scan : Scan)
+        → HasInverses p → IsTrue (accepted code)
+        → IsEndOfEvenScan p h (opposite p h) code crossings scan
+        → (i j : ℤ) → counted code scan i j ≡ dimension p code i j }
+    ensures table { (p h : ℕ) (code : Code) (crossings : List (List ℕ)) (scan : Scan)
+        → HasInverses p → IsTrue (accepted code)
+        → IsEndOfEvenScan p h (opposite p h) code crossings scan
+        → counted_table p code scan ≡ table p code }
+    ensures possible { (p h : ℕ) (code : Code) (crossings : List (List ℕ))
+        → HasInverses p → IsTrue (accepted code) → IsReordered code.crossings crossings
+        → (scan : Scan) × IsEndOfEvenScan p h (opposite p h) code crossings scan }
+{}
+
+/// What a program keeps that scans a code so: the first scan is reached, and each step leads from
+/// one that is to another. One that is reached is a scan of the code, its complex is filtered and
+/// has the survivors of the deformed cube; where it is a last one it counts them, and what lasts;
+/// and from each there are steps to a last one.
+pub fn level_reached_scans()
+    ensures first { (p hd hh : ℕ) (code : Code) (plus minus : ℕ)
+        → IsLevelReached p hd hh code plus minus first_scan }
+    ensures step { (p hd hh : ℕ) (code : Code) (plus minus : ℕ) (scan next : Scan)
+        → IsLevelReached p hd hh code plus minus scan
+        → IsLevelStep p hd hh code plus minus scan next
+        → IsLevelReached p hd hh code plus minus next }
     ensures of { (p h : ℕ) (code : Code) (plus minus : ℕ) (scan : Scan)
         → HasInverses p → IsTrue (accepted code)
         → IsLevelReached p h (opposite p h) code plus minus scan → IsScanOf code scan }
@@ -126,4 +190,33 @@ pub fn scans_count_survivors()
         → IsLast p h (opposite p h) code scan → (i j : ℤ)
         → counted_with code.loops plus minus scan i j
         ≡ lasting p (deformed_cube_of p h code plus minus) i j }
+    ensures ends { (p h : ℕ) (code : Code) (plus minus : ℕ) (scan : Scan)
+        → HasInverses p → IsTrue (accepted code)
+        → IsLevelReached p h (opposite p h) code plus minus scan
+        → (last : Scan) × Leads (IsLevelStep p h (opposite p h) code plus minus) scan last
+        × IsLast p h (opposite p h) code last }
+{}
+
+/// And before the last stage: what is reached so is reached, with any numbers of positive and
+/// negative crossings; where no entry between objects of one level is left it counts the code's
+/// dimensions and its table; and from each there are steps to such a one.
+pub fn evenly_reached_scans()
+    ensures first { (p hd hh : ℕ) (code : Code) → IsEvenlyReached p hd hh code first_scan }
+    ensures step { (p hd hh : ℕ) (code : Code) (scan next : Scan)
+        → IsEvenlyReached p hd hh code scan → IsEvenStep p hd hh code scan next
+        → IsEvenlyReached p hd hh code next }
+    ensures level { (p hd hh : ℕ) (code : Code) (plus minus : ℕ) (scan : Scan)
+        → IsEvenlyReached p hd hh code scan → IsLevelReached p hd hh code plus minus scan }
+    ensures dimensions { (p h : ℕ) (code : Code) (scan : Scan)
+        → HasInverses p → IsTrue (accepted code)
+        → IsEvenlyReached p h (opposite p h) code scan → IsEvenLast p code scan
+        → (i j : ℤ) → counted code scan i j ≡ dimension p code i j }
+    ensures table { (p h : ℕ) (code : Code) (scan : Scan)
+        → HasInverses p → IsTrue (accepted code)
+        → IsEvenlyReached p h (opposite p h) code scan → IsEvenLast p code scan
+        → counted_table p code scan ≡ table p code }
+    ensures ends { (p h : ℕ) (code : Code) (scan : Scan)
+        → HasInverses p → IsTrue (accepted code) → IsEvenlyReached p h (opposite p h) code scan
+        → (last : Scan) × Leads (IsEvenStep p h (opposite p h) code) scan last
+        × IsEvenLast p code last }
 {}

@@ -5,9 +5,10 @@ ghost use Rattle.std.specs.List.{Contains, range_with_len, sum_by};
 ghost use Rattle.kh_types.specs.Residues.{HasInverses};
 ghost use Rattle.cell_laws.specs.Cells.{Cells, AreComplex, cells_at, dimension_at};
 ghost use Rattle.cell_laws.specs.Alike.{AreListed, AreAlike};
-ghost use Rattle.cell_laws.specs.Elimination.{ArePivots, all_of, cells_left};
+ghost use Rattle.cell_laws.specs.Elimination.{ArePivots, all_of, cells_left, eliminated};
 ghost use Rattle.cell_laws.specs.Filtered.{AreFiltered, cells_from, lasting, survivors, unfiltered};
 ghost use Rattle.cell_laws.specs.Shortest.{HaveGap, IsReduction, IsShortest};
+ghost use Rattle.cell_laws.specs.LevelParts.{level_part};
 
 /// Other names, another order, and a sign for each cell keep the survivors, and filtered complexes
 /// stay so.
@@ -122,4 +123,28 @@ pub fn reductions_count_survivors<A>()
     ensures lasting { (p : ℕ) (cells last : Cells A) → HasInverses p → AreFiltered p cells
         → IsReduction p cells last
         → (i j : ℤ) → lasting p cells i j ≡ length (cells_at last i j) }
+{}
+
+/// The part of a filtered complex that keeps the quantum degree is a complex; the dimensions of
+/// any cells are those of this part. The elimination of a family of pivots between equal quantum
+/// degrees is that of this part there, and keeps its dimensions.
+pub fn level_parts_are_complexes<A>()
+    ensures complex { (p : ℕ) (cells : Cells A)
+        → AreFiltered p cells → AreComplex p (level_part cells) }
+    ensures dimensions { (p : ℕ) (cells : Cells A) (i j : ℤ)
+        → dimension_at p (level_part cells) i j ≡ dimension_at p cells i j }
+    ensures left { (p : ℕ) (cells : Cells A) (pairs : List (A × A)) (rest : List A)
+        → AreFiltered p cells → AreListed (λ (x : A). x) cells.list (all_of pairs rest)
+        → ((pair : A × A) → Contains pairs pair → cells.quantum pair.1 ≡ cells.quantum pair.0)
+        → (x y : A) → Contains cells.list x → Contains cells.list y
+        → cells.quantum x ≡ cells.quantum y
+        → eliminated p (level_part cells).coefficient pairs x y
+        ≡ eliminated p cells.coefficient pairs x y }
+    ensures eliminations { (p : ℕ) (cells : Cells A) (pairs : List (A × A)) (rest : List A)
+        → HasInverses p → AreFiltered p cells
+        → AreListed (λ (x : A). x) cells.list (all_of pairs rest)
+        → ArePivots cells.coefficient pairs
+        → ((pair : A × A) → Contains pairs pair → cells.quantum pair.1 ≡ cells.quantum pair.0)
+        → (i j : ℤ)
+        → dimension_at p (cells_left p cells pairs rest) i j ≡ dimension_at p cells i j }
 {}

@@ -1,5 +1,23 @@
-use Rattle.scan_laws.proofs.WholeSurvivors.{reached-first, reached-step}
+use Rattle.std.proofs.Common.{refl}
+use Rattle.square_laws.specs.Deformed.{opposite}
+use Rattle.scan_laws.specs.LevelSteps.{IsLevelStep}
+use Rattle.scan_laws.specs.Scans.{first_scan}
+use Rattle.scan_laws.proofs.Leading.{leads-more, leads-none}
+use Rattle.scan_laws.proofs.WholeSurvivors.{lasting-reached, level-end, stands-reached, survivors-reached}
 use Rattle.scan_laws.proofs.survivors.level_reached_scans.Goals as goal
 
 pub returns : goal.returns
-returns c = record { first = reached-first; step = reached-step }
+returns c =
+    record {
+      first = λ p hd hh code plus minus. leads-none (IsLevelStep p hd hh code plus minus) first_scan;
+      step = λ p hd hh code plus minus. leads-more (IsLevelStep p hd hh code plus minus) first_scan;
+      of = λ p h code plus minus scan field is reached. (stands-reached p h (opposite p h) refl code plus minus field is scan reached).of;
+      filtered = λ p h code plus minus scan field is reached.
+          (stands-reached p h (opposite p h) refl code plus minus field is scan reached).filtered;
+      kept = λ p h code plus minus scan field is reached.
+          (stands-reached p h (opposite p h) refl code plus minus field is scan reached).count;
+      survivors = λ p h code plus minus scan field is. survivors-reached p h (opposite p h) refl code plus minus field is scan;
+      lasting = λ p h code plus minus scan field is. lasting-reached p h (opposite p h) refl code plus minus field is scan;
+      ends = λ p h code plus minus scan field is reached.
+          let has = level-end p h (opposite p h) refl code plus minus field is scan reached in (has.end, has.leads, has.last);
+    }

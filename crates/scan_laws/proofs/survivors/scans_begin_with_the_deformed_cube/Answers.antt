@@ -1,5 +1,5 @@
 use Rattle.square_laws.proofs.Numbers.{opposite-sum}
-use Rattle.scan_laws.proofs.DeformedBase.{alike-deformed}
+use Rattle.scan_laws.proofs.Base.{alike-deformed}
 use Rattle.scan_laws.proofs.survivors.scans_begin_with_the_deformed_cube.Goals as goal
 
 pub returns : goal.returns

@@ -1,4 +1,4 @@
-use Rattle.scan_laws.proofs.Survivors.{stays-step}
+use Rattle.scan_laws.proofs.KeptSurvivors.{dimension-step, stays-step}
 use Rattle.scan_laws.proofs.survivors.steps_keep_survivors.Goals as goal
 
 pub returns : goal.returns
@@ -10,4 +10,6 @@ returns c =
           (stays-step p hd hh code plus minus field cancels is scan next of filtered step).filtered;
       survivors = λ p hd hh code plus minus scan next field cancels is of filtered step.
           (stays-step p hd hh code plus minus field cancels is scan next of filtered step).count;
+      dimensions = λ p hd hh code plus minus scan next field cancels is of filtered step.
+          dimension-step p hd hh code plus minus field cancels is scan next of filtered step;
     }
