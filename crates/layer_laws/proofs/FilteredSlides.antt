@@ -10,7 +10,7 @@ use Rattle.layer_laws.proofs.SlideTables.{last_objects, turn_of}
 use Rattle.layer_laws.proofs.Slides.{last-is, other-there, pairs_first, pairs_second, renamed-slide, there, there-below, there-state, to}
 use Rattle.layer_laws.specs.FilteredCuts.{IsFilteredCut, unfiltered_layers}
 use Rattle.layer_laws.proofs.FilteredPairs.{filtered-pairs, filtered_left, survivors-pairs}
-use Rattle.layer_laws.proofs.FilteredRenamed.{renamed-filtered, survivors-renamed}
+use Rattle.layer_laws.proofs.RenamedLayers.{renamed-filtered, survivors-renamed}
 
 -- layers that are measured are so without their quantum degrees
 measured-unfiltered : (p o : ℕ) (kind : ℕ → ℕ) (height : ℕ → ℕ → ℤ) (weight : ℕ → ℕ → ℕ → ℕ → ℤ)

@@ -1,4 +1,4 @@
--- Layers under other numbers of objects, and up to signs, have the same dimensions.
+-- Layers under other numbers of objects, and up to signs, have the same survivors and the same dimensions.
 use Rattle.std.proofs.Common.{◌≡◌, ◌≢◌, ℕ, inl, inr, ◌*◌, ◌<◌, ◌∙◌, ℤ, List, map, refl, sym, subst, ap, arith}
 use Rattle.std.specs.List.{Contains, flat_map, range_with_len}
 use Rattle.std.proofs.lemmas.Bool.{cases_eq}
@@ -13,6 +13,9 @@ use Rattle.cell_laws.proofs.NoDoubles.{flat_map-range, map-flat_map, map-map}
 use Rattle.layer_laws.specs.Renamed.{AreRenamed}
 use Rattle.layer_laws.proofs.LayerFacts.{IsCellIn, between-states, cell-in}
 use Rattle.cell_laws.proofs.LayerCells.{inside-state, nowhere}
+use Rattle.cell_laws.specs.Filtered.{AreFiltered, survivors}
+use Rattle.cell_laws.proofs.AlikeSurvivors.{survivors-alike}
+use Rattle.layer_laws.specs.FilteredCuts.{unfiltered_layers}
 
 module _ (p : ℕ) (to : ℕ → ℕ) (sign : ℕ → ℕ → ℕ) (first second : Layers) (are : AreRenamed p to sign first second) where
   abbrev pub renamed : Layer → Layer
@@ -106,3 +109,29 @@ module _ (p : ℕ) (to : ℕ → ℕ) (sign : ℕ → ℕ → ℕ) (first second
       → dimension_at p (cells_of second) i j ≡ dimension_at p (cells_of first) i j
   dimension-renamed field complex other_complex i j =
       dimension-alike p renamed sign_at (cells_of first) (cells_of second) alike-renamed field complex.below other_complex.below i j
+
+-- layers that correspond without their quantum degrees, and have the same ones, correspond
+pub renamed-filtered : (p : ℕ) (to : ℕ → ℕ) (sign : ℕ → ℕ → ℕ) (first second : Layers)
+    → AreRenamed p to sign (unfiltered_layers first) (unfiltered_layers second)
+    → ((x state label : ℕ) → Contains first.objects x → state < first.states → label < first.labels x state
+    → second.quantum (layer_of (to x) state label) ≡ first.quantum (layer_of x state label))
+    → AreRenamed p to sign first second
+renamed-filtered p to sign first second are quantum =
+    record {
+      listed = are.listed;
+      apart = are.apart;
+      states = are.states;
+      labels = are.labels;
+      homological = are.homological;
+      quantum = quantum;
+      squares = are.squares;
+      inner = are.inner;
+      outer = are.outer;
+    }
+
+pub survivors-renamed : (p : ℕ) (to : ℕ → ℕ) (sign : ℕ → ℕ → ℕ) (first second : Layers) → AreRenamed p to sign first second
+    → HasInverses p → AreFiltered p (cells_of first) → AreFiltered p (cells_of second) → (i t : ℤ)
+    → survivors p (cells_of second) i t ≡ survivors p (cells_of first) i t
+survivors-renamed p to sign first second are field filtered other_filtered i t =
+    survivors-alike p (renamed p to sign first second are) (sign_at p to sign first second are) (cells_of first) (cells_of second)
+    (alike-renamed p to sign first second are) field filtered.below other_filtered.below i t

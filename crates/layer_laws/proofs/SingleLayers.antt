@@ -1,4 +1,5 @@
--- Layers of which one object is left are like layers of one object, with a sign for each outer state.
+-- Layers of which one object is left are like layers of one object, with a sign for each outer state: they have the same survivors and the
+-- same dimensions.
 use Rattle.std.proofs.Common.{◌≡◌, ◌≢◌, ℕ, inl, inr, ◌+◌, ◌*◌, ◌%◌, ◌<◌, ◌∙◌, ℤ, List, [], ◌∷◌, refl, sym, subst, ap, arith}
 use Rattle.std.specs.List.{Contains}
 use Rattle.kh_types.specs.Residues.{HasInverses, Same}
@@ -11,8 +12,11 @@ use Rattle.cell_laws.proofs.Listings.{listed-named}
 use Rattle.layer_laws.specs.Renamed.{AreRenamed}
 use Rattle.layer_laws.specs.Cuts.{IsLikeOne, IsNothing}
 use Rattle.cell_laws.specs.Signs.{sign_of_power}
-use Rattle.layer_laws.proofs.RenamedLayers.{dimension-renamed}
+use Rattle.layer_laws.proofs.RenamedLayers.{dimension-renamed, renamed-filtered, survivors-renamed}
 use Rattle.layer_laws.proofs.Signs.{sign-parity, sign-squared, sign-sum, times-nothing}
+use Rattle.cell_laws.specs.Filtered.{AreFiltered, survivors}
+use Rattle.layer_laws.specs.FilteredCuts.{IsFilteredLike, unfiltered_layers}
+use Rattle.layer_laws.proofs.LevelEntries.{complex-unfiltered_layers}
 
 -- one object of layers, with other coefficients within a state
 abbrev pub one_object : ℕ → (ℕ → ℕ → ℕ → ℕ → ℕ → ℕ) → Layers → Layers
@@ -116,3 +120,27 @@ module _ (p object r : ℕ) (level : ℕ → ℕ) (layers single : Layers) (inne
 
   pub dimension-one : (i j : ℤ) → dimension_at p (cells_of single) i j ≡ dimension_at p (cells_of after) i j
   dimension-one i j = dimension-renamed p (λ x. 0) sign_there after single renamed-one field complex like.complex i j
+
+-- filtered layers, which are so without their quantum degrees
+module _ (p object r : ℕ) (level : ℕ → ℕ) (layers single : Layers) (inner : ℕ → ℕ → ℕ → ℕ → ℕ → ℕ) (field : HasInverses p)
+    (like : IsFilteredLike p object r level layers single)
+    (nothing : IsNothing p (one_object object inner (unfiltered_layers layers)) object object)
+    (filtered : AreFiltered p (cells_of (one_object object inner layers))) where
+  abbrev sign_of : ℕ → ℕ → ℕ
+  sign_of = sign_there p object r level (unfiltered_layers layers) (unfiltered_layers single) inner field like.like nothing
+      (complex-unfiltered_layers p (one_object object inner layers) filtered)
+
+  quantum-one : (x state label : ℕ) → Contains (object ∷ []) x → state < layers.states → label < layers.labels x state
+      → single.quantum (layer_of 0 state label) ≡ layers.quantum (layer_of x state label)
+  quantum-one x state label has below =
+      subst (λ (x : ℕ). label < layers.labels x state → single.quantum (layer_of 0 state label) ≡ layers.quantum (layer_of x state label))
+      (sym (one_in x object has)) (λ label_below. like.quantum state label below label_below)
+
+  pub survivors-one : (i t : ℤ) → survivors p (cells_of single) i t ≡ survivors p (cells_of (one_object object inner layers)) i t
+  survivors-one i t =
+      survivors-renamed p (λ x. 0) sign_of (one_object object inner layers) single
+      (renamed-filtered p (λ x. 0) sign_of (one_object object inner layers) single
+      (renamed-one p object r level (unfiltered_layers layers) (unfiltered_layers single) inner field like.like nothing
+      (complex-unfiltered_layers p (one_object object inner layers) filtered))
+      quantum-one)
+      field filtered like.filtered i t

@@ -1,6 +1,6 @@
 -- Codes of which two neighbouring crossings are exchanged: their states have the same circles, and their edges do the same to labels.
-use Rattle.std.proofs.Common.{◌≡◌, ℕ, ◌+◌, ◌-◌, ◌*◌, ◌/◌, ◌%◌, ◌<◌, ◌∙◌, List, [], ◌∷◌, ◌++◌, length, map, get_or, refl, sym, subst, ap, ap₂, arith, Bool, ◌&&◌, ◌||◌}
-use Rattle.std.specs.Prelude.{nat_eq}
+use Rattle.std.proofs.Common.{◌≡◌, ℕ, ◌+◌, ◌-◌, ◌*◌, ◌/◌, ◌%◌, ◌<◌, ◌∙◌, List, [], ◌∷◌, ◌++◌, length, map, get_or, refl, sym, subst, ap, ap₂, arith, Bool, ◌||◌}
+use Rattle.std.specs.Prelude.{nat_eq, if◌then◌else◌}
 use Rattle.std.specs.List.{filter, list_all, list_any, position_or_len, range_with_len}
 use Rattle.std.proofs.lemmas.List.{length-append}
 use Rattle.kh_types.specs.Bits.{bit}
@@ -8,10 +8,9 @@ use Rattle.kh_types.specs.CircleSteps.{arc_at, joined_slot}
 use Rattle.kh_types.specs.Circles.{circle_count, circle_of, circles_of, smoothings_of}
 use Rattle.kh_types.specs.Classes.{Respects, classes_of, is_least}
 use Rattle.kh_types.specs.Code.{Code, arc_count, arc_in, arcs_and_loops, slots_of}
-use Rattle.kh_types.specs.Differential.{is_merge, is_split}
 use Rattle.kh_types.specs.Generators.{Generator, generator_of}
 use Rattle.kh_types.proofs.JoinedSlots.{across-respects, across-slot, arc_at-slot, respects-across, joined_slot-below}
-use Rattle.square_laws.proofs.TouchedCircles.{fits}
+use Rattle.square_laws.specs.Deformed.{label_number, row_number}
 use Rattle.order_laws.proofs.ClampedClasses.{classes_of-any}
 use Rattle.order_laws.proofs.ExchangedBits.{bit-exchanged, element-moved, exchanged, exchanged-twice, moved, moved-below}
 
@@ -19,7 +18,7 @@ use Rattle.order_laws.proofs.ExchangedBits.{bit-exchanged, element-moved, exchan
 abbrev pub code_with : List (List ℕ) → List (List ℕ) → ℕ → List ℕ → List ℕ → Code
 code_with front back loops a b = record { crossings = front ++ a ∷ b ∷ back; loops = loops }
 
--- whether the labels fit, by the circles of both states, the names of arcs and loops, the slots of the crossing and the labels
+-- the labels of the touched circles, by the circles of a state, the names of arcs and loops, the slots of the crossing and the label
 abbrev label_by : List ℕ → List ℕ → ℕ → ℕ → ℕ
 label_by circles arcs label arc = bit label (position_or_len (nat_eq (circle_of circles arc)) (filter (is_least circles) arcs))
 
@@ -30,18 +29,18 @@ abbrev labels_by : List ℕ → List ℕ → List ℕ → ℕ → List ℕ
 labels_by circles arcs slots label =
     map (label_by circles arcs label) (filter (touched_by circles slots) (filter (is_least circles) arcs))
 
-abbrev fits_by : List ℕ → List ℕ → List ℕ → List ℕ → ℕ → ℕ → Bool
-fits_by before behind arcs slots tail head =
-    list_all (λ circle. touched_by before slots circle || nat_eq (label_by before arcs tail circle) (label_by behind arcs head circle))
+-- the number of an edge, by the circles of both states, the names of arcs and loops, the slots of the crossing and the labels
+abbrev number_by : ℕ → ℕ → List ℕ → List ℕ → List ℕ → List ℕ → ℕ → ℕ → ℕ
+number_by h k before behind arcs slots tail head =
+    if list_all (λ circle. touched_by before slots circle || nat_eq (label_by before arcs tail circle) (label_by behind arcs head circle))
     (filter (is_least before) arcs)
-    && (is_merge (labels_by before arcs slots tail) (labels_by behind arcs slots head)
-    || is_split (labels_by before arcs slots tail) (labels_by behind arcs slots head))
+    then row_number h k (labels_by before arcs slots tail) (labels_by behind arcs slots head) else 0
 
-pub fits-by : (code : Code) (tail head : Generator) (crossing : ℕ)
-    → fits code tail head crossing
-    ≡ fits_by (circles_of code tail.state) (circles_of code head.state) (arcs_and_loops code) (slots_of code.crossings crossing)
+number-by : (h k : ℕ) (code : Code) (tail head : Generator) (crossing : ℕ)
+    → label_number h k code tail head crossing
+    ≡ number_by h k (circles_of code tail.state) (circles_of code head.state) (arcs_and_loops code) (slots_of code.crossings crossing)
     tail.label head.label
-fits-by code tail head crossing = refl
+number-by h k code tail head crossing = refl
 
 module _ (front back : List (List ℕ)) (loops : ℕ) where
   abbrev n : ℕ
@@ -102,23 +101,26 @@ module _ (front back : List (List ℕ)) (loops : ℕ) where
   circle_count-exchanged a b s =
       ap₂ (λ (circles arcs : List ℕ). length (filter (is_least circles) arcs)) (circles-exchanged a b s) (arcs-exchanged a b)
 
-  -- the name of a generator in the exchanged code
-  pub fits-exchanged : (a b : List ℕ) (tail head : Generator) (place : ℕ)
-      → fits (code_with front back loops b a) (generator_of (exchanged (length front) tail.state) tail.label)
+  -- the number of an edge in the exchanged code
+  pub number-exchanged : (h k : ℕ) (a b : List ℕ) (tail head : Generator) (place : ℕ)
+      → label_number h k (code_with front back loops b a) (generator_of (exchanged (length front) tail.state) tail.label)
       (generator_of (exchanged (length front) head.state) head.label) (moved (length front) place + 1)
-      ≡ fits (code_with front back loops a b) tail head (place + 1)
-  fits-exchanged a b tail head place =
-      let k = length front in
+      ≡ label_number h k (code_with front back loops a b) tail head (place + 1)
+  number-exchanged h k a b tail head place =
+      let m = length front in
       let old = code_with front back loops a b in
       let new = code_with front back loops b a in
       let before = circles_of old tail.state in
       let behind = circles_of old head.state in
-      let slots : slots_of (front ++ b ∷ a ∷ back) (moved k place + 1) ≡ slots_of (front ++ a ∷ b ∷ back) (place + 1) =
-      ap (λ m. get_or (front ++ b ∷ a ∷ back) m []) (let e : moved k place + 1 - 1 ≡ moved k place = omega arith in e)
+      let slots : slots_of (front ++ b ∷ a ∷ back) (moved m place + 1) ≡ slots_of (front ++ a ∷ b ∷ back) (place + 1) =
+      ap (λ n. get_or (front ++ b ∷ a ∷ back) n []) (let e : moved m place + 1 - 1 ≡ moved m place = omega arith in e)
       ∙ element-moved front back a b [] place
-      ∙ ap (λ m. get_or (front ++ a ∷ b ∷ back) m []) (let e : place ≡ place + 1 - 1 = omega arith in e) in
-      fits-by new (generator_of (exchanged k tail.state) tail.label) (generator_of (exchanged k head.state) head.label) (moved k place + 1)
-      ∙ ap₂ (λ (c d : List ℕ). fits_by c d (arcs_and_loops new) (slots_of (front ++ b ∷ a ∷ back) (moved k place + 1)) tail.label head.label)
+      ∙ ap (λ n. get_or (front ++ a ∷ b ∷ back) n []) (let e : place ≡ place + 1 - 1 = omega arith in e) in
+      number-by h k new (generator_of (exchanged m tail.state) tail.label) (generator_of (exchanged m head.state) head.label)
+      (moved m place + 1)
+      ∙ ap₂ (λ (c d : List ℕ). number_by h k c d (arcs_and_loops new) (slots_of (front ++ b ∷ a ∷ back) (moved m place + 1))
+      tail.label head.label)
       (circles-exchanged a b tail.state) (circles-exchanged a b head.state)
-      ∙ ap₂ (λ (arcs slots : List ℕ). fits_by before behind arcs slots tail.label head.label) (arcs-exchanged a b) slots
-      ∙ sym (fits-by old tail head (place + 1))
+      ∙ ap₂ (λ (arcs slots : List ℕ). number_by h k before behind arcs slots tail.label head.label)
+      (arcs-exchanged a b) slots
+      ∙ sym (number-by h k old tail head (place + 1))

@@ -1,32 +1,29 @@
--- The exchange of two neighbouring crossings keeps the dimensions of the cube.
+-- The exchange of two neighbouring crossings makes the deformed cube another that is like it.
 --
 -- The exchange of two neighbouring crossings exchanges two bits of each state. Circles stay, as smoothings are the same in another order.
 -- The sign along an edge counts the ones before its crossing, which changes only where both bits are ones: so a generator gets the sign -1
 -- where both are, and the cube of the one order is that of the other up to names and signs (AlikeCells).
-use Rattle.std.proofs.Common.{◌≡◌, ℕ, inl, inr, ◌+◌, ◌*◌, ◌^◌, ◌<◌, ◌∙◌, ℤ, pos, ◌+ℤ◌, ◌-ℤ◌, List, length, sym, subst, ap, ap₂, arith, Bool, true, false, cond}
+use Rattle.std.proofs.Common.{◌≡◌, ℕ, inl, inr, ◌+◌, ◌*◌, ◌%◌, ◌^◌, ◌<◌, ◌∙◌, pos, ◌+ℤ◌, ◌-ℤ◌, List, length, refl, sym, subst, ap, ap₂, arith}
 use Rattle.std.specs.List.{Contains, range_with_len, sum_by}
+use Rattle.std.proofs.Math.Nat.{mod-mod}
 use Rattle.std.proofs.lemmas.Bool.{cases_eq}
 use Rattle.kh_types.specs.Bits.{ones}
 use Rattle.kh_types.specs.Circles.{circle_count}
-use Rattle.kh_types.specs.Differential.{coefficient}
 use Rattle.kh_types.specs.Generators.{Generator, generator_of, generators, generators_of, one_count, states}
 use Rattle.kh_types.specs.Residues.{HasInverses, Same}
 use Rattle.kh_types.proofs.ListSums.{sum_by-alike, sum_by-flat_map, sum_by-map}
-use Rattle.kh_types.proofs.Residues.{same-equal, same-scaled}
-use Rattle.square_laws.proofs.Degrees.{coefficient-below}
+use Rattle.kh_types.proofs.Residues.{same-equal, same-mul, same-scaled}
 use Rattle.square_laws.proofs.Signs.{power_sign, same_parity, signs-product}
-use Rattle.square_laws.proofs.TouchedCircles.{fits}
 use Rattle.cell_laws.specs.Alike.{AreAlike}
-use Rattle.cell_laws.specs.Cells.{AreComplex, dimension_at}
-use Rattle.cell_laws.specs.Cubes.{cube_of}
-use Rattle.cell_laws.proofs.CubeCells.{IsStepAt, coefficient-along, member-from, member-of, step-of}
-use Rattle.cell_laws.proofs.AlikeCells.{dimension-alike}
-use Rattle.cell_laws.proofs.AlikeComplexes.{complex-alike}
+use Rattle.cell_laws.proofs.CubeCells.{IsStepAt, member-from, member-of}
+use Rattle.square_laws.specs.Deformed.{deformed_coefficient, label_number, opposite}
+use Rattle.cell_laws.specs.DeformedCubes.{deformed_cube_of}
 use Rattle.order_laws.proofs.ExchangedBits.{bit-exchanged, both_ones, exchanged, exchanged-below, exchanged-set, exchanged-twice, moved, moved-below, ones-high, ones-moved}
-use Rattle.order_laws.proofs.ExchangedCodes.{circle_count-exchanged, code_with, fits-exchanged, length-with}
+use Rattle.order_laws.proofs.ExchangedCodes.{circle_count-exchanged, code_with, length-with, number-exchanged}
 use Rattle.cell_laws.proofs.Matched.{sum_by-paired}
+use Rattle.cell_laws.proofs.DeformedAlong.{deformed-along, deformed-step}
 
-module _ (p : ℕ) (front back : List (List ℕ)) (loops : ℕ) (field : HasInverses p) where
+module _ (p h : ℕ) (front back : List (List ℕ)) (loops : ℕ) (field : HasInverses p) where
   positive : 0 < p
   positive = omega (arith, field.above_one)
 
@@ -34,10 +31,10 @@ module _ (p : ℕ) (front back : List (List ℕ)) (loops : ℕ) (field : HasInve
   k = length front
 
   -- a generator's name in the exchanged code, and its sign
-  abbrev name_of : Generator → Generator
+  abbrev pub name_of : Generator → Generator
   name_of x = generator_of (exchanged (length front) x.state) x.label
 
-  abbrev sign_of : Generator → ℕ
+  abbrev pub sign_of : Generator → ℕ
   sign_of x = power_sign p (both_ones (length front) x.state)
 
   name-twice : (x : Generator) → name_of (name_of x) ≡ x
@@ -57,8 +54,8 @@ module _ (p : ℕ) (front back : List (List ℕ)) (loops : ℕ) (field : HasInve
 
   coefficient-step : (a b : List ℕ) (tail head : Generator) (place : ℕ)
       → IsStepAt (code_with front back loops a b) tail.state head.state place
-      → Same p (coefficient p (code_with front back loops a b) tail head)
-      (sign_of tail * (sign_of head * coefficient p (code_with front back loops b a) (name_of tail) (name_of head)))
+      → Same p (deformed_coefficient p h (code_with front back loops a b) tail head)
+      (sign_of tail * (sign_of head * deformed_coefficient p h (code_with front back loops b a) (name_of tail) (name_of head)))
   coefficient-step a b tail head place step =
       let old = code_with front back loops a b in
       let new = code_with front back loops b a in
@@ -68,7 +65,7 @@ module _ (p : ℕ) (front back : List (List ℕ)) (loops : ℕ) (field : HasInve
       let both = both_ones (length front) s in
       let both_behind = both_ones (length front) (s + 2 ^ place) in
       let rest = ones (moved (length front) place) (exchanged (length front) s) in
-      let test = fits old tail head (place + 1) in
+      let test = label_number h (opposite p h) old tail head (place + 1) in
       let signs : Same p now (sign_of tail * (sign_of head * later)) =
       same-equal p now (power_sign p (both + (both_behind + rest)))
       (same_parity p (ones place s) (both + (both_behind + rest)) (ones-moved (length front) s place step.zero_there))
@@ -77,39 +74,43 @@ module _ (p : ℕ) (front back : List (List ℕ)) (loops : ℕ) (field : HasInve
       (sym (signs-product p both_behind rest positive))
       ∙ same-equal p (power_sign p both * (power_sign p both_behind * power_sign p rest)) (sign_of tail * (sign_of head * later))
       (ap (λ t. power_sign p both * (power_sign p (both_ones (length front) t) * power_sign p rest)) (sym step.behind)) in
-      same-equal p (coefficient p old tail head) (cond test now 0) (coefficient-along p old tail head place step)
+      same-equal p (deformed_coefficient p h old tail head) (now * test % p) (deformed-along p h old tail head place step)
+      ∙ mod-mod (now * test) p
       ∙ by_test test now (sign_of tail) (sign_of head) later signs
-      ∙ same-equal p (sign_of tail * (sign_of head * cond test later 0))
-      (sign_of tail * (sign_of head * coefficient p new (name_of tail) (name_of head)))
-      (ap (λ c. sign_of tail * (sign_of head * c))
-      (ap (λ c. cond c later 0) (sym (fits-exchanged front back loops a b tail head place))
-      ∙ sym (coefficient-along p new (name_of tail) (name_of head) (moved (length front) place)
-      (step-exchanged a b s head.state place step))))
+      ∙ sym (same-scaled p (sign_of tail) (sign_of head * deformed_coefficient p h new (name_of tail) (name_of head))
+      (sign_of head * (later * test))
+      (same-scaled p (sign_of head) (deformed_coefficient p h new (name_of tail) (name_of head)) (later * test)
+      (same-equal p (deformed_coefficient p h new (name_of tail) (name_of head)) (later * test % p)
+      (deformed-along p h new (name_of tail) (name_of head) (moved (length front) place)
+      (step-exchanged a b s head.state place step)
+      ∙ ap (λ n. later * n % p) (number-exchanged front back loops h (opposite p h) a b tail head place))
+      ∙ mod-mod (later * test) p)))
     where
-      nothing : (x y : ℕ) → 0 ≡ x * (y * 0)
-      nothing x y = omega arith
-
-      by_test : (test : Bool) (now x y later : ℕ) → Same p now (x * (y * later)) → Same p (cond test now 0) (x * (y * cond test later 0))
-      by_test true now x y later same = same
-      by_test false now x y later same = same-equal p 0 (x * (y * 0)) (nothing x y)
+      by_test : (test now x y later : ℕ) → Same p now (x * (y * later)) → Same p (now * test) (x * (y * (later * test)))
+      by_test test now x y later same =
+          same-mul p now (x * (y * later)) test test same refl
+          ∙ same-equal p (x * (y * later) * test) (x * (y * (later * test))) (grouped x y later test)
+        where
+          grouped : (x y l t : ℕ) → x * (y * l) * t ≡ x * (y * (l * t))
+          grouped x y l t = omega arith
 
   coefficient-exchanged : (a b : List ℕ) (tail head : Generator)
-      → Same p (coefficient p (code_with front back loops a b) tail head)
-      (sign_of tail * (sign_of head * coefficient p (code_with front back loops b a) (name_of tail) (name_of head)))
+      → Same p (deformed_coefficient p h (code_with front back loops a b) tail head)
+      (sign_of tail * (sign_of head * deformed_coefficient p h (code_with front back loops b a) (name_of tail) (name_of head)))
   coefficient-exchanged a b tail head =
       let old = code_with front back loops a b in
       let new = code_with front back loops b a in
-      let there = coefficient p new (name_of tail) (name_of head) in
-      elim (cases_eq (coefficient p old tail head) 0) [
+      let there = deformed_coefficient p h new (name_of tail) (name_of head) in
+      elim (cases_eq (deformed_coefficient p h old tail head) 0) [
         | inr some ↦
-            let step = step-of p old tail head some in
+            let step = deformed-step p h old tail head some in
             coefficient-step a b tail head step.0 step.1
         | inl none ↦ elim (cases_eq there 0) [
           | inl none_there ↦
-              same-equal p (coefficient p old tail head) (sign_of tail * (sign_of head * there))
+              same-equal p (deformed_coefficient p h old tail head) (sign_of tail * (sign_of head * there))
               (none ∙ nothing (sign_of tail) (sign_of head) ∙ ap (λ c. sign_of tail * (sign_of head * c)) (sym none_there))
           | inr some ↦
-              let step = step-of p new (name_of tail) (name_of head) some in
+              let step = deformed-step p h new (name_of tail) (name_of head) some in
               let home = step-exchanged b a (name_of tail).state (name_of head).state step.0 step.1 in
               coefficient-step a b tail head (moved (length front) step.0)
               (subst₂' home (exchanged-twice (length front) tail.state) (exchanged-twice (length front) head.state))
@@ -175,9 +176,9 @@ module _ (p : ℕ) (front back : List (List ℕ)) (loops : ℕ) (field : HasInve
       ∙ ones-high (length front) s n (omega arith)
       ∙ ap (λ m. ones m s) (sym (length-with front back loops a b))
 
-  alike-exchanged : (a b : List ℕ) (plus minus : ℕ)
-      → AreAlike p name_of sign_of (cube_of p (code_with front back loops a b) plus minus)
-      (cube_of p (code_with front back loops b a) plus minus)
+  pub alike-exchanged : (a b : List ℕ) (plus minus : ℕ)
+      → AreAlike p name_of sign_of (deformed_cube_of p h (code_with front back loops a b) plus minus)
+      (deformed_cube_of p h (code_with front back loops b a) plus minus)
   alike-exchanged a b plus minus =
       let old = code_with front back loops a b in
       record {
@@ -196,20 +197,3 @@ module _ (p : ℕ) (front back : List (List ℕ)) (loops : ℕ) (field : HasInve
             (circle_count-exchanged front back loops a b x.state) (one_count-exchanged a b x.state);
         coefficient = λ x y has_x has_y. coefficient-exchanged a b x y;
       }
-
-  pub dimension-exchanged : (a b : List ℕ) (plus minus : ℕ) (i j : ℤ)
-      → dimension_at p (cube_of p (code_with front back loops b a) plus minus) i j
-      ≡ dimension_at p (cube_of p (code_with front back loops a b) plus minus) i j
-  dimension-exchanged a b plus minus i j =
-      let old = code_with front back loops a b in
-      let new = code_with front back loops b a in
-      dimension-alike p name_of sign_of (cube_of p old plus minus) (cube_of p new plus minus) (alike-exchanged a b plus minus) field
-      (λ x y. coefficient-below p old x y field.above_one) (λ x y. coefficient-below p new x y field.above_one) i j
-
-  pub complex-exchanged : (a b : List ℕ) (plus minus : ℕ) → AreComplex p (cube_of p (code_with front back loops a b) plus minus)
-      → AreComplex p (cube_of p (code_with front back loops b a) plus minus)
-  complex-exchanged a b plus minus complex =
-      let old = code_with front back loops a b in
-      let new = code_with front back loops b a in
-      complex-alike p name_of sign_of (cube_of p old plus minus) (cube_of p new plus minus) (alike-exchanged a b plus minus)
-      (λ x y. coefficient-below p new x y field.above_one) complex

@@ -9,5 +9,3 @@ pub mod ShuffledDarts
 pub mod ShuffledFaces
 pub mod AnyOrder
 pub mod Reordered
-pub mod ExchangedNumbers
-pub mod ExchangedSurvivors

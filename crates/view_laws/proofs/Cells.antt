@@ -10,7 +10,7 @@ use Rattle.kh_types.specs.Code.{Code}
 use Rattle.kh_types.specs.Generators.{Generator, generator_of, generators}
 use Rattle.kh_types.proofs.Lists.{Contains-flat_map, Contains-later, Contains-map, Contains-range, range-contains}
 use Rattle.cell_laws.specs.Alike.{AreListed, HasNoDoubles}
-use Rattle.cell_laws.specs.Cubes.{cube_of}
+use Rattle.cell_laws.specs.DeformedCubes.{deformed_cube_of}
 use Rattle.cell_laws.specs.Layers.{Layer, Layers, cells_of, layer_of}
 use Rattle.cell_laws.proofs.Matched.{AreListed-matched}
 use Rattle.cell_laws.proofs.Members.{Contains-first, Contains-flattened, Contains-made}
@@ -196,9 +196,9 @@ module _ (code : Code) (view : View) (is : IsView code view) (circles : HasCircl
       (joint-inside view.inner t s part_is.inside) (joint-outside view.inner t s part_is.inside)
       ∙ ap₂ (λ (a b : ℕ). layer_of (object_of view t a) s b) made.closes made.sees
 
-  module _ (p plus minus : ℕ) where
+  module _ (p h plus minus : ℕ) where
     abbrev layers : Layers
-    layers = view_layers p code plus minus view
+    layers = view_layers p h code plus minus view
 
     cell-parts : (y : Layer) → Contains (cells_of layers).list y → IsPart (inside_of view y.object) (closed_of view y.object) y.state
         y.label
@@ -245,9 +245,9 @@ module _ (code : Code) (view : View) (is : IsView code view) (circles : HasCircl
         made-cell (inside_of view y.object) (closed_of view y.object) y.state y.label (cell-parts y has)
         ∙ ap (λ (o : ℕ). layer_of o y.state y.label) (sym (object-parts view y.object))
 
-    pub cells-listed : AreListed (cell_of code view) (cube_of p code plus minus).list (cells_of layers).list
+    pub cells-listed : AreListed (cell_of code view) (deformed_cube_of p h code plus minus).list (cells_of layers).list
     cells-listed =
-        AreListed-matched (cell_of code view) (generator_from code view) (cube_of p code plus minus).list (cells_of layers).list
+        AreListed-matched (cell_of code view) (generator_from code view) (deformed_cube_of p h code plus minus).list (cells_of layers).list
         (record {
           first_once = once-generators code;
           second_once = cells-once layers (objects-once view);
@@ -268,11 +268,12 @@ module _ (code : Code) (view : View) (is : IsView code view) (circles : HasCircl
         ∙ sym (ones-split code view is t s (inside-below view.inner x.state))
         ∙ ap (λ n. ones (length code.crossings) n) (sym (joint-parts view.inner x.state))
 
-    pub homological-same : (x : Generator) → (cells_of layers).homological (cell_of code view x) ≡ (cube_of p code plus minus).homological x
+    pub homological-same : (x : Generator)
+        → (cells_of layers).homological (cell_of code view x) ≡ (deformed_cube_of p h code plus minus).homological x
     homological-same x = ap (λ n. pos n -ℤ pos minus) (ones-same x)
 
     pub quantum-same : (x : Generator) → IsMember code x
-        → (cells_of layers).quantum (cell_of code view x) ≡ (cube_of p code plus minus).quantum x
+        → (cells_of layers).quantum (cell_of code view x) ≡ (deformed_cube_of p h code plus minus).quantum x
     quantum-same x member =
         let t = x.state % 2 ^ view.inner in
         let s = x.state / 2 ^ view.inner in

@@ -1,27 +1,41 @@
--- The cube of a code is the cells of a view's layers, up to names: along an outer edge the labels of what closes inside stay, and the
--- coefficient is a saddle's number.
-use Rattle.std.proofs.Common.{◌≡◌, ◌≢◌, ℕ, inl, inr, ◌+◌, ◌-◌, ◌*◌, ◌/◌, ◌%◌, ◌^◌, ◌<◌, ◌∙◌, length, refl, sym, subst, ap, ap₂, arith, Bool, true, false, cond, ◌&&◌}
+-- The deformed cube of a code is the cells of a view's layers, up to names: along an outer edge the labels of what closes inside stay, and
+-- the coefficient is a saddle's number. So both have the same survivors; and with h = 0 the plain cube and its layers the same dimensions.
+use Rattle.std.proofs.Common.{◌≡◌, ◌≢◌, ℕ, inl, inr, ◌+◌, ◌-◌, ◌*◌, ◌/◌, ◌%◌, ◌^◌, ◌<◌, ◌∙◌, ℤ, List, length, refl, sym, subst, ap, ap₂, arith, Bool, true, false, cond}
 use Rattle.std.specs.Prelude.{nat_eq}
+use Rattle.std.proofs.Math.Nat.{zero-mod}
 use Rattle.std.proofs.lemmas.Bool.{cases_eq, cases_lt, eq-eqb, eqb-true, ne_eqb}
-use Rattle.kh_types.specs.Bits.{bit, one_if, ones}
+use Rattle.kh_types.specs.Bits.{bit, ones}
 use Rattle.kh_types.specs.Code.{Code}
-use Rattle.kh_types.specs.Differential.{coefficient}
 use Rattle.kh_types.specs.Generators.{Generator}
 use Rattle.kh_types.proofs.EdgeBits.{set-within}
 use Rattle.kh_types.proofs.Residues.{same-equal}
 use Rattle.kh_types.proofs.Tests.{agree}
 use Rattle.cell_laws.specs.Alike.{AreAlike}
-use Rattle.cell_laws.specs.Cubes.{cube_of}
-use Rattle.cell_laws.specs.Layers.{Layers, cells_of, layer_coefficient}
-use Rattle.view_laws.specs.Partitions.{counts_labels, keeps_classes, saddle_number}
+use Rattle.cell_laws.specs.Layers.{Layer, Layers, cells_of, layer_coefficient}
+use Rattle.cell_laws.specs.Signs.{sign_of_power}
+use Rattle.square_laws.specs.Deformed.{deformed_coefficient, opposite}
+use Rattle.cell_laws.specs.DeformedCubes.{deformed_cube_of}
 use Rattle.view_laws.specs.Views.{HasCircles, IsView, View, closed_at, joint_state, together}
 use Rattle.view_laws.specs.ViewLayers.{generator_at, inside_of, object_of, outer_count, outer_number, relation_of, view_layers}
-use Rattle.cell_laws.specs.Signs.{sign_of_power}
 use Rattle.view_laws.proofs.Cells.{cell_of, cells-listed, closed_label, generator-home, homological-same, object-inside, quantum-same, seen_label}
 use Rattle.kh_types.proofs.JointNumbers.{bit-inside, bit-outside, inside-below, joint-inside, joint-outside, joint-parts, ones-joint, parts-known, set-inside, set-outside}
-use Rattle.view_laws.proofs.SameClosed.{Changes, fits-seen}
+use Rattle.view_laws.proofs.SameClosed.{Changes}
 use Rattle.view_laws.proofs.Steps.{IsOuterStep, outer-one, outer-some}
-use Rattle.cell_laws.proofs.CubeCells.{IsMember, IsStepAt, coefficient-along, member-from, step-of}
+use Rattle.cell_laws.proofs.CubeCells.{IsMember, IsStepAt, member-from}
+use Rattle.view_laws.specs.Partitions.{deformed_saddle_number}
+use Rattle.cell_laws.proofs.DeformedAlong.{deformed-along, deformed-step}
+use Rattle.view_laws.proofs.SeenNumbers.{number-seen}
+use Rattle.kh_types.specs.Residues.{HasInverses}
+use Rattle.std.proofs.lemmas.Nat.{mod_below}
+use Rattle.cell_laws.specs.Filtered.{AreFiltered, survivors}
+use Rattle.cell_laws.proofs.AlikeSurvivors.{filtered-alike, survivors-alike}
+use Rattle.square_laws.proofs.RaisedDegrees.{deformed-below}
+use Rattle.square_laws.proofs.Degrees.{coefficient-below}
+use Rattle.cell_laws.specs.Cells.{AreComplex, Cells, dimension_at}
+use Rattle.cell_laws.specs.Cubes.{cube_of}
+use Rattle.cell_laws.proofs.AlikeCells.{dimension-alike}
+use Rattle.cell_laws.proofs.AlikeComplexes.{complex-alike}
+use Rattle.cell_laws.proofs.DeformedCells.{cube-plain}
 
 -- what an edge does to circles
 pub edge-changes : (code : Code) → HasCircles code → (state place : ℕ) → place < length code.crossings → bit state place ≡ 0
@@ -32,7 +46,7 @@ edge-changes code circles state place within zero_there =
     (ap (bit state) e ∙ zero_there) in
     subst (λ (m : ℕ). Changes code state (state + 2 ^ m) (place + 1)) e changes
 
-module _ (code : Code) (view : View) (is : IsView code view) (circles : HasCircles code) (p : ℕ) where
+module _ (code : Code) (view : View) (is : IsView code view) (circles : HasCircles code) (p h : ℕ) where
   abbrev k : ℕ
   k = view.inner
 
@@ -40,11 +54,11 @@ module _ (code : Code) (view : View) (is : IsView code view) (circles : HasCircl
   pub outer-edge : (x y : Generator) → IsMember code x → IsMember code y → (i : ℕ) → i < outer_count code view
       → bit (x.state / 2 ^ view.inner) i ≡ 0
       → y.state ≡ joint_state view (x.state % 2 ^ view.inner) (x.state / 2 ^ view.inner + 2 ^ i)
-      → coefficient p code x y
+      → deformed_coefficient p h code x y
       ≡ cond (nat_eq (closed_label code view x) (closed_label code view y))
       (sign_of_power p (ones view.inner (x.state % 2 ^ view.inner) + ones i (x.state / 2 ^ view.inner))
-      * saddle_number (together code view x.state) (together code view y.state) view.names (seen_label code view x)
-      (seen_label code view y)) 0
+      * deformed_saddle_number h (opposite p h) (together code view x.state) (together code view y.state) view.names
+      (seen_label code view x) (seen_label code view y) % p) 0
   outer-edge x y x_is y_is i below zero_there behind =
       let t = x.state % 2 ^ view.inner in
       let s = x.state / 2 ^ view.inner in
@@ -61,28 +75,29 @@ module _ (code : Code) (view : View) (is : IsView code view) (circles : HasCircl
       (edge-changes code circles x.state (view.inner + i) within place_bit) in
       let c = closed_label code view x in
       let d = closed_label code view y in
-      let keeps = keeps_classes (together code view x.state) (together code view y.state) view.names (seen_label code view x)
-      (seen_label code view y) in
-      let counts = counts_labels (together code view x.state) (together code view y.state) view.names (seen_label code view x)
-      (seen_label code view y) in
-      coefficient-along p code x y (view.inner + i) (record { within = within; zero_there = place_bit; behind = there })
-      ∙ ap₂ (λ (b : Bool) (n : ℕ). cond b (sign_of_power p n) 0)
-      (fits-seen code view is circles x.state y.state x_is.state y_is.state same_closed x.label y.label (view.inner + i + 1) changes)
+      let saddle = deformed_saddle_number h (opposite p h) (together code view x.state) (together code view y.state) view.names
+      (seen_label code view x) (seen_label code view y) in
+      deformed-along p h code x y (view.inner + i) (record { within = within; zero_there = place_bit; behind = there })
+      ∙ ap₂ (λ (n m : ℕ). sign_of_power p n * m % p)
       (ap (λ n. ones (view.inner + i) n) split ∙ ones-joint view.inner t s i t_below)
-      ∙ by (nat_eq c d) (keeps && counts) (sign_of_power p (ones view.inner t + ones i s))
+      (number-seen code view is circles x.state y.state x_is.state y_is.state same_closed x.label y.label h (opposite p h)
+      (view.inner + i + 1) changes)
+      ∙ by (nat_eq c d) (sign_of_power p (ones view.inner t + ones i s)) saddle
     where
-      by : (a b : Bool) (n : ℕ) → cond (a && b) n 0 ≡ cond a (n * one_if b) 0
-      by true true n = omega arith
-      by true false n = omega arith
-      by false b n = refl
+      by : (a : Bool) (n m : ℕ) → n * cond a m 0 % p ≡ cond a (n * m % p) 0
+      by true n m = refl
+      by false n m = ap (λ x. x % p) (never n) ∙ zero-mod p
+        where
+          never : (n : ℕ) → n * 0 ≡ 0
+          never n = omega arith
 
   module _ (plus minus : ℕ) where
     abbrev layers : Layers
-    layers = view_layers p code plus minus view
+    layers = view_layers p h code plus minus view
 
     abbrev outer_at : Generator → Generator → ℕ
     outer_at x y =
-        outer_number p (outer_count code view) (ones view.inner (inside_of view (cell_of code view x).object))
+        outer_number p h (outer_count code view) (ones view.inner (inside_of view (cell_of code view x).object))
         (relation_of code view (cell_of code view x).object) view.names (x.state / 2 ^ view.inner) (y.state / 2 ^ view.inner)
         (seen_label code view x) (seen_label code view y)
 
@@ -92,7 +107,7 @@ module _ (code : Code) (view : View) (is : IsView code view) (circles : HasCircl
     -- an outer step
     at-step : (x y : Generator) → IsMember code x → IsMember code y → y.state % 2 ^ view.inner ≡ x.state % 2 ^ view.inner
         → (i : ℕ) → i < outer_count code view → IsOuterStep (x.state / 2 ^ view.inner) (y.state / 2 ^ view.inner) i
-        → coefficient p code x y ≡ between x y
+        → deformed_coefficient p h code x y ≡ between x y
     at-step x y x_is y_is same_inside i below step =
         let t = x.state % 2 ^ view.inner in
         let s = x.state / 2 ^ view.inner in
@@ -115,12 +130,13 @@ module _ (code : Code) (view : View) (is : IsView code view) (circles : HasCircl
         (parts-known view.inner t c (y.state % 2 ^ view.inner) d t_below (inside-below view.inner y.state)
         (eqb-true o (object_of view (y.state % 2 ^ view.inner) d) passes)).1))
         (ap₂ (λ (a b : ℕ). sign_of_power p (ones view.inner t + ones i s)
-        * saddle_number (together code view a) (together code view b) view.names (seen_label code view x) (seen_label code view y))
+        * deformed_saddle_number h (opposite p h) (together code view a) (together code view b) view.names (seen_label code view x)
+        (seen_label code view y) % p)
         split split_behind
         ∙ ap (λ (a : ℕ). sign_of_power p (ones view.inner a + ones i s)
-        * saddle_number (together code view (joint_state view a s)) (together code view (joint_state view a (y.state / 2 ^ view.inner)))
-        view.names (seen_label code view x) (seen_label code view y)) (sym inside)
-        ∙ sym (outer-one p (outer_count code view) (ones view.inner (inside_of view o)) (relation_of code view o) view.names s
+        * deformed_saddle_number h (opposite p h) (together code view (joint_state view a s))
+        (together code view (joint_state view a (y.state / 2 ^ view.inner))) view.names (seen_label code view x) (seen_label code view y) % p) (sym inside)
+        ∙ sym (outer-one p h (outer_count code view) (ones view.inner (inside_of view o)) (relation_of code view o) view.names s
         (y.state / 2 ^ view.inner) (seen_label code view x) (seen_label code view y) i below step))
 
     -- a step between different outer states is an outer one
@@ -162,10 +178,10 @@ module _ (code : Code) (view : View) (is : IsView code view) (circles : HasCircl
         ]
 
     between-same : (x y : Generator) → IsMember code x → IsMember code y → x.state / 2 ^ view.inner ≢ y.state / 2 ^ view.inner
-        → coefficient p code x y ≡ between x y
-    between-same x y x_is y_is differ = elim (cases_eq (coefficient p code x y) 0) [
+        → deformed_coefficient p h code x y ≡ between x y
+    between-same x y x_is y_is differ = elim (cases_eq (deformed_coefficient p h code x y) 0) [
       | inr some ↦
-          let found = step-of p code x y some in
+          let found = deformed-step p h code x y some in
           let outside = outside-step x y found.0 found.1 differ in
           at-step x y x_is y_is outside.inside outside.place outside.below outside.step
       | inl none ↦ elim (cases_eq (cell_of code view x).object (cell_of code view y).object) [
@@ -175,7 +191,7 @@ module _ (code : Code) (view : View) (is : IsView code view) (circles : HasCircl
           | inl none_too ↦ none ∙ sym (ap (λ n. cond (nat_eq (cell_of code view x).object (cell_of code view y).object) n 0) none_too
               ∙ nothing (nat_eq (cell_of code view x).object (cell_of code view y).object))
           | inr some ↦
-              let found = outer-some p (outer_count code view) (ones view.inner (inside_of view (cell_of code view x).object))
+              let found = outer-some p h (outer_count code view) (ones view.inner (inside_of view (cell_of code view x).object))
               (relation_of code view (cell_of code view x).object) view.names (x.state / 2 ^ view.inner) (y.state / 2 ^ view.inner)
               (seen_label code view x) (seen_label code view y) some in
               at-step x y x_is y_is
@@ -191,7 +207,7 @@ module _ (code : Code) (view : View) (is : IsView code view) (circles : HasCircl
         nothing false = refl
 
     coefficient-same : (x y : Generator) → IsMember code x → IsMember code y
-        → coefficient p code x y ≡ layer_coefficient layers (cell_of code view x) (cell_of code view y)
+        → deformed_coefficient p h code x y ≡ layer_coefficient layers (cell_of code view x) (cell_of code view y)
     coefficient-same x y x_is y_is =
         let s = x.state / 2 ^ view.inner in
         let s_behind = y.state / 2 ^ view.inner in
@@ -201,24 +217,89 @@ module _ (code : Code) (view : View) (is : IsView code view) (circles : HasCircl
         elim (cases_eq s s_behind) [
           | inl one ↦
               sym (ap (λ b. cond b inner_is (between x y)) (eq-eqb s s_behind one)
-              ∙ ap₂ (λ (g h : Generator). coefficient p code g h) (generator-home code view is circles x x_is)
+              ∙ ap₂ (λ (g e : Generator). deformed_coefficient p h code g e) (generator-home code view is circles x x_is)
               (ap (λ n. generator_at code view o_behind n (seen_label code view y)) one ∙ generator-home code view is circles y y_is))
           | inr differ ↦
               between-same x y x_is y_is differ ∙ sym (ap (λ b. cond b inner_is (between x y)) (ne_eqb s s_behind differ))
         ]
 
-    pub alike-cut : AreAlike p (cell_of code view) (λ x. 1) (cube_of p code plus minus) (cells_of layers)
+    pub alike-cut : AreAlike p (cell_of code view) (λ x. 1) (deformed_cube_of p h code plus minus) (cells_of layers)
     alike-cut =
         record {
-          listed = cells-listed code view is circles p plus minus;
+          listed = cells-listed code view is circles p h plus minus;
           squares = λ x has. refl;
-          homological = λ x has. homological-same code view is circles p plus minus x;
-          quantum = λ x has. quantum-same code view is circles p plus minus x (member-from code x has);
+          homological = λ x has. homological-same code view is circles p h plus minus x;
+          quantum = λ x has. quantum-same code view is circles p h plus minus x (member-from code x has);
           coefficient = λ x y has_x has_y.
-              same-equal p (coefficient p code x y) (1 * (1 * layer_coefficient layers (cell_of code view x) (cell_of code view y)))
+              same-equal p (deformed_coefficient p h code x y)
+              (1 * (1 * layer_coefficient layers (cell_of code view x) (cell_of code view y)))
               (coefficient-same x y (member-from code x has_x) (member-from code y has_y)
               ∙ once (layer_coefficient layers (cell_of code view x) (cell_of code view y)));
         }
       where
         once : (n : ℕ) → n ≡ 1 * (1 * n)
         once n = omega arith
+
+outer-below : (p h count inside_ones : ℕ) (relation : ℕ → ℕ → ℕ → Bool) (names : List ℕ) (s t label other : ℕ) → 0 < p
+    → outer_number p h count inside_ones relation names s t label other < p
+outer-below p h count inside_ones relation names s t label other positive =
+    elim (cases_eq (outer_number p h count inside_ones relation names s t label other) 0) [
+      | inl none ↦ omega (arith, none, positive)
+      | inr some ↦
+          let found = outer-some p h count inside_ones relation names s t label other some in
+          subst (λ (m : ℕ). m < p) (sym (outer-one p h count inside_ones relation names s t label other found.0 found.1 found.2))
+          (mod_below (sign_of_power p (inside_ones + ones found.0 s)
+          * deformed_saddle_number h (opposite p h) (relation s) (relation t) names label other) p positive)
+    ]
+
+pub layers-below : (p h : ℕ) (code : Code) (plus minus : ℕ) (view : View) → 0 < p → (x y : Layer)
+    → layer_coefficient (view_layers p h code plus minus view) x y < p
+layers-below p h code plus minus view positive x y =
+    let layers = view_layers p h code plus minus view in
+    by (nat_eq x.state y.state) (nat_eq x.object y.object) (layers.inner x.object y.object x.state x.label y.label)
+    (layers.outer x.object x.state y.state x.label y.label) (deformed-below p h code _ _ positive)
+    (outer-below p h (outer_count code view) (ones view.inner (inside_of view x.object)) (relation_of code view x.object) view.names
+    x.state y.state x.label y.label positive)
+  where
+    by : (a b : Bool) (m n : ℕ) → m < p → n < p → cond a m (cond b n 0) < p
+    by true b m n m_below n_below = m_below
+    by false true m n m_below n_below = n_below
+    by false false m n m_below n_below = positive
+
+-- the survivors of the cube are those of the layers
+pub survivors-cut : (p h : ℕ) (code : Code) (view : View) (plus minus : ℕ) → HasInverses p → HasCircles code → IsView code view
+    → (i t : ℤ)
+    → survivors p (cells_of (view_layers p h code plus minus view)) i t ≡ survivors p (deformed_cube_of p h code plus minus) i t
+survivors-cut p h code view plus minus field circles is i t =
+    let positive : 0 < p = omega (arith, field.above_one) in
+    survivors-alike p (cell_of code view) (λ x. 1) (deformed_cube_of p h code plus minus)
+    (cells_of (view_layers p h code plus minus view))
+    (alike-cut code view is circles p h plus minus) field (λ x y. deformed-below p h code x y positive)
+    (layers-below p h code plus minus view positive) i t
+
+pub filtered-cut : (p h : ℕ) (code : Code) (view : View) (plus minus : ℕ) → 0 < p → HasCircles code → IsView code view
+    → AreFiltered p (deformed_cube_of p h code plus minus) → AreFiltered p (cells_of (view_layers p h code plus minus view))
+filtered-cut p h code view plus minus positive circles is filtered =
+    filtered-alike p (cell_of code view) (λ x. 1) (deformed_cube_of p h code plus minus)
+    (cells_of (view_layers p h code plus minus view))
+    (layers-below p h code plus minus view positive) (alike-cut code view is circles p h plus minus) filtered
+
+-- with h = 0 they are the layers of the plain cube
+alike-plain : (p : ℕ) (code : Code) (view : View) (plus minus : ℕ) → 1 < p → HasCircles code → IsView code view
+    → AreAlike p (cell_of code view) (λ x. 1) (cube_of p code plus minus) (cells_of (view_layers p 0 code plus minus view))
+alike-plain p code view plus minus above circles is =
+    subst (λ (cells : Cells Generator). AreAlike p (cell_of code view) (λ x. 1) cells (cells_of (view_layers p 0 code plus minus view)))
+    (cube-plain p code plus minus above) (alike-cut code view is circles p 0 plus minus)
+
+pub dimension-cut : (p : ℕ) (code : Code) (view : View) (plus minus : ℕ) → HasInverses p → HasCircles code → IsView code view → (i j : ℤ)
+    → dimension_at p (cells_of (view_layers p 0 code plus minus view)) i j ≡ dimension_at p (cube_of p code plus minus) i j
+dimension-cut p code view plus minus field circles is i j =
+    dimension-alike p (cell_of code view) (λ x. 1) (cube_of p code plus minus) (cells_of (view_layers p 0 code plus minus view))
+    (alike-plain p code view plus minus field.above_one circles is) field (λ x y. coefficient-below p code x y field.above_one)
+    (layers-below p 0 code plus minus view (omega (arith, field.above_one))) i j
+
+pub complex-cut : (p : ℕ) (code : Code) (view : View) (plus minus : ℕ) → 1 < p → HasCircles code → IsView code view
+    → AreComplex p (cube_of p code plus minus) → AreComplex p (cells_of (view_layers p 0 code plus minus view))
+complex-cut p code view plus minus above circles is complex =
+    complex-alike p (cell_of code view) (λ x. 1) (cube_of p code plus minus) (cells_of (view_layers p 0 code plus minus view))
+    (alike-plain p code view plus minus above circles is) (layers-below p 0 code plus minus view (omega (arith, above))) complex

@@ -449,12 +449,12 @@ module _ (code : Code) (big small crossing kept gone : ℕ) (circles : HasCircle
           → (label_big x ≡ l) × (label_small x ≡ l)
       labels-there l x passes has changed = elim (or_cases (is_kept (same_at code big) (same_at code small) points x) (has_there l x)
           (all-at (has_point code points big small b s l) points x passes has)) [
-        | inl stays ↦
-            absurd (changed (stays-there x (are.named x has) (kept-forth (same_at code big) (same_at code small) points x stays)))
-        | inr there ↦
-            let both = and_parts (nat_eq (label_big x) l) (nat_eq (label_small x) l) there in
-            (eqb-true (label_big x) l both.0, eqb-true (label_small x) l both.1)
-      ]
+            | inl stays ↦
+                absurd (changed (stays-there x (are.named x has) (kept-forth (same_at code big) (same_at code small) points x stays)))
+            | inr there ↦
+                let both = and_parts (nat_eq (label_big x) l) (nat_eq (label_small x) l) there in
+                (eqb-true (label_big x) l both.0, eqb-true (label_small x) l both.1)
+          ]
 
       pub has-forth : (l : ℕ) → has_points code points big small b s l ≡ true → ChangesHave l
       has-forth l passes =

@@ -1,36 +1,29 @@
 -- The coefficients of a view's layers within an outer state.
-use Rattle.std.proofs.Common.{◌≡◌, ◌≢◌, ℕ, inl, inr, ◌+◌, ◌-◌, ◌*◌, ◌%◌, ◌^◌, ◌<◌, ◌∙◌, ℤ, List, [], ◌∷◌, length, map, refl, sym, subst, ap, ap₂, arith, Bool, true, false, cond, ◌&&◌}
+use Rattle.std.proofs.Common.{◌≡◌, ◌≢◌, ℕ, inl, inr, ◌+◌, ◌-◌, ◌*◌, ◌%◌, ◌^◌, ◌<◌, ◌∙◌, List, [], ◌∷◌, length, map, refl, sym, subst, ap, ap₂, arith, Bool, true, false, cond}
 use Rattle.std.specs.Prelude.{nat_eq}
+use Rattle.std.proofs.Math.Nat.{mod-eq_of_lt, zero-mod}
 use Rattle.std.proofs.lemmas.Bool.{cases_eq, cases_lt, eq-eqb, ne_eqb}
 use Rattle.std.proofs.lemmas.Nat.{pow_pos}
 use Rattle.kh_types.specs.Bits.{bit, one_if, ones}
 use Rattle.kh_types.specs.Code.{Code}
-use Rattle.kh_types.specs.Differential.{coefficient}
-use Rattle.kh_types.specs.Residues.{HasInverses}
 use Rattle.kh_types.proofs.EdgeBits.{set-within}
-use Rattle.cell_laws.specs.Cells.{AreComplex, dimension_at}
-use Rattle.cell_laws.specs.Cubes.{cube_of}
-use Rattle.cell_laws.specs.Layers.{IsTimesIdentity, Layer, Layers, cells_of, layer_coefficient}
-use Rattle.cell_laws.proofs.AlikeCells.{dimension-alike}
-use Rattle.cell_laws.proofs.AlikeComplexes.{complex-alike}
-use Rattle.square_laws.proofs.Degrees.{coefficient-below}
-use Rattle.square_laws.proofs.LabelNumbers.{number_from}
-use Rattle.square_laws.proofs.TouchedCircles.{fits}
-use Rattle.view_laws.specs.Partitions.{counts_labels, keeps_classes, saddle_number, seen_count}
-use Rattle.view_laws.specs.Views.{HasCircles, IsInnerStep, IsView, SeeAlike, View, closed_at, joint_state, together}
-use Rattle.view_laws.specs.ViewLayers.{closed_of, inside_of, object_of, outer_count, outer_number, relation_of, seen_at, view_layers}
+use Rattle.cell_laws.specs.Layers.{IsTimesIdentity, Layers}
 use Rattle.cell_laws.specs.Signs.{sign_of_power}
-use Rattle.view_laws.proofs.Cells.{IsPart, cell_of, made-parts, made_at, object-closed, object-inside, seen_label, state-below}
-use Rattle.view_laws.proofs.Cut.{alike-cut, edge-changes}
+use Rattle.square_laws.proofs.LabelNumbers.{number_from}
+use Rattle.square_laws.specs.Deformed.{deformed_coefficient, label_number, opposite}
+use Rattle.view_laws.specs.Partitions.{deformed_saddle_number, seen_count}
+use Rattle.view_laws.specs.Views.{HasCircles, IsInnerStep, IsView, SeeAlike, View, closed_at, joint_state, together}
+use Rattle.view_laws.specs.ViewLayers.{closed_of, inside_of, object_of, outer_count, seen_at, view_layers}
+use Rattle.view_laws.proofs.Cells.{IsPart, made-parts, made_at, object-closed, object-inside, seen_label, state-below}
+use Rattle.view_laws.proofs.Cut.{edge-changes}
 use Rattle.kh_types.proofs.JointNumbers.{bit-inside, inside-below, joint-inside, ones-inside, parts-known, set-inside, set-outside}
-use Rattle.view_laws.proofs.SameClosed.{Changes, fits-seen}
+use Rattle.view_laws.proofs.SameClosed.{Changes}
 use Rattle.view_laws.proofs.Seen.{seen-alike}
 use Rattle.view_laws.proofs.Shown.{lab}
-use Rattle.view_laws.proofs.SmallCircles.{fits-merge, fits-split}
-use Rattle.view_laws.proofs.Steps.{outer-one, outer-some}
-use Rattle.cell_laws.proofs.CubeCells.{coefficient-along, step-of}
+use Rattle.cell_laws.proofs.DeformedAlong.{deformed-along, deformed-step}
+use Rattle.view_laws.proofs.SeenNumbers.{number-seen}
+use Rattle.view_laws.proofs.SmallNumbers.{number-merge, number-split}
 
--- sizes of coefficients
 pub sign-below : (p n : ℕ) → 1 < p → sign_of_power p n < p
 sign-below p n above = by (nat_eq (n % 2) 0)
   where
@@ -45,54 +38,20 @@ sign-some p n above = by (nat_eq (n % 2) 0)
     by true none = omega (arith, none)
     by false none = omega (arith, none, above)
 
-outer-below : (p count inside_ones : ℕ) (relation : ℕ → ℕ → ℕ → Bool) (names : List ℕ) (s t label other : ℕ) → 1 < p
-    → outer_number p count inside_ones relation names s t label other < p
-outer-below p count inside_ones relation names s t label other above =
-    elim (cases_eq (outer_number p count inside_ones relation names s t label other) 0) [
-      | inl none ↦ omega (arith, none, above)
-      | inr some ↦
-          let found = outer-some p count inside_ones relation names s t label other some in
-          let n = sign_of_power p (inside_ones + ones found.0 s) in
-          subst (λ (m : ℕ). m < p) (sym (outer-one p count inside_ones relation names s t label other found.0 found.1 found.2))
-          (by n (keeps_classes (relation s) (relation t) names label other && counts_labels (relation s) (relation t) names label other)
-          (sign-below p (inside_ones + ones found.0 s) above))
-    ]
+-- sizes of coefficients
+signed : (p n : ℕ) (b : Bool) → n < p → n * one_if b % p ≡ cond b n 0
+signed p n true below = ap (λ x. x % p) (once n) ∙ mod-eq_of_lt below
   where
-    by : (n : ℕ) (b : Bool) → n < p → n * one_if b < p
-    by n true below = omega (arith, below)
-    by n false below = omega (arith, above)
-
-pub layers-below : (p : ℕ) (code : Code) (plus minus : ℕ) (view : View) → 1 < p → (x y : Layer)
-    → layer_coefficient (view_layers p code plus minus view) x y < p
-layers-below p code plus minus view above x y =
-    let layers = view_layers p code plus minus view in
-    by (nat_eq x.state y.state) (nat_eq x.object y.object) (layers.inner x.object y.object x.state x.label y.label)
-    (layers.outer x.object x.state y.state x.label y.label) (coefficient-below p code _ _ above)
-    (outer-below p (outer_count code view) (ones view.inner (inside_of view x.object)) (relation_of code view x.object) view.names
-    x.state y.state x.label y.label above)
+    once : (n : ℕ) → n * 1 ≡ n
+    once n = omega arith
+signed p n false below = ap (λ x. x % p) (never n) ∙ zero-mod p
   where
-    by : (a b : Bool) (m n : ℕ) → m < p → n < p → cond a m (cond b n 0) < p
-    by true b m n m_below n_below = m_below
-    by false true m n m_below n_below = n_below
-    by false false m n m_below n_below = omega (arith, above)
+    never : (n : ℕ) → n * 0 ≡ 0
+    never n = omega arith
 
--- the dimensions of the cube are those of the layers
-pub dimension-cut : (p : ℕ) (code : Code) (view : View) (plus minus : ℕ) → HasInverses p → HasCircles code → IsView code view → (i j : ℤ)
-    → dimension_at p (cells_of (view_layers p code plus minus view)) i j ≡ dimension_at p (cube_of p code plus minus) i j
-dimension-cut p code view plus minus field circles is i j =
-    dimension-alike p (cell_of code view) (λ x. 1) (cube_of p code plus minus) (cells_of (view_layers p code plus minus view))
-    (alike-cut code view is circles p plus minus) field (λ x y. coefficient-below p code x y field.above_one)
-    (layers-below p code plus minus view field.above_one) i j
-
-pub complex-cut : (p : ℕ) (code : Code) (view : View) (plus minus : ℕ) → 1 < p → HasCircles code → IsView code view
-    → AreComplex p (cube_of p code plus minus) → AreComplex p (cells_of (view_layers p code plus minus view))
-complex-cut p code view plus minus above circles is complex =
-    complex-alike p (cell_of code view) (λ x. 1) (cube_of p code plus minus) (cells_of (view_layers p code plus minus view))
-    (alike-cut code view is circles p plus minus) (layers-below p code plus minus view above) complex
-
-module _ (p : ℕ) (code : Code) (plus minus : ℕ) (view : View) (is : IsView code view) (circles : HasCircles code) where
+module _ (p h : ℕ) (code : Code) (plus minus : ℕ) (view : View) (is : IsView code view) (circles : HasCircles code) where
   abbrev layers_here : Layers
-  layers_here = view_layers p code plus minus view
+  layers_here = view_layers p h code plus minus view
 
   -- without a step the coefficient is 0
   pub inner-none : (first second s label other : ℕ)
@@ -105,10 +64,10 @@ module _ (p : ℕ) (code : Code) (plus minus : ℕ) (view : View) (is : IsView c
       let y = made_at code view u (closed_of view second) s other in
       let t_below = inside-below view.inner first in
       let u_below = inside-below view.inner second in
-      elim (cases_eq (coefficient p code x y) 0) [
+      elim (cases_eq (deformed_coefficient p h code x y) 0) [
         | inl is_zero ↦ is_zero
         | inr some ↦
-            let found = step-of p code x y some in
+            let found = deformed-step p h code x y some in
             let place = found.0 in
             let step = found.1 in
             elim (cases_lt place view.inner) [
@@ -157,16 +116,18 @@ module _ (p : ℕ) (code : Code) (plus minus : ℕ) (view : View) (is : IsView c
 
     inner-along : (c d label other : ℕ)
         → layers_here.inner (object_of view t c) (object_of view u d) s label other
-        ≡ cond (fits code (made_at code view t c s label) (made_at code view u d s other) (i + 1)) (sign_of_power p (ones i t)) 0
+        ≡ sign_of_power p (ones i t)
+        * label_number h (opposite p h) code (made_at code view t c s label) (made_at code view u d s other) (i + 1) % p
     inner-along c d label other =
-        ap₂ (λ (a b : ℕ). coefficient p code (made_at code view a b s label)
+        ap₂ (λ (a b : ℕ). deformed_coefficient p h code (made_at code view a b s label)
         (made_at code view (inside_of view (object_of view u d)) (closed_of view (object_of view u d)) s other))
         (object-inside view t c step.inside) (object-closed view t c step.inside)
-        ∙ ap₂ (λ (a b : ℕ). coefficient p code (made_at code view t c s label) (made_at code view a b s other))
+        ∙ ap₂ (λ (a b : ℕ). deformed_coefficient p h code (made_at code view t c s label) (made_at code view a b s other))
         (object-inside view u d u_below) (object-closed view u d u_below)
-        ∙ coefficient-along p code (made_at code view t c s label) (made_at code view u d s other) i
+        ∙ deformed-along p h code (made_at code view t c s label) (made_at code view u d s other) i
         (record { within = within; zero_there = bit-there; behind = there })
-        ∙ ap (λ n. cond (fits code (made_at code view t c s label) (made_at code view u d s other) (i + 1)) (sign_of_power p n) 0)
+        ∙ ap (λ n. sign_of_power p n
+        * label_number h (opposite p h) code (made_at code view t c s label) (made_at code view u d s other) (i + 1) % p)
         (ones-inside view.inner t s i (omega (arith, step.place)))
 
     closed-before : closed_at view (joint_state view t s) ≡ view.closed t
@@ -194,7 +155,8 @@ module _ (p : ℕ) (code : Code) (plus minus : ℕ) (view : View) (is : IsView c
     pub inner-saddle : view.closed t ≡ [] → view.closed u ≡ [] → (label other : ℕ) → label < 2 ^ sees_before → other < 2 ^ sees_behind
         → layers_here.inner (object_of view t 0) (object_of view u 0) s label other
         ≡ sign_of_power p (ones i t)
-        * saddle_number (together code view (joint_state view t s)) (together code view (joint_state view u s)) view.names label other
+        * deformed_saddle_number h (opposite p h) (together code view (joint_state view t s)) (together code view (joint_state view u s))
+        view.names label other % p
     inner-saddle none none_behind label other label_below other_below =
         let x = made_at code view t 0 s label in
         let y = made_at code view u 0 s other in
@@ -205,25 +167,21 @@ module _ (p : ℕ) (code : Code) (plus minus : ℕ) (view : View) (is : IsView c
         let r = together code view (joint_state view t s) in
         let q = together code view (joint_state view u s) in
         inner-along 0 0 label other
-        ∙ ap (λ b. cond b (sign_of_power p (ones i t)) 0)
-        (fits-seen code view is circles (joint_state view t s) (joint_state view u s) before-below behind-below
-        (closed-behind ∙ none_behind ∙ sym none ∙ sym closed-before) x.label y.label (i + 1) changes
-        ∙ ap₂ (λ a b. nat_eq a b && (keeps_classes r q view.names (seen_label code view x) (seen_label code view y)
-        && counts_labels r q view.names (seen_label code view x) (seen_label code view y))) first.closes second.closes
-        ∙ ap₂ (λ a b. keeps_classes r q view.names a b && counts_labels r q view.names a b) first.sees second.sees)
-        ∙ by (keeps_classes r q view.names label other && counts_labels r q view.names label other) (sign_of_power p (ones i t))
-      where
-        by : (b : Bool) (n : ℕ) → cond b n 0 ≡ n * one_if b
-        by true n = omega arith
-        by false n = omega arith
+        ∙ ap (λ n. sign_of_power p (ones i t) * n % p)
+        (number-seen code view is circles (joint_state view t s) (joint_state view u s) before-below behind-below
+        (closed-behind ∙ none_behind ∙ sym none ∙ sym closed-before) x.label y.label h (opposite p h) (i + 1) changes
+        ∙ ap₂ (λ (a b : ℕ). cond (nat_eq a b)
+        (deformed_saddle_number h (opposite p h) r q view.names (seen_label code view x) (seen_label code view y)) 0)
+        first.closes second.closes
+        ∙ ap₂ (λ (a b : ℕ). deformed_saddle_number h (opposite p h) r q view.names a b) first.sees second.sees)
 
     -- where a circle closes before, which has the label v+
     pub inner-merge : (z : ℕ) → view.closed t ≡ z ∷ [] → view.closed u ≡ []
         → SeeAlike code view (joint_state view t s) code view (joint_state view u s)
-        → (label other : ℕ) → label < 2 ^ sees_before → other < 2 ^ sees_behind
+        → 1 < p → (label other : ℕ) → label < 2 ^ sees_before → other < 2 ^ sees_behind
         → layers_here.inner (object_of view t 0) (object_of view u 0) s label other
         ≡ cond (nat_eq label other) (sign_of_power p (ones i t)) 0
-    inner-merge z one none alike label other label_below other_below =
+    inner-merge z one none alike above label other label_below other_below =
         let x = made_at code view t 0 s label in
         let y = made_at code view u 0 s other in
         let first = made-parts code view is circles t 0 s label
@@ -235,18 +193,19 @@ module _ (p : ℕ) (code : Code) (plus minus : ℕ) (view : View) (is : IsView c
         let value : number_from (map f (z ∷ [])) ≡ 0 =
         ap (λ (xs : List ℕ). number_from (map f xs)) (sym alone_closed) ∙ first.closes in
         inner-along 0 0 label other
-        ∙ ap (λ b. cond b (sign_of_power p (ones i t)) 0)
-        (fits-merge code view is circles (joint_state view t s) (joint_state view u s) before-below behind-below z alone_closed
-        (closed-behind ∙ none) alike x.label y.label (i + 1) changes (omega (arith, value))
-        ∙ ap₂ nat_eq first.sees second.sees)
+        ∙ ap (λ n. sign_of_power p (ones i t) * n % p)
+        (number-merge code view is circles (joint_state view t s) (joint_state view u s) before-below behind-below z alone_closed
+        (closed-behind ∙ none) alike x.label y.label h (opposite p h) (i + 1) changes (omega (arith, value))
+        ∙ ap₂ (λ a b. one_if (nat_eq a b)) first.sees second.sees)
+        ∙ signed p (sign_of_power p (ones i t)) (nat_eq label other) (sign-below p (ones i t) above)
 
     -- where a circle closes behind, which has the label v-
     pub inner-split : (z : ℕ) → view.closed t ≡ [] → view.closed u ≡ z ∷ []
         → SeeAlike code view (joint_state view u s) code view (joint_state view t s)
-        → (label other : ℕ) → label < 2 ^ sees_before → other < 2 ^ sees_behind
+        → 1 < p → (label other : ℕ) → label < 2 ^ sees_before → other < 2 ^ sees_behind
         → layers_here.inner (object_of view t 0) (object_of view u 1) s label other
         ≡ cond (nat_eq other label) (sign_of_power p (ones i t)) 0
-    inner-split z none one alike label other label_below other_below =
+    inner-split z none one alike above label other label_below other_below =
         let x = made_at code view t 0 s label in
         let y = made_at code view u 1 s other in
         let first = made-parts code view is circles t 0 s label
@@ -258,10 +217,11 @@ module _ (p : ℕ) (code : Code) (plus minus : ℕ) (view : View) (is : IsView c
         let value : number_from (map f (z ∷ [])) ≡ 1 =
         ap (λ (xs : List ℕ). number_from (map f xs)) (sym alone_closed) ∙ second.closes in
         inner-along 0 1 label other
-        ∙ ap (λ b. cond b (sign_of_power p (ones i t)) 0)
-        (fits-split code view is circles (joint_state view u s) (joint_state view t s) behind-below before-below z alone_closed
-        (closed-before ∙ none) alike y.label x.label (i + 1) changes (omega (arith, value))
-        ∙ ap₂ nat_eq second.sees first.sees)
+        ∙ ap (λ n. sign_of_power p (ones i t) * n % p)
+        (number-split code view is circles (joint_state view u s) (joint_state view t s) behind-below before-below z alone_closed
+        (closed-before ∙ none) alike y.label x.label h (opposite p h) (i + 1) changes (omega (arith, value))
+        ∙ ap₂ (λ a b. one_if (nat_eq a b)) second.sees first.sees)
+        ∙ signed p (sign_of_power p (ones i t)) (nat_eq other label) (sign-below p (ones i t) above)
 
   -- so the entries between objects there are a sign times the identity
   sees-same : (t u s : ℕ) → t < 2 ^ view.inner → u < 2 ^ view.inner → (c d : ℕ)
@@ -281,7 +241,7 @@ module _ (p : ℕ) (code : Code) (plus minus : ℕ) (view : View) (is : IsView c
 
   pub merge-identity : (t u i z : ℕ) → 1 < p → IsInnerStep view t u i → view.closed t ≡ z ∷ [] → view.closed u ≡ []
       → ((s : ℕ) → s < 2 ^ outer_count code view → SeeAlike code view (joint_state view t s) code view (joint_state view u s))
-      → IsTimesIdentity (view_layers p code plus minus view) (object_of view t 0) (object_of view u 0) (sign_of_power p (ones i t))
+      → IsTimesIdentity (view_layers p h code plus minus view) (object_of view t 0) (object_of view u 0) (sign_of_power p (ones i t))
   merge-identity t u i z above step one none alike =
       let u_below = subst (λ (n : ℕ). n < 2 ^ view.inner) (sym step.behind)
       (set-within t i view.inner step.place step.inside step.zero_there) in
@@ -296,18 +256,18 @@ module _ (p : ℕ) (code : Code) (plus minus : ℕ) (view : View) (is : IsView c
         labels = λ s below. ap (λ n. 2 ^ n) (sees-same t u s step.inside u_below 0 0 (alike s below));
         equal = λ s label below within.
             let label_below = subst (λ (n : ℕ). label < 2 ^ n) (home s) within in
-            inner-merge t u i step s below z one none (alike s below) label label label_below
+            inner-merge t u i step s below z one none (alike s below) above label label label_below
             (subst (λ (n : ℕ). label < 2 ^ n) (sym (away s below)) label_below)
             ∙ ap (λ b. cond b (sign_of_power p (ones i t)) 0) (eq-eqb label label refl);
         others = λ s label other below within other_within differ.
-            inner-merge t u i step s below z one none (alike s below) label other (subst (λ (n : ℕ). label < 2 ^ n) (home s) within)
+            inner-merge t u i step s below z one none (alike s below) above label other (subst (λ (n : ℕ). label < 2 ^ n) (home s) within)
             (subst (λ (n : ℕ). other < 2 ^ n) (sym (away s below)) (subst (λ (n : ℕ). other < 2 ^ n) (home s) other_within))
             ∙ ap (λ b. cond b (sign_of_power p (ones i t)) 0) (ne_eqb label other differ);
       }
 
   pub split-identity : (t u i z : ℕ) → 1 < p → IsInnerStep view t u i → view.closed t ≡ [] → view.closed u ≡ z ∷ []
       → ((s : ℕ) → s < 2 ^ outer_count code view → SeeAlike code view (joint_state view u s) code view (joint_state view t s))
-      → IsTimesIdentity (view_layers p code plus minus view) (object_of view t 0) (object_of view u 1) (sign_of_power p (ones i t))
+      → IsTimesIdentity (view_layers p h code plus minus view) (object_of view t 0) (object_of view u 1) (sign_of_power p (ones i t))
   split-identity t u i z above step none one alike =
       let u_below = subst (λ (n : ℕ). n < 2 ^ view.inner) (sym step.behind)
       (set-within t i view.inner step.place step.inside step.zero_there) in
@@ -325,11 +285,11 @@ module _ (p : ℕ) (code : Code) (plus minus : ℕ) (view : View) (is : IsView c
             ∙ away s below ∙ sym (home s));
         equal = λ s label below within.
             let label_below = subst (λ (n : ℕ). label < 2 ^ n) (home s) within in
-            inner-split t u i step s below z none one (alike s below) label label label_below
+            inner-split t u i step s below z none one (alike s below) above label label label_below
             (subst (λ (n : ℕ). label < 2 ^ n) (sym (away s below)) label_below)
             ∙ ap (λ b. cond b (sign_of_power p (ones i t)) 0) (eq-eqb label label refl);
         others = λ s label other below within other_within differ.
-            inner-split t u i step s below z none one (alike s below) label other (subst (λ (n : ℕ). label < 2 ^ n) (home s) within)
+            inner-split t u i step s below z none one (alike s below) above label other (subst (λ (n : ℕ). label < 2 ^ n) (home s) within)
             (subst (λ (n : ℕ). other < 2 ^ n) (sym (away s below)) (subst (λ (n : ℕ). other < 2 ^ n) (home s) other_within))
             ∙ ap (λ b. cond b (sign_of_power p (ones i t)) 0) (ne_eqb other label (λ same. differ (sym same)));
       }

@@ -1,4 +1,4 @@
--- A code under other numbers has a cube with the same dimensions.
+-- A code under other numbers has a deformed cube with the same survivors, and a cube with the same dimensions.
 use Rattle.std.proofs.Common.{◌≡◌, ◌≢◌, ℕ, zero, suc, ◌⊎◌, inl, inr, ◌+◌, ◌-◌, ◌*◌, ◌/◌, ◌%◌, ◌<◌, ◌≤◌, ◌∙◌, ℤ, List, [], ◌∷◌, get_or, length, refl, sym, subst, ap, ap₂, arith, Bool, cond, IsTrue}
 use Rattle.std.specs.Prelude.{nat_eq, slice_index}
 use Rattle.std.specs.List.{Contains, position_or_len, range_with_len, sum_by}
@@ -28,10 +28,12 @@ use Rattle.gluing_laws.proofs.SlidCodes.{smoothings-hold}
 use Rattle.gluing_laws.proofs.Stubs.{renamed-twice, Respects-from_renamed}
 use Rattle.cell_laws.specs.Cells.{dimension_at}
 use Rattle.cell_laws.specs.Cubes.{cube_of}
+use Rattle.cell_laws.specs.DeformedCubes.{deformed_cube_of}
+use Rattle.cell_laws.specs.Filtered.{survivors}
 use Rattle.cell_laws.proofs.NoDoubles.{once-range}
 use Rattle.view_laws.specs.Views.{HasCircles, IsPlain, SeeAlike, circle_at, plain_view}
 use Rattle.view_laws.proofs.CircleNames.{HasCircles-accepted}
-use Rattle.view_laws.proofs.PlainViews.{dimension-plain}
+use Rattle.view_laws.proofs.PlainViews.{dimension-plain, survivors-plain}
 use Rattle.view_laws.proofs.Seen.{found-first}
 
 -- a function from the numbers below n to themselves that takes no value twice takes each
@@ -235,6 +237,12 @@ module _ (f : ℕ → ℕ) (old new : Code) (same : IsRenumbered f old new) (hol
         (circles-back state x y (name-below x has_x) (name-below y has_y)
         (eqb-true (circle_at new state (f x)) (circle_at new state (f y)) passes)))
 
+    pub survivors-renumbered : (p h plus minus : ℕ) → HasInverses p → HasCircles old → HasCircles new → (i t : ℤ)
+        → survivors p (deformed_cube_of p h new plus minus) i t ≡ survivors p (deformed_cube_of p h old plus minus) i t
+    survivors-renumbered p h plus minus field circles new_circles i t =
+        survivors-plain p h old new plus minus (arcs_and_loops old) (λ x. x) f field circles new_circles old-plain new-plain same.size
+        (λ state below. see-alike state) i t
+
     pub dimension-renumbered : (p plus minus : ℕ) → HasInverses p → HasCircles old → HasCircles new → (i j : ℤ)
         → dimension_at p (cube_of p new plus minus) i j ≡ dimension_at p (cube_of p old plus minus) i j
     dimension-renumbered p plus minus field circles new_circles i j =
@@ -333,13 +341,28 @@ module _ (f : ℕ → ℕ) (old new : Code) (same : IsRenumbered f old new) (twi
             ];
       }
 
+  pub survivors-any : (p h plus minus : ℕ) → HasInverses p → HasCircles old → HasCircles new → (i t : ℤ)
+      → survivors p (deformed_cube_of p h new plus minus) i t ≡ survivors p (deformed_cube_of p h old plus minus) i t
+  survivors-any p h plus minus field circles new_circles i t =
+      survivors-renumbered fixed old new renumbered-fixed (holds-arcs old twice) refl p h plus minus field circles new_circles i t
+
   pub dimension-any : (p plus minus : ℕ) → HasInverses p → HasCircles old → HasCircles new → (i j : ℤ)
       → dimension_at p (cube_of p new plus minus) i j ≡ dimension_at p (cube_of p old plus minus) i j
   dimension-any p plus minus field circles new_circles i j =
       dimension-renumbered fixed old new renumbered-fixed (holds-arcs old twice) refl p plus minus field circles
       new_circles i j
 
--- so codes under other numbers have one table, where crossings keep their signs
+-- so codes under other numbers have the same survivors, and one table, where crossings keep their signs
+pub survivors-renumbered_code : (p h : ℕ) (f : ℕ → ℕ) (old new : Code) → HasInverses p → IsTrue (accepted old) → IsTrue (accepted new)
+    → IsRenumbered f old new → plus_count new.crossings ≡ plus_count old.crossings
+    → minus_count new.crossings ≡ minus_count old.crossings → (i t : ℤ)
+    → survivors p (deformed_cube_of p h new (plus_count new.crossings) (minus_count new.crossings)) i t
+    ≡ survivors p (deformed_cube_of p h old (plus_count old.crossings) (minus_count old.crossings)) i t
+survivors-renumbered_code p h f old new field is new_is same plus minus i t =
+    ap₂ (λ a b. survivors p (deformed_cube_of p h new a b) i t) plus minus
+    ∙ survivors-any f old new same (HasArcsTwice-accepted old is) (HasArcsTwice-accepted new new_is) p h (plus_count old.crossings)
+    (minus_count old.crossings) field (HasCircles-accepted old is) (HasCircles-accepted new new_is) i t
+
 pub dimension-renumbered_code : (p : ℕ) (f : ℕ → ℕ) (old new : Code) → HasInverses p → IsTrue (accepted old) → IsTrue (accepted new)
     → IsRenumbered f old new → plus_count new.crossings ≡ plus_count old.crossings
     → minus_count new.crossings ≡ minus_count old.crossings → (i j : ℤ) → dimension p new i j ≡ dimension p old i j

@@ -1,5 +1,5 @@
 -- What is seen of a partition: the first names of its classes, and labels by them. All of it depends only on which names are together.
-use Rattle.std.proofs.Common.{◌≡◌, ℕ, suc, inl, inr, ◌+◌, ◌<◌, ◌≤◌, ◌∙◌, List, [], ◌∷◌, get_or, length, map, refl, sym, ap, ap₂, arith, Bool, true, cond, not, ◌&&◌, ◌||◌}
+use Rattle.std.proofs.Common.{◌≡◌, ℕ, suc, inl, inr, ◌+◌, ◌<◌, ◌≤◌, ◌∙◌, List, [], ◌∷◌, get_or, length, map, refl, sym, ap, ap₂, arith, Bool, true, false, cond, not, ◌&&◌, ◌||◌}
 use Rattle.std.specs.Prelude.{nat_eq, nat_lt}
 use Rattle.std.specs.List.{Contains, position_or_len}
 use Rattle.std.proofs.lemmas.Bool.{both_ways, cases_Bool, eq-eqb, eqb-true}
@@ -9,7 +9,7 @@ use Rattle.kh_types.proofs.Lists.{Contains-filter}
 use Rattle.cell_laws.specs.Alike.{HasNoDoubles}
 use Rattle.cell_laws.proofs.Members.{Contains-cases, Contains-first, Contains-kept, Contains-later}
 use Rattle.square_laws.proofs.LabelNumbers.{number_from}
-use Rattle.view_laws.specs.Partitions.{AgreeOn, first_with, is_kept, label_in, saddle_number, seen}
+use Rattle.view_laws.specs.Partitions.{AgreeOn, changes_have, counts_labels, deformed_saddle_number, first_with, is_kept, keeps_classes, label_in, saddle_number, seen, seen_count}
 use Rattle.cell_laws.proofs.Labels.{bit-number, place}
 use Rattle.cell_laws.proofs.Places.{numbers-test, place-found}
 use Rattle.view_laws.proofs.Tests.{all-agree, filter-agree}
@@ -110,16 +110,58 @@ module _ (r s : ℕ → ℕ → Bool) (names : List ℕ) (same : AgreeOn names r
   label-alike label x has =
       ap₂ (λ (z : ℕ) (xs : List ℕ). bit label (position_or_len (nat_eq z) xs)) (first-alike x has) seen-alike
 
-pub saddle-alike : (r t s u : ℕ → ℕ → Bool) (names : List ℕ) (label other : ℕ) → AgreeOn names r s → AgreeOn names t u
-    → saddle_number r t names label other ≡ saddle_number s u names label other
-saddle-alike r t s u names label other first second =
-    ap₂ (λ a b. one_if (a && b))
-    (all-agree (λ x. not (is_kept r t names x) || nat_eq (label_in r names label x) (label_in t names other x))
-    (λ x. not (is_kept s u names x) || nat_eq (label_in s names label x) (label_in u names other x)) names
-    (λ x has.
-    ap₂ (λ a b. not a || b)
-    (all-agree (λ y. nat_eq (one_if (r x y)) (one_if (t x y))) (λ y. nat_eq (one_if (s x y)) (one_if (u x y))) names
-    (λ y has_y. ap₂ (λ a b. nat_eq (one_if a) (one_if b)) (first x y has has_y) (second x y has has_y)))
-    (ap₂ nat_eq (label-alike r s names first label x has) (label-alike t u names second other x has))))
-    (ap₂ (λ (xs ys : List ℕ). nat_eq (ones (length ys) other) (ones (length xs) label + one_if (nat_lt (length xs) (length ys))))
-    (seen-alike r s names first) (seen-alike t u names second))
+-- the number of a saddle depends only on which names are together
+module _ (r t s u : ℕ → ℕ → Bool) (names : List ℕ) (label other : ℕ) (first : AgreeOn names r s) (second : AgreeOn names t u) where
+  kept-alike : (x : ℕ) → Contains names x → is_kept r t names x ≡ is_kept s u names x
+  kept-alike x has =
+      all-agree (λ y. nat_eq (one_if (r x y)) (one_if (t x y))) (λ y. nat_eq (one_if (s x y)) (one_if (u x y))) names
+      (λ y has_y. ap₂ (λ a b. nat_eq (one_if a) (one_if b)) (first x y has has_y) (second x y has has_y))
+
+  keeps-alike : keeps_classes r t names label other ≡ keeps_classes s u names label other
+  keeps-alike =
+      all-agree (λ x. not (is_kept r t names x) || nat_eq (label_in r names label x) (label_in t names other x))
+      (λ x. not (is_kept s u names x) || nat_eq (label_in s names label x) (label_in u names other x)) names
+      (λ x has.
+      ap₂ (λ a b. not a || b) (kept-alike x has)
+      (ap₂ nat_eq (label-alike r s names first label x has) (label-alike t u names second other x has)))
+
+  have-alike : (l : ℕ) → changes_have r t names label other l ≡ changes_have s u names label other l
+  have-alike l =
+      all-agree (λ x. is_kept r t names x || (nat_eq (label_in r names label x) l && nat_eq (label_in t names other x) l))
+      (λ x. is_kept s u names x || (nat_eq (label_in s names label x) l && nat_eq (label_in u names other x) l)) names
+      (λ x has.
+      ap₂ (λ a b. a || b) (kept-alike x has)
+      (ap₂ (λ a b. nat_eq a l && nat_eq b l) (label-alike r s names first label x has) (label-alike t u names second other x has)))
+
+  counts-alike : counts_labels r t names label other ≡ counts_labels s u names label other
+  counts-alike =
+      ap₂ (λ (xs ys : List ℕ). nat_eq (ones (length ys) other) (ones (length xs) label + one_if (nat_lt (length xs) (length ys))))
+      (seen-alike r s names first) (seen-alike t u names second)
+
+  pub saddle-alike : (h k : ℕ) → deformed_saddle_number h k r t names label other ≡ deformed_saddle_number h k s u names label other
+  saddle-alike h k =
+      ap₂ (λ (m n : ℕ). m + n) (ap₂ (λ (a b : Bool). one_if (a && b)) keeps-alike counts-alike)
+      (ap₂ (λ (a : Bool) (n : ℕ). cond a n 0) keeps-alike
+      (ap₂ (λ (xs ys : List ℕ). cond (nat_lt (length xs) (length ys)) (cond (changes_have r t names label other 0) k 0)
+      (cond (changes_have r t names label other 1) h 0)) (seen-alike r s names first) (seen-alike t u names second)
+      ∙ ap₂ (λ (a b : Bool). cond (nat_lt (length (seen s names)) (length (seen u names))) (cond a k 0) (cond b h 0))
+      (have-alike 0) (have-alike 1)))
+
+-- with h = k = 0 it is the plain one
+pub saddle-plain : (before behind : ℕ → ℕ → Bool) (names : List ℕ) (label other : ℕ)
+    → deformed_saddle_number 0 0 before behind names label other ≡ saddle_number before behind names label other
+saddle-plain before behind names label other =
+    ap (λ n. saddle_number before behind names label other + n)
+    (alone (keeps_classes before behind names label other) (nat_lt (seen_count before names) (seen_count behind names))
+    (changes_have before behind names label other 0) (changes_have before behind names label other 1) 0)
+    ∙ nothing (saddle_number before behind names label other)
+  where
+    alone : (a b c d : Bool) (n : ℕ) → cond a (cond b (cond c n n) (cond d n n)) n ≡ n
+    alone false b c d n = refl
+    alone true true true d n = refl
+    alone true true false d n = refl
+    alone true false c true n = refl
+    alone true false c false n = refl
+
+    nothing : (n : ℕ) → n + 0 ≡ n
+    nothing n = omega arith

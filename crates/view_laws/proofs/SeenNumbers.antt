@@ -16,7 +16,7 @@ use Rattle.view_laws.proofs.SameClosed.{Changes, c, closed-kept, d, fits-seen, k
 use Rattle.view_laws.proofs.Shown.{are-points, count-parts, label-in}
 use Rattle.view_laws.proofs.Tests.{all-agree, all-from}
 use Rattle.square_laws.specs.Deformed.{label_number}
-use Rattle.view_laws.specs.DeformedPartitions.{changes_have, deformed_saddle_number}
+use Rattle.view_laws.specs.Partitions.{changes_have, deformed_saddle_number}
 use Rattle.view_laws.proofs.EdgeRows.{number-points}
 
 module _ (code : Code) (view : View) (is : IsView code view) (circles : HasCircles code) (before behind : ℕ)

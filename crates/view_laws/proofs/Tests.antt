@@ -1,17 +1,15 @@
 -- Tests of all elements of lists, sums with one element taken out, and numbers of bits.
-use Rattle.std.proofs.Common.{◌≡◌, ◌≢◌, ℕ, inl, inr, ◌+◌, ◌-◌, ◌*◌, ◌<◌, ◌≤◌, ◌∙◌, List, [], ◌∷◌, map, refl, sym, subst, ap, ap₂, arith, Bool, true, false, cond, not, ◌&&◌}
+use Rattle.std.proofs.Common.{◌≡◌, ℕ, inl, inr, ◌+◌, ◌*◌, ◌∙◌, List, [], ◌∷◌, map, refl, sym, subst, ap, ap₂, arith, Bool, true, false, cond, not, ◌&&◌}
 use Rattle.std.specs.Prelude.{nat_eq}
-use Rattle.std.specs.List.{Contains, filter, list_all, range_with_len, sum_by}
-use Rattle.std.proofs.lemmas.Bool.{and_from, and_parts, both_ways, cases_eq, eq-eqb, eqb-true, ne_eqb, not-false}
+use Rattle.std.specs.List.{Contains, filter, list_all, sum_by}
+use Rattle.std.proofs.lemmas.Bool.{and_from, and_parts, cases_eq, eq-eqb, eqb-true, ne_eqb, not-false}
 use Rattle.std.proofs.lemmas.List.Sums.{sum_by-cons}
-use Rattle.std.proofs.lemmas.List.FromFn.{length-range_with_len, get_or-range_with_len}
 use Rattle.kh_types.specs.Edges.{is_other}
 use Rattle.cell_laws.specs.Alike.{HasNoDoubles}
 use Rattle.cell_laws.proofs.Members.{Contains-cases, Contains-first, Contains-later, sum_by-kept}
 use Rattle.cell_laws.proofs.NoDoubles.{first-new, once-later}
 use Rattle.square_laws.proofs.LabelNumbers.{number_from}
 use Rattle.view_laws.specs.ViewLayers.{number_with}
-use Rattle.std.proofs.lemmas.Bool.Decides.{nat_tests}
 
 pub all-from : {A : Type 0} (p : A → Bool) (xs : List A) → ((x : A) → Contains xs x → p x ≡ true) → list_all p xs ≡ true
 all-from p [] each = refl

@@ -5,10 +5,11 @@ use Rattle.std.specs.List.{flat_map, position_or_len, range_with_len, sum_by}
 use Rattle.kh_types.specs.Bits.{bit, ones}
 use Rattle.kh_types.specs.Code.{Code}
 use Rattle.kh_types.specs.Circles.{circle_names}
-use Rattle.kh_types.specs.Differential.{coefficient, label_of}
+use Rattle.kh_types.specs.Differential.{label_of}
 use Rattle.kh_types.specs.Generators.{Generator, generator_of}
 use Rattle.cell_laws.specs.Layers.{Layers}
-use Rattle.view_laws.specs.Partitions.{saddle_number, seen, seen_count}
+use Rattle.square_laws.specs.Deformed.{deformed_coefficient, opposite}
+use Rattle.view_laws.specs.Partitions.{deformed_saddle_number, seen, seen_count}
 use Rattle.view_laws.specs.Views.{View, circle_at, joint_state, together}
 use Rattle.cell_laws.specs.Signs.{sign_of_power}
 
@@ -53,19 +54,19 @@ seen_at code view object outside = seen_count (relation_of code view object outs
 abbrev pub degree_of_labels : ℕ → ℕ → ℤ
 degree_of_labels count label = pos count -ℤ pos (2 * ones count label)
 
--- along the outer crossing at a place, of an object: -1 to the ones before it, times the saddle's number; the relations of the outer states
--- and the ones of the object are given
-abbrev pub outer_along : ℕ → ℕ → (ℕ → ℕ → ℕ → Bool) → List ℕ → ℕ → ℕ → ℕ → ℕ → ℕ → ℕ
-outer_along p inside_ones relation names outside other label other_label place =
+-- along the outer crossing at a place, of an object: -1 to the ones before it, times the saddle's number, modulo p; the
+-- relations of the outer states and the ones of the object are given
+abbrev pub outer_along : ℕ → ℕ → ℕ → (ℕ → ℕ → ℕ → Bool) → List ℕ → ℕ → ℕ → ℕ → ℕ → ℕ → ℕ
+outer_along p h inside_ones relation names outside other label other_label place =
     if nat_eq (bit outside place) 0 && nat_eq other (outside + 2 ^ place)
     then sign_of_power p (inside_ones + ones place outside)
-    * saddle_number (relation outside) (relation other) names label other_label
+    * deformed_saddle_number h (opposite p h) (relation outside) (relation other) names label other_label % p
     else 0
 
 -- along the one outer crossing that leads from the one outer state to the other, if any does
-abbrev pub outer_number : ℕ → ℕ → ℕ → (ℕ → ℕ → ℕ → Bool) → List ℕ → ℕ → ℕ → ℕ → ℕ → ℕ
-outer_number p count inside_ones relation names outside other label other_label =
-    sum_by (outer_along p inside_ones relation names outside other label other_label) (range_with_len 0 count)
+abbrev pub outer_number : ℕ → ℕ → ℕ → ℕ → (ℕ → ℕ → ℕ → Bool) → List ℕ → ℕ → ℕ → ℕ → ℕ → ℕ
+outer_number p h count inside_ones relation names outside other label other_label =
+    sum_by (outer_along p h inside_ones relation names outside other label other_label) (range_with_len 0 count)
 
 -- the number that has some bits
 abbrev pub number_with : List ℕ → ℕ
@@ -94,9 +95,10 @@ generator_at code view object outside label =
     generator_of state
     (label_of_all code view state (closed_of view object + 2 ^ length (view.closed (inside_of view object)) * label))
 
--- the layers: within an outer state the coefficients are the cube's, and between outer states saddle numbers
-abbrev pub view_layers : ℕ → Code → ℕ → ℕ → View → Layers
-view_layers p code plus minus view = record {
+-- the layers: within an outer state the coefficients are those of the deformed cube, and between outer states they are saddle numbers; with
+-- h = 0 they are the layers of the plain cube
+abbrev pub view_layers : ℕ → ℕ → Code → ℕ → ℕ → View → Layers
+view_layers p h code plus minus view = record {
   objects = view_objects view;
   states = 2 ^ outer_count code view;
   labels = λ object outside. 2 ^ seen_at code view object outside;
@@ -106,8 +108,8 @@ view_layers p code plus minus view = record {
       +ℤ degree_of_labels (seen_at code view x.object x.state) x.label)
       +ℤ (pos (ones_of code view x.object x.state + plus) -ℤ pos (2 * minus));
   inner = λ object other outside label other_label.
-      coefficient p code (generator_at code view object outside label) (generator_at code view other outside other_label);
+      deformed_coefficient p h code (generator_at code view object outside label) (generator_at code view other outside other_label);
   outer = λ object outside other label other_label.
-      outer_number p (outer_count code view) (ones view.inner (inside_of view object)) (relation_of code view object) view.names
+      outer_number p h (outer_count code view) (ones view.inner (inside_of view object)) (relation_of code view object) view.names
       outside other label other_label;
 }

@@ -1,5 +1,5 @@
-use Rattle.view_laws.proofs.InnerEdges.{complex-cut, dimension-cut}
+use Rattle.view_laws.proofs.Cut.{complex-cut, dimension-cut, filtered-cut, survivors-cut}
 use Rattle.view_laws.proofs.laws.cubes_are_cut.Goals as goal
 
 pub returns : goal.returns
-returns c = record { dimensions = dimension-cut; complex = complex-cut }
+returns c = record { survivors = survivors-cut; filtered = filtered-cut; dimensions = dimension-cut; complex = complex-cut }

@@ -1,4 +1,4 @@
-use Rattle.layer_laws.proofs.FilteredBigons.{bigon-keeps_first, bigon-keeps_second}
+use Rattle.layer_laws.proofs.Bigons.{bigon-keeps_first, bigon-keeps_second}
 use Rattle.layer_laws.proofs.laws.survivors.bigons_keep_survivors.Goals as goal
 
 pub returns : goal.returns

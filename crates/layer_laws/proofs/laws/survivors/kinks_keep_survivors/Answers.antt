@@ -1,4 +1,4 @@
-use Rattle.layer_laws.proofs.FilteredKinks.{kink-keeps_first, kink-keeps_second}
+use Rattle.layer_laws.proofs.Kinks.{kink-keeps_first, kink-keeps_second}
 use Rattle.layer_laws.proofs.laws.survivors.kinks_keep_survivors.Goals as goal
 
 pub returns : goal.returns

@@ -1,4 +1,4 @@
-use Rattle.layer_laws.proofs.FilteredRenamed.{survivors-renamed}
+use Rattle.layer_laws.proofs.RenamedLayers.{survivors-renamed}
 use Rattle.layer_laws.proofs.laws.survivors.renamed_layers_have_the_same_survivors.Goals as goal
 
 pub returns : goal.returns

@@ -1,5 +1,5 @@
-use Rattle.order_laws.proofs.ExchangedSurvivors.{filtered-reordered, survivors-reordered}
-use Rattle.order_laws.proofs.survivors.orders_keep_the_survivors.Goals as goal
+use Rattle.order_laws.proofs.Orders.{filtered-reordered, survivors-reordered}
+use Rattle.order_laws.proofs.laws.orders_keep_survivors.Goals as goal
 
 pub returns : goal.returns
 returns c =
