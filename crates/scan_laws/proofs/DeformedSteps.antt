@@ -1,7 +1,6 @@
 -- The steps of the two scans with h = 1, checked by computing, and the two last steps of the trefoil's, which eliminate entries of the
 -- least gap.
-use Rattle.std.proofs.Common.{◌≡◌, ◌∙◌, ℕ, ℤ, pos, ◌-ℤ◌, List, [], ◌∷◌, inl, refl, ap₂, IsTrue}
-use Rattle.kh_types.specs.Acceptance.{accepted, first_fault}
+use Rattle.std.proofs.Common.{◌≡◌, ◌∙◌, ℕ, ℤ, pos, ◌-ℤ◌, List, [], ◌∷◌, inl, refl, ap₂}
 use Rattle.kh_types.specs.Code.{Code}
 use Rattle.kh_types.specs.Directions.{minus_count, plus_count}
 use Rattle.kh_types.specs.Residues.{HasInverses}

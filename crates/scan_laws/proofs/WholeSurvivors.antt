@@ -36,7 +36,7 @@ use Rattle.scan_laws.proofs.Base.{alike-deformed}
 use Rattle.scan_laws.proofs.End.{lasting-counted, survivors-counted}
 use Rattle.scan_laws.proofs.Ending.{even-ends, level-ends}
 use Rattle.scan_laws.proofs.Kept.{coefficients-below}
-use Rattle.scan_laws.proofs.KeptSurvivors.{Stays, dimension-step, stays-step}
+use Rattle.scan_laws.proofs.KeptSteps.{Stays, dimension-step, stays-step}
 use Rattle.scan_laws.proofs.LastMaps.{dimension-last}
 use Rattle.scan_laws.proofs.Leading.{HasEnd, leads-kept, leads-more, leads-none}
 use Rattle.scan_laws.proofs.ScansOf.{scan-first}

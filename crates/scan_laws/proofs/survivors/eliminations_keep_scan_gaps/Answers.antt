@@ -1,4 +1,4 @@
-use Rattle.scan_laws.proofs.KeptSurvivors.{gap-kept}
+use Rattle.scan_laws.proofs.KeptSteps.{gap-kept}
 use Rattle.scan_laws.proofs.survivors.eliminations_keep_scan_gaps.Goals as goal
 
 pub returns : goal.returns

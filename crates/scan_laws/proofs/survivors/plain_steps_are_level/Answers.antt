@@ -1,5 +1,5 @@
 use Rattle.scan_laws.specs.LevelSteps.{IsLevelStep}
-use Rattle.scan_laws.proofs.KeptSurvivors.{even-step}
+use Rattle.scan_laws.proofs.KeptSteps.{even-step}
 use Rattle.scan_laws.proofs.survivors.plain_steps_are_level.Goals as goal
 
 pub returns : goal.returns

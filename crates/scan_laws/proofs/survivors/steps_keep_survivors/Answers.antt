@@ -1,4 +1,4 @@
-use Rattle.scan_laws.proofs.KeptSurvivors.{dimension-step, stays-step}
+use Rattle.scan_laws.proofs.KeptSteps.{dimension-step, stays-step}
 use Rattle.scan_laws.proofs.survivors.steps_keep_survivors.Goals as goal
 
 pub returns : goal.returns
