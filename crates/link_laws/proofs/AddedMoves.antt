@@ -1,6 +1,6 @@
 -- Every move keeps the link: where a kink or a finger is added, it is dropped again, and what is left has the old arcs.
 use Rattle.std.proofs.lemmas.Bool.Decides.{nat_tests}
-use Rattle.std.proofs.Common.{◌≡◌, ◌≢◌, ℕ, ◌+◌, ◌-◌, ◌<◌, ◌≤◌, ◌∙◌, [], ◌∷◌, length, refl, ap, ap₂, subst, arith, Bool, true, not, IsTrue}
+use Rattle.std.proofs.Common.{◌≡◌, ◌≢◌, ℕ, ◌+◌, ◌-◌, ◌<◌, ◌∙◌, length, refl, ap, ap₂, subst, arith, Bool, true, not, IsTrue}
 use Rattle.std.specs.Prelude.{nat_eq, Option, None, Ok, Result}
 use Rattle.std.specs.Option.{option_or}
 use Rattle.kh_types.specs.Acceptance.{accepted}

@@ -11,6 +11,7 @@ ghost use Rattle.diagram_moves.specs.Moved.{moved};
 ghost use Rattle.diagram_moves.specs.declared.change.Move.{Move};
 ghost use Rattle.link_algebra.specs.Unions.{union_of};
 ghost use Rattle.union_laws.specs.Pieces.{IsCut, first_piece, other_pieces, part_of};
+ghost use Rattle.link_laws.specs.CodeSurvivors.{code_survivors};
 ghost use Rattle.link_laws.specs.Links.{AreOneLink};
 
 /// That two codes are diagrams of one link is an equivalence of accepted codes.
@@ -27,6 +28,13 @@ pub fn one_link_is_an_equivalence()
 pub fn moves_keep_the_link()
     ensures { (code new : Code) (change : Move) → IsTrue (accepted code)
         → moved code change ≡ Ok new → AreOneLink code new }
+{}
+
+/// All diagrams of one link have the same survivors, at each homological degree and from each
+/// quantum degree on, whatever h is.
+pub fn links_have_the_same_survivors()
+    ensures { (p h : ℕ) (first last : Code) → HasInverses p → AreOneLink first last
+        → (i t : ℤ) → code_survivors p h last i t ≡ code_survivors p h first i t }
 {}
 
 /// All diagrams of a link have one homology over each field of p elements, so over the four fields

@@ -22,7 +22,7 @@ use Rattle.view_laws.proofs.Renumbered.{old-plain}
 use Rattle.cell_laws.specs.Filtered.{survivors}
 use Rattle.cell_laws.specs.DeformedCubes.{deformed_cube_of}
 use Rattle.link_laws.specs.CodeSurvivors.{code_survivors}
-use Rattle.link_laws.proofs.PlainSurvivors.{survivors-plain}
+use Rattle.link_laws.proofs.SeenAlike.{survivors-plain}
 use Rattle.std.proofs.lemmas.Nat.{pow_pos}
 use Rattle.kh_types.proofs.Lists.{within-range}
 
