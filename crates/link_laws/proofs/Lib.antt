@@ -16,5 +16,8 @@ pub mod Paths
 pub mod Restored
 pub mod AddedMoves
 pub mod Tables
+pub mod Passing
+pub mod LastDegrees
+pub mod LastPages
 pub mod WorkedPaths
 pub mod PieceLinks
