@@ -1,7 +1,7 @@
 -- One change of a diagram that leaves its link keeps the survivors, and the state sum.
 use Rattle.std.proofs.Common.{◌≡◌, ℕ, ◌-◌, ◌∙◌, ℤ, length, subst, ap, ap₂, arith, IsTrue}
-use Rattle.std.specs.Prelude.{IfOk, Ok, Result}
 use Rattle.std.specs.List.{count_by, range_with_len}
+use Rattle.std.specs.Prelude.{IfOk, Ok, Result}
 use Rattle.kh_types.specs.Acceptance.{accepted}
 use Rattle.kh_types.specs.Code.{Code, place_of}
 use Rattle.kh_types.specs.Directions.{is_positive, minus_count, plus_count}
@@ -23,11 +23,11 @@ use Rattle.link_laws.specs.CodeSurvivors.{code_survivors}
 use Rattle.link_laws.specs.Links.{HasOtherNumbers, HasOtherOrder, IsLinkChange, all_reversed, arcs_renumbered, bigon_dropped, crossings_reordered, kink_dropped, strand_slid}
 use Rattle.link_laws.proofs.DroppedBigons.{survivors-dropped_bigon}
 use Rattle.link_laws.proofs.DroppedKinks.{survivors-dropped_kink}
-use Rattle.link_laws.proofs.SlidMoves.{survivors-slid}
+use Rattle.link_laws.proofs.ExchangedSums.{sum-reordered}
 use Rattle.link_laws.proofs.OtherNumbers.{survivors-renumbered_code, survivors-same_signs}
 use Rattle.link_laws.proofs.Reversed.{survivors-reversed}
-use Rattle.link_laws.proofs.ExchangedSums.{sum-reordered}
 use Rattle.link_laws.proofs.SignedCrossings.{order-minus, order-plus, order-slots}
+use Rattle.link_laws.proofs.SlidMoves.{survivors-slid}
 
 pub numbers-plus : (old new : Code) → HasOtherNumbers old new → plus_count new.crossings ≡ plus_count old.crossings
 numbers-plus old new other =

@@ -1,7 +1,7 @@
 -- The deformed layers of a view are cut, where one circle closes at one inner state and what is seen is known by kinds.
 use Rattle.std.proofs.Common.{◌≡◌, ◌≢◌, ℕ, ◌⊎◌, inl, inr, ◌+◌, ◌*◌, ◌%◌, ◌^◌, ◌<◌, ◌∙◌, ℤ, pos, ◌+ℤ◌, ◌-ℤ◌, List, [], ◌∷◌, length, map, refl, sym, subst, ap, ap₂, arith, Bool, true, false}
-use Rattle.std.specs.Prelude.{nat_eq, if◌then◌else◌}
 use Rattle.std.specs.List.{range_with_len}
+use Rattle.std.specs.Prelude.{nat_eq, if◌then◌else◌}
 use Rattle.std.proofs.Math.Nat.{mod-eq_of_lt, mod-mod}
 use Rattle.std.proofs.lemmas.Bool.{cases_Bool, cases_eq, eq-eqb, ne_eqb, or_left, or_right}
 use Rattle.std.proofs.lemmas.Int.{ints}
@@ -9,26 +9,26 @@ use Rattle.std.proofs.lemmas.Nat.{pow_pos}
 use Rattle.kh_types.specs.Bits.{ones}
 use Rattle.kh_types.specs.Code.{Code}
 use Rattle.kh_types.proofs.Residues.{same-equal}
+use Rattle.square_laws.specs.Deformed.{opposite}
 use Rattle.square_laws.proofs.Signs.{ones-set_below}
+use Rattle.cell_laws.specs.Filtered.{AreFiltered}
 use Rattle.cell_laws.specs.Layers.{Layers, cells_of, layer_of}
 use Rattle.cell_laws.specs.Signs.{sign_of_power}
 use Rattle.cell_laws.proofs.NoDoubles.{flat_map-range}
-use Rattle.cell_laws.specs.Filtered.{AreFiltered}
-use Rattle.layer_laws.specs.Cuts.{IsCut, IsNothing, IsTimes, cut_objects, is_step, same_label, step_sign}
-use Rattle.square_laws.specs.Deformed.{opposite}
-use Rattle.view_laws.specs.Partitions.{AgreeOn, seen_count}
-use Rattle.view_laws.specs.Views.{HasCircles, IsInnerStep, SeeAlike, View, joint_state, together}
-use Rattle.view_laws.specs.ViewLayers.{closed_of, degree_of_labels, inside_of, object_of, objects_at, outer_count, relation_of, seen_at, view_objects}
-use Rattle.view_laws.proofs.Cells.{object-closed, object-inside}
-use Rattle.view_laws.proofs.Seen.{seen-alike}
-use Rattle.link_laws.specs.SeenBy.{IsSeenBy}
-use Rattle.link_laws.proofs.Steps.{IsStepFound, no-step, none-of, one-of, step-found, times-from}
-use Rattle.layer_laws.specs.FilteredCuts.{IsFilteredCut, unfiltered_layers}
-use Rattle.layer_laws.proofs.LevelEntries.{complex-unfiltered_layers}
-use Rattle.view_laws.specs.DeformedPartitions.{deformed_saddle_number}
 use Rattle.view_laws.specs.DeformedLayers.{deformed_layers}
+use Rattle.view_laws.specs.DeformedPartitions.{deformed_saddle_number}
+use Rattle.view_laws.specs.Partitions.{AgreeOn, seen_count}
+use Rattle.view_laws.specs.ViewLayers.{closed_of, degree_of_labels, inside_of, object_of, objects_at, outer_count, relation_of, seen_at, view_objects}
+use Rattle.view_laws.specs.Views.{HasCircles, IsInnerStep, SeeAlike, View, joint_state, together}
+use Rattle.view_laws.proofs.Cells.{object-closed, object-inside}
 use Rattle.view_laws.proofs.DeformedAlike.{deformed-alike}
 use Rattle.view_laws.proofs.DeformedInner.{inner-none, inner-saddle, merge-identity, split-identity}
+use Rattle.view_laws.proofs.Seen.{seen-alike}
+use Rattle.layer_laws.specs.Cuts.{IsCut, IsNothing, IsTimes, cut_objects, is_step, same_label, step_sign}
+use Rattle.layer_laws.specs.FilteredCuts.{IsFilteredCut, unfiltered_layers}
+use Rattle.layer_laws.proofs.LevelEntries.{complex-unfiltered_layers}
+use Rattle.link_laws.specs.SeenBy.{IsSeenBy}
+use Rattle.link_laws.proofs.Steps.{IsStepFound, no-step, none-of, one-of, step-found, times-from}
 
 -- what the layers are by kinds
 abbrev pub count_by : (ℕ → ℕ → ℕ → ℕ → Bool) → List ℕ → ℕ → ℕ → ℕ

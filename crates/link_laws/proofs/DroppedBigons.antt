@@ -1,7 +1,7 @@
 -- Two crossings of a bigon that are dropped keep the survivors.
 use Rattle.std.proofs.Common.{◌≡◌, ◌≢◌, ℕ, ◌⊎◌, inl, inr, ◌+◌, ◌-◌, ◌*◌, ◌^◌, ◌<◌, ◌∙◌, ℤ, pos, ◌+ℤ◌, ◌-ℤ◌, List, length, refl, sym, subst, ap, arith, Bool, true, false, ◌||◌, IsTrue}
-use Rattle.std.specs.Prelude.{nat_eq, if◌then◌else◌}
 use Rattle.std.specs.List.{Contains, list_all, range_with_len}
+use Rattle.std.specs.Prelude.{nat_eq, if◌then◌else◌}
 use Rattle.std.proofs.lemmas.Bool.{cases_eq, eq-eqb, ne_eqb}
 use Rattle.std.proofs.lemmas.Int.{ints}
 use Rattle.kh_types.specs.Acceptance.{accepted}
@@ -9,33 +9,33 @@ use Rattle.kh_types.specs.Bits.{ones}
 use Rattle.kh_types.specs.Code.{Code}
 use Rattle.kh_types.specs.Directions.{minus_count, plus_count}
 use Rattle.kh_types.specs.Residues.{HasInverses}
-use Rattle.cell_laws.specs.Layers.{Layers, cells_of}
 use Rattle.kink_and_finger_laws.specs.Drops.{is_of_two}
+use Rattle.cell_laws.specs.Filtered.{AreFiltered, survivors}
+use Rattle.cell_laws.specs.Layers.{Layers, cells_of}
+use Rattle.cell_laws.proofs.FilteredCubes.{AreFiltered-cube}
+use Rattle.order_laws.proofs.ExchangedSurvivors.{survivors-reordered}
+use Rattle.order_laws.proofs.Reordered.{reordered-length}
+use Rattle.view_laws.specs.DeformedLayers.{deformed_layers}
+use Rattle.view_laws.specs.Fronts.{first_to}
+use Rattle.view_laws.specs.Partitions.{AgreeOn}
+use Rattle.view_laws.specs.ViewLayers.{degree_of_labels, outer_count}
+use Rattle.view_laws.specs.Views.{HasCircles, SeeAlike, View, joint_state, together}
+use Rattle.view_laws.proofs.CircleNames.{HasCircles-accepted}
+use Rattle.view_laws.proofs.ClosedOne.{closes-elsewhere, closes-there}
+use Rattle.view_laws.proofs.DeformedInner.{filtered-cut, survivors-cut}
+use Rattle.layer_laws.specs.Cuts.{is_step}
+use Rattle.layer_laws.specs.FilteredCuts.{IsFilteredCut}
 use Rattle.layer_laws.specs.Slid.{kind_of_bigon}
 use Rattle.layer_laws.proofs.Bigons.{has_kind, near-bigon}
-use Rattle.view_laws.specs.Partitions.{AgreeOn}
-use Rattle.view_laws.specs.Views.{HasCircles, SeeAlike, View, joint_state, together}
-use Rattle.view_laws.specs.ViewLayers.{degree_of_labels, outer_count}
-use Rattle.view_laws.proofs.CircleNames.{HasCircles-accepted}
-use Rattle.link_laws.specs.SeenBy.{IsSeenBy}
+use Rattle.layer_laws.proofs.FilteredBigons.{bigon-keeps_first, bigon-keeps_second}
 use Rattle.drop_view_laws.specs.DropSigns.{AreBigonSigns}
 use Rattle.drop_view_laws.specs.DroppedCubes.{IsBigonCut, bigon_closing, bigon_first, bigon_left, bigon_through, bigon_view}
-use Rattle.view_laws.specs.Fronts.{first_to}
-use Rattle.drop_view_laws.specs.NamesLeft.{number_left}
-use Rattle.view_laws.proofs.ClosedOne.{closes-elsewhere, closes-there}
-use Rattle.order_laws.proofs.Reordered.{reordered-length}
-use Rattle.cell_laws.specs.Filtered.{AreFiltered, survivors}
-use Rattle.layer_laws.specs.FilteredCuts.{IsFilteredCut}
-use Rattle.order_laws.proofs.ExchangedSurvivors.{survivors-reordered}
-use Rattle.view_laws.specs.DeformedLayers.{deformed_layers}
-use Rattle.view_laws.proofs.DeformedInner.{filtered-cut, survivors-cut}
-use Rattle.link_laws.specs.CodeSurvivors.{code_survivors}
-use Rattle.cell_laws.proofs.FilteredCubes.{AreFiltered-cube}
-use Rattle.link_laws.proofs.OneObject.{like-one}
-use Rattle.link_laws.proofs.CutViews.{count_by, cut-view, saddle_by}
 use Rattle.drop_view_laws.specs.DroppedFirst.{two_first}
-use Rattle.layer_laws.specs.Cuts.{is_step}
-use Rattle.layer_laws.proofs.FilteredBigons.{bigon-keeps_first, bigon-keeps_second}
+use Rattle.drop_view_laws.specs.NamesLeft.{number_left}
+use Rattle.link_laws.specs.CodeSurvivors.{code_survivors}
+use Rattle.link_laws.specs.SeenBy.{IsSeenBy}
+use Rattle.link_laws.proofs.CutViews.{count_by, cut-view, saddle_by}
+use Rattle.link_laws.proofs.OneObject.{like-one}
 
 module _ (p h : ℕ) (code new : Code) (c d slot other_slot : ℕ) (field : HasInverses p) (holds : IsTrue (accepted code))
     (cut : IsBigonCut code new c d slot other_slot) (signs : AreBigonSigns code new) where

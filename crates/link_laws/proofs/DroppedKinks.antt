@@ -8,28 +8,28 @@ use Rattle.kh_types.specs.Bits.{ones}
 use Rattle.kh_types.specs.Code.{Code}
 use Rattle.kh_types.specs.Directions.{minus_count, plus_count}
 use Rattle.kh_types.specs.Residues.{HasInverses}
-use Rattle.cell_laws.specs.Layers.{Layers, cells_of}
 use Rattle.kink_and_finger_laws.specs.DropCircles.{closing_at, through_at}
-use Rattle.view_laws.specs.Views.{HasCircles, View, joint_state, together}
+use Rattle.cell_laws.specs.Filtered.{AreFiltered, survivors}
+use Rattle.cell_laws.specs.Layers.{Layers, cells_of}
+use Rattle.cell_laws.proofs.FilteredCubes.{AreFiltered-cube}
+use Rattle.order_laws.proofs.ExchangedSurvivors.{survivors-reordered}
+use Rattle.order_laws.proofs.Reordered.{reordered-length}
+use Rattle.view_laws.specs.DeformedLayers.{deformed_layers}
+use Rattle.view_laws.specs.Fronts.{first_to}
 use Rattle.view_laws.specs.ViewLayers.{degree_of_labels, outer_count}
+use Rattle.view_laws.specs.Views.{HasCircles, View, joint_state, together}
 use Rattle.view_laws.proofs.CircleNames.{HasCircles-accepted}
-use Rattle.link_laws.specs.SeenBy.{IsSeenBy}
+use Rattle.view_laws.proofs.ClosedOne.{closes-there, closes-elsewhere}
+use Rattle.view_laws.proofs.DeformedInner.{filtered-cut, survivors-cut}
+use Rattle.layer_laws.specs.FilteredCuts.{IsFilteredCut}
+use Rattle.layer_laws.proofs.FilteredKinks.{kink-keeps_first, kink-keeps_second}
 use Rattle.drop_view_laws.specs.DropSigns.{AreKinkSigns}
 use Rattle.drop_view_laws.specs.DroppedCubes.{IsKinkCut, kink_first, kink_left, kink_view}
 use Rattle.drop_view_laws.specs.NamesLeft.{number_left}
-use Rattle.order_laws.proofs.Reordered.{reordered-length}
-use Rattle.view_laws.proofs.ClosedOne.{closes-there, closes-elsewhere}
-use Rattle.cell_laws.specs.Filtered.{AreFiltered, survivors}
-use Rattle.layer_laws.specs.FilteredCuts.{IsFilteredCut}
-use Rattle.order_laws.proofs.ExchangedSurvivors.{survivors-reordered}
-use Rattle.view_laws.specs.DeformedLayers.{deformed_layers}
-use Rattle.view_laws.proofs.DeformedInner.{filtered-cut, survivors-cut}
 use Rattle.link_laws.specs.CodeSurvivors.{code_survivors}
-use Rattle.cell_laws.proofs.FilteredCubes.{AreFiltered-cube}
-use Rattle.link_laws.proofs.OneObject.{like-one}
+use Rattle.link_laws.specs.SeenBy.{IsSeenBy}
 use Rattle.link_laws.proofs.CutViews.{count_by, cut-view, saddle_by}
-use Rattle.view_laws.specs.Fronts.{first_to}
-use Rattle.layer_laws.proofs.FilteredKinks.{kink-keeps_first, kink-keeps_second}
+use Rattle.link_laws.proofs.OneObject.{like-one}
 
 -- one circle closes at one inner state
 -- which smoothing closes

@@ -1,9 +1,9 @@
 -- Codes with the same survivors have the same last page: the quantum degrees up to which something lasts are the same ones, whichever
 -- code's greatest degree they are listed to; and so they have one s.
 use Rattle.std.proofs.Common.{◌≡◌, ℕ, ◌+◌, ◌-◌, ◌∙◌, ℤ, pos, ◌+ℤ◌, List, [], ◌∷◌, length, map, get_or, refl, sym, ap, ap₂, arith, Bool, false, IsTrue}
-use Rattle.std.specs.Prelude.{nat_lt}
 use Rattle.std.specs.Int.{int_div_euclid}
 use Rattle.std.specs.List.{filter}
+use Rattle.std.specs.Prelude.{nat_lt}
 use Rattle.std.proofs.Math.Path.{fun_ext}
 use Rattle.std.proofs.lemmas.Bool.{le-ltb}
 use Rattle.kh_types.specs.Acceptance.{accepted}
@@ -13,8 +13,8 @@ use Rattle.kh_types.specs.Table.{IsWithin, from_minus}
 use Rattle.link_laws.specs.CodeSurvivors.{code_survivors}
 use Rattle.link_laws.specs.LastPages.{greatest_degree, lasting_degrees, lasting_of, s, s_max, s_min}
 use Rattle.link_laws.specs.Links.{AreOneLink}
-use Rattle.link_laws.proofs.Paths.{link-accepted, survivors-link}
 use Rattle.link_laws.proofs.LastDegrees.{lasting-outside}
+use Rattle.link_laws.proofs.Paths.{link-accepted, survivors-link}
 use Rattle.link_laws.proofs.Tables.{shown-wider}
 
 -- of the integers from -n to n the same ones pass a test with a greater n, where none beyond passes

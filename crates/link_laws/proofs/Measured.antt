@@ -3,15 +3,15 @@ use Rattle.std.proofs.Common.{◌≡◌, ℕ, ◌+◌, ◌*◌, ◌%◌, ◌^◌
 use Rattle.kh_types.specs.Bits.{ones}
 use Rattle.kh_types.specs.Code.{Code}
 use Rattle.kh_types.proofs.Residues.{same-equal}
-use Rattle.cell_laws.specs.Layers.{Layers, cells_of}
-use Rattle.layer_laws.specs.Slid.{IsMeasured}
-use Rattle.view_laws.specs.Partitions.{seen_count}
-use Rattle.view_laws.specs.Views.{HasCircles, View}
-use Rattle.view_laws.specs.ViewLayers.{degree_of_labels, inside_of, outer_count, relation_of, seen_at}
-use Rattle.link_laws.specs.SeenBy.{IsSeenBy}
 use Rattle.cell_laws.specs.Filtered.{AreFiltered}
+use Rattle.cell_laws.specs.Layers.{Layers, cells_of}
 use Rattle.view_laws.specs.DeformedLayers.{deformed_layers, deformed_outer}
+use Rattle.view_laws.specs.Partitions.{seen_count}
+use Rattle.view_laws.specs.ViewLayers.{degree_of_labels, inside_of, outer_count, relation_of, seen_at}
+use Rattle.view_laws.specs.Views.{HasCircles, View}
 use Rattle.view_laws.proofs.DeformedAlike.{outer-alike}
+use Rattle.layer_laws.specs.Slid.{IsMeasured}
+use Rattle.link_laws.specs.SeenBy.{IsSeenBy}
 use Rattle.link_laws.proofs.CutViews.{closed-open, count-inside, inside-open, seen-inside}
 
 -- a homological degree, by the number of outer crossings, the ones inside and the outer state

@@ -1,7 +1,7 @@
 -- One object of a view's deformed layers is like the layers of a plain view of another code, where both see the same.
 use Rattle.std.proofs.Common.{◌≡◌, ◌≢◌, ℕ, ◌⊎◌, inl, inr, ◌+◌, ◌-◌, ◌*◌, ◌%◌, ◌^◌, ◌<◌, ◌∙◌, ℤ, pos, ◌+ℤ◌, ◌-ℤ◌, List, length, refl, sym, subst, ap, ap₂, arith, Bool, true, false, ◌&&◌}
-use Rattle.std.specs.Prelude.{nat_eq, if◌then◌else◌}
 use Rattle.std.specs.List.{range_with_len, sum_by}
+use Rattle.std.specs.Prelude.{nat_eq, if◌then◌else◌}
 use Rattle.std.proofs.Math.Nat.{mod-mod}
 use Rattle.std.proofs.lemmas.Bool.{cases_eq}
 use Rattle.std.proofs.lemmas.Int.{ints}
@@ -10,25 +10,25 @@ use Rattle.kh_types.specs.Code.{Code}
 use Rattle.kh_types.specs.Residues.{Same}
 use Rattle.kh_types.proofs.ListSums.{sum_by-times}
 use Rattle.kh_types.proofs.Residues.{same-equal, same-mul, same-scaled}
+use Rattle.square_laws.specs.Deformed.{opposite}
 use Rattle.square_laws.proofs.Signs.{ones-set_below}
+use Rattle.cell_laws.specs.Filtered.{AreFiltered}
 use Rattle.cell_laws.specs.Layers.{Layers, cells_of}
 use Rattle.cell_laws.specs.Signs.{sign_of_power}
 use Rattle.cell_laws.proofs.Members.{sum_by-same}
-use Rattle.cell_laws.specs.Filtered.{AreFiltered}
-use Rattle.layer_laws.specs.Cuts.{IsLikeOne}
-use Rattle.layer_laws.proofs.Signs.{sign-sum}
-use Rattle.square_laws.specs.Deformed.{opposite}
-use Rattle.view_laws.specs.Views.{HasCircles, IsView, SeeAlike, View, joint_state, plain_view}
-use Rattle.view_laws.specs.ViewLayers.{closed_of, degree_of_labels, inside_of, object_of, outer_count, relation_of, seen_at}
-use Rattle.view_laws.proofs.Cells.{object-closed, object-inside}
-use Rattle.view_laws.proofs.Seen.{seen-alike}
-use Rattle.layer_laws.specs.FilteredCuts.{IsFilteredLike, unfiltered_layers}
-use Rattle.layer_laws.proofs.LevelEntries.{complex-unfiltered_layers}
-use Rattle.view_laws.specs.DeformedPartitions.{deformed_saddle_number}
 use Rattle.view_laws.specs.DeformedLayers.{deformed_layers, deformed_outer, deformed_outer_along}
+use Rattle.view_laws.specs.DeformedPartitions.{deformed_saddle_number}
+use Rattle.view_laws.specs.ViewLayers.{closed_of, degree_of_labels, inside_of, object_of, outer_count, relation_of, seen_at}
+use Rattle.view_laws.specs.Views.{HasCircles, IsView, SeeAlike, View, joint_state, plain_view}
+use Rattle.view_laws.proofs.Cells.{object-closed, object-inside}
 use Rattle.view_laws.proofs.DeformedAlike.{outer-alike}
 use Rattle.view_laws.proofs.DeformedInner.{inner-none}
 use Rattle.view_laws.proofs.DeformedSteps.{outer-some}
+use Rattle.view_laws.proofs.Seen.{seen-alike}
+use Rattle.layer_laws.specs.Cuts.{IsLikeOne}
+use Rattle.layer_laws.specs.FilteredCuts.{IsFilteredLike, unfiltered_layers}
+use Rattle.layer_laws.proofs.LevelEntries.{complex-unfiltered_layers}
+use Rattle.layer_laws.proofs.Signs.{sign-sum}
 
 -- ones inside turn the sign of all numbers along outer steps
 outer-turned : (p h count r : ℕ) (relation : ℕ → ℕ → ℕ → Bool) (names : List ℕ) (s t label other : ℕ) → 0 < p

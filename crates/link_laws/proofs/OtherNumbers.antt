@@ -6,8 +6,8 @@ use Rattle.kh_types.specs.Directions.{minus_count, plus_count}
 use Rattle.kh_types.specs.Residues.{HasInverses}
 use Rattle.kh_types.proofs.AcceptedLemmas.{HasArcsTwice-accepted}
 use Rattle.gluing_laws.specs.Codes.{IsRenumbered}
-use Rattle.cell_laws.specs.Filtered.{survivors}
 use Rattle.cell_laws.specs.DeformedCubes.{deformed_cube_of}
+use Rattle.cell_laws.specs.Filtered.{survivors}
 use Rattle.order_laws.specs.Orders.{IsReordered}
 use Rattle.order_laws.proofs.ExchangedSurvivors.{survivors-reordered}
 use Rattle.view_laws.proofs.CircleNames.{HasCircles-accepted}

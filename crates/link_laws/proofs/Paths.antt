@@ -5,8 +5,8 @@ use Rattle.kh_types.specs.Code.{Code}
 use Rattle.kh_types.specs.Residues.{HasInverses}
 use Rattle.kh_types.specs.StateSum.{state_sum}
 use Rattle.kh_types.specs.Table.{dimension}
-use Rattle.link_laws.specs.Links.{AreNeighbours, AreOneLink, IsLinkChange, LeadsTo}
 use Rattle.link_laws.specs.CodeSurvivors.{code_survivors}
+use Rattle.link_laws.specs.Links.{AreNeighbours, AreOneLink, IsLinkChange, LeadsTo}
 use Rattle.link_laws.proofs.AtZero.{survivors-zero}
 use Rattle.link_laws.proofs.Changes.{sum-change, survivors-change}
 

@@ -1,33 +1,33 @@
 -- A slide keeps the survivors: both codes with the three crossings first, seen through all arcs and loops but the sides, are cut.
 use Rattle.std.proofs.Common.{◌≡◌, ℕ, ◌+◌, ◌-◌, ◌*◌, ◌^◌, ◌<◌, ◌∙◌, ℤ, List, length, refl, sym, subst, ap, ap₂, arith, Bool, true, ◌||◌, IsTrue}
-use Rattle.std.specs.Prelude.{nat_eq, if◌then◌else◌}
 use Rattle.std.specs.List.{Contains}
+use Rattle.std.specs.Prelude.{nat_eq, if◌then◌else◌}
 use Rattle.std.proofs.lemmas.Bool.{eq-eqb, ne_eqb, or_right}
 use Rattle.kh_types.specs.Acceptance.{accepted}
 use Rattle.kh_types.specs.Code.{Code}
 use Rattle.kh_types.specs.Directions.{minus_count, plus_count}
 use Rattle.kh_types.specs.Residues.{HasInverses}
-use Rattle.cell_laws.specs.Layers.{Layers, cells_of}
-use Rattle.layer_laws.specs.Cuts.{is_step}
-use Rattle.layer_laws.specs.Slid.{IsMeasured, is_near, kind_after, kind_before}
-use Rattle.layer_laws.proofs.SlideTables.{near-after, near-before}
-use Rattle.view_laws.specs.Partitions.{AgreeOn}
-use Rattle.view_laws.specs.Views.{HasCircles, IsView, View, together}
-use Rattle.view_laws.specs.ViewLayers.{outer_count}
-use Rattle.view_laws.proofs.CircleNames.{HasCircles-accepted}
-use Rattle.link_laws.specs.SeenBy.{IsSeenBy}
-use Rattle.slide_view_laws.specs.SeenSlides.{HasSeenSlide, IsInOrder, IsSeenSlide}
-use Rattle.cell_laws.specs.Filtered.{AreFiltered, survivors}
 use Rattle.cell_laws.specs.DeformedCubes.{deformed_cube_of}
-use Rattle.view_laws.specs.DeformedLayers.{deformed_layers}
-use Rattle.order_laws.proofs.ExchangedSurvivors.{survivors-reordered}
-use Rattle.view_laws.proofs.DeformedInner.{filtered-cut, survivors-cut}
-use Rattle.layer_laws.specs.FilteredCuts.{IsFilteredCut}
-use Rattle.layer_laws.proofs.FilteredSlides.{survivors-slide}
-use Rattle.link_laws.specs.CodeSurvivors.{code_survivors}
+use Rattle.cell_laws.specs.Filtered.{AreFiltered, survivors}
+use Rattle.cell_laws.specs.Layers.{Layers, cells_of}
 use Rattle.cell_laws.proofs.FilteredCubes.{AreFiltered-cube}
-use Rattle.link_laws.proofs.Measured.{between_by, height_by, measured-view, weight_by}
+use Rattle.order_laws.proofs.ExchangedSurvivors.{survivors-reordered}
+use Rattle.view_laws.specs.DeformedLayers.{deformed_layers}
+use Rattle.view_laws.specs.Partitions.{AgreeOn}
+use Rattle.view_laws.specs.ViewLayers.{outer_count}
+use Rattle.view_laws.specs.Views.{HasCircles, IsView, View, together}
+use Rattle.view_laws.proofs.CircleNames.{HasCircles-accepted}
+use Rattle.view_laws.proofs.DeformedInner.{filtered-cut, survivors-cut}
+use Rattle.layer_laws.specs.Cuts.{is_step}
+use Rattle.layer_laws.specs.FilteredCuts.{IsFilteredCut}
+use Rattle.layer_laws.specs.Slid.{IsMeasured, is_near, kind_after, kind_before}
+use Rattle.layer_laws.proofs.FilteredSlides.{survivors-slide}
+use Rattle.layer_laws.proofs.SlideTables.{near-after, near-before}
+use Rattle.slide_view_laws.specs.SeenSlides.{HasSeenSlide, IsInOrder, IsSeenSlide}
+use Rattle.link_laws.specs.CodeSurvivors.{code_survivors}
+use Rattle.link_laws.specs.SeenBy.{IsSeenBy}
 use Rattle.link_laws.proofs.CutViews.{count_by, cut-view, saddle_by}
+use Rattle.link_laws.proofs.Measured.{between_by, height_by, measured-view, weight_by}
 
 -- a view of three inner crossings, of which one state closes a circle, is seen by kinds
 pub by-kinds : (code : Code) (view : View) (closing : ℕ) (kind : ℕ → ℕ) (relation : ℕ → ℕ → ℕ → ℕ → Bool) → IsView code view

@@ -8,10 +8,10 @@ use Rattle.kh_types.proofs.RangeCounts.{list_any-at}
 use Rattle.kh_types.proofs.Ranges.{list_any-found}
 use Rattle.kh_types.proofs.Residues.{same-equal}
 use Rattle.cell_laws.specs.Layers.{IsTimesIdentity, Layers}
-use Rattle.layer_laws.specs.Cuts.{IsTimes, is_change, is_step, ones_before, same_label}
-use Rattle.layer_laws.proofs.Reorderings.{at_odds}
 use Rattle.view_laws.specs.Views.{IsInnerStep, View}
 use Rattle.view_laws.proofs.Steps.{IsOuterStep, one-place}
+use Rattle.layer_laws.specs.Cuts.{IsTimes, is_change, is_step, ones_before, same_label}
+use Rattle.layer_laws.proofs.Reorderings.{at_odds}
 
 pub step-of-change : (t u i : ℕ) → is_change t u i ≡ true → IsOuterStep t u i
 step-of-change t u i is =
