@@ -1,8 +1,8 @@
 -- Every move keeps the link: where a kink or a finger is added, it is dropped again, and what is left has the old arcs.
-use Rattle.std.proofs.lemmas.Bool.Decides.{nat_tests}
-use Rattle.std.proofs.Common.{◌≡◌, ◌≢◌, ℕ, ◌+◌, ◌-◌, ◌<◌, ◌≤◌, ◌∙◌, [], ◌∷◌, length, refl, ap, ap₂, subst, arith, Bool, true, not, IsTrue}
-use Rattle.std.specs.Prelude.{nat_eq, Option, None, Ok, Result}
+use Rattle.std.proofs.Common.{◌≡◌, ◌≢◌, ℕ, ◌+◌, ◌-◌, ◌<◌, ◌∙◌, length, refl, ap, ap₂, subst, arith, Bool, true, not, IsTrue}
 use Rattle.std.specs.Option.{option_or}
+use Rattle.std.specs.Prelude.{nat_eq, Option, None, Ok, Result}
+use Rattle.std.proofs.lemmas.Bool.Decides.{nat_tests}
 use Rattle.kh_types.specs.Acceptance.{accepted}
 use Rattle.kh_types.specs.Code.{Code, IsArc, place_of}
 use Rattle.kh_types.specs.Directions.{is_positive}
@@ -24,14 +24,14 @@ use Rattle.kink_and_finger_laws.proofs.KinkedCodes.{IsAdded-kink, IsKinkable-acc
 use Rattle.kink_and_finger_laws.proofs.MovableArcs.{AreFingerable}
 use Rattle.kink_and_finger_laws.proofs.Opened.{low, lowered}
 use Rattle.kink_and_finger_laws.proofs.Sound.{IsSound-finger, IsSound-kink}
+use Rattle.diagram_moves.specs.Kept.{IsKeptCode}
+use Rattle.diagram_moves.specs.MoveFaults.{finger_add_fault, finger_drop_fault, finger_place_fault, kink_add_fault, kink_drop_fault, wrong_genus}
+use Rattle.diagram_moves.specs.Moved.{answered, is_left, moved}
 use Rattle.diagram_moves.specs.declared.change.Move.{Move}
-use Rattle.diagram_moves.specs.declared.change.Side.{Side}
 use Rattle.diagram_moves.specs.declared.change.Move.TheVariants.{FingerAdd, FingerDrop, KinkAdd, KinkDrop, Slide}
+use Rattle.diagram_moves.specs.declared.change.Side.{Side}
 use Rattle.diagram_moves.specs.declared.fault.MoveFault.{MoveFault}
 use Rattle.diagram_moves.specs.declared.fault.MoveFault.TheVariants.{NoBigon, NoCrossing}
-use Rattle.diagram_moves.specs.Kept.{IsKeptCode}
-use Rattle.diagram_moves.specs.Moved.{answered, is_left, moved}
-use Rattle.diagram_moves.specs.MoveFaults.{finger_add_fault, finger_drop_fault, finger_place_fault, kink_add_fault, kink_drop_fault, wrong_genus}
 use Rattle.diagram_moves.proofs.AddLemmas.{fingers_are_taken, fingers_on_the_sphere_are_accepted, kinks_are_taken}
 use Rattle.diagram_moves.proofs.BackAgain.{answered-ok}
 use Rattle.diagram_moves.proofs.DropRefusals.{is_bigon-has, is_kink-at}
@@ -39,11 +39,11 @@ use Rattle.diagram_moves.proofs.DroppedCodes.{IsKept-finger, IsKept-kink}
 use Rattle.diagram_moves.proofs.FaultLemmas.{both-none}
 use Rattle.diagram_moves.proofs.KinksBack.{held-none, within-none}
 use Rattle.drop_view_laws.proofs.DroppedMoves.{IsFingerDrop-moved, IsKinkDrop-moved}
+use Rattle.drop_view_laws.proofs.FrontCircles.{early-low}
 use Rattle.slide_view_laws.proofs.Moves.{IsSlidFrom-moved}
-use Rattle.link_laws.proofs.Restored.{restored}
 use Rattle.link_laws.specs.Links.{AreOneLink, arcs_renumbered, bigon_dropped, kink_dropped, strand_slid}
 use Rattle.link_laws.proofs.Paths.{link-back, link-change, link-onward}
-use Rattle.drop_view_laws.proofs.FrontCircles.{early-low}
+use Rattle.link_laws.proofs.Restored.{restored}
 
 late-next : (n : ℕ) → late n (n + 1) (n + 1) ≡ n
 late-next n = grind (arith, nat_tests)

@@ -1,29 +1,33 @@
--- One change of a diagram keeps the dimensions, and the state sum.
-use Rattle.std.proofs.Common.{◌≡◌, ℕ, ◌+◌, ◌-◌, ◌<◌, ◌≤◌, ◌∙◌, ℤ, length, subst, ap, ap₂, arith, IsTrue}
-use Rattle.std.specs.Prelude.{IfOk, Ok, Result}
+-- One change of a diagram that leaves its link keeps the survivors, and the state sum.
+use Rattle.std.proofs.Common.{◌≡◌, ℕ, ◌-◌, ◌∙◌, ℤ, length, subst, ap, ap₂, arith, IsTrue}
 use Rattle.std.specs.List.{count_by, range_with_len}
+use Rattle.std.specs.Prelude.{IfOk, Ok, Result}
 use Rattle.kh_types.specs.Acceptance.{accepted}
-use Rattle.kh_types.specs.Code.{Code}
+use Rattle.kh_types.specs.Code.{Code, place_of}
 use Rattle.kh_types.specs.Directions.{is_positive, minus_count, plus_count}
 use Rattle.kh_types.specs.Residues.{HasInverses}
 use Rattle.kh_types.specs.StateSum.{state_sum, sum_with}
-use Rattle.kh_types.specs.Table.{dimension}
 use Rattle.kh_types.proofs.AcceptedLemmas.{HasArcsTwice-accepted}
 use Rattle.kh_types.proofs.RangeCounts.{count_by-alike}
 use Rattle.gluing_laws.proofs.Renumbered.{sum_with-renumbered}
 use Rattle.slide_laws.proofs.SlidTriangle.{HoldsArcs-twice}
-use Rattle.order_laws.proofs.Orders.{dimension-same_signs}
 use Rattle.diagram_moves.specs.Moved.{moved}
 use Rattle.diagram_moves.specs.declared.change.Move.{Move}
 use Rattle.diagram_moves.specs.declared.change.Move.TheVariants.{FingerDrop, KinkDrop, Slide}
 use Rattle.diagram_moves.specs.declared.fault.MoveFault.{MoveFault}
 use Rattle.diagram_moves.proofs.ApplyLemmas.{moves_keep_the_state_sum}
-use Rattle.link_algebra.proofs.TurnedCodes.{reversal-dimension, reversal-sum}
-use Rattle.view_laws.proofs.Renumbered.{dimension-renumbered_code}
-use Rattle.link_laws.proofs.AllMoves.{dimension-move}
+use Rattle.link_algebra.proofs.TurnedCodes.{reversal-sum}
+use Rattle.drop_view_laws.proofs.DroppedMoves.{IsFingerDrop-moved, IsKinkDrop-moved}
+use Rattle.slide_view_laws.proofs.SeenSlides.{HasSeenSlide-moved}
+use Rattle.link_laws.specs.CodeSurvivors.{code_survivors}
 use Rattle.link_laws.specs.Links.{HasOtherNumbers, HasOtherOrder, IsLinkChange, all_reversed, arcs_renumbered, bigon_dropped, crossings_reordered, kink_dropped, strand_slid}
+use Rattle.link_laws.proofs.DroppedBigons.{survivors-dropped_bigon}
+use Rattle.link_laws.proofs.DroppedKinks.{survivors-dropped_kink}
 use Rattle.link_laws.proofs.ExchangedSums.{sum-reordered}
+use Rattle.link_laws.proofs.OtherNumbers.{survivors-renumbered_code, survivors-same_signs}
+use Rattle.link_laws.proofs.Reversed.{survivors-reversed}
 use Rattle.link_laws.proofs.SignedCrossings.{order-minus, order-plus, order-slots}
+use Rattle.link_laws.proofs.SlidMoves.{survivors-slid}
 
 pub numbers-plus : (old new : Code) → HasOtherNumbers old new → plus_count new.crossings ≡ plus_count old.crossings
 numbers-plus old new other =
@@ -34,22 +38,35 @@ numbers-plus old new other =
 pub numbers-minus : (old new : Code) → HasOtherNumbers old new → minus_count new.crossings ≡ minus_count old.crossings
 numbers-minus old new other = ap₂ (λ (n k : ℕ). n - k) other.renumbered.size (numbers-plus old new other)
 
--- dimensions
-pub dimension-change : (p : ℕ) → HasInverses p → (i j : ℤ) (old new : Code) → IsTrue (accepted old) → IsTrue (accepted new)
-    → IsLinkChange old new → dimension p new i j ≡ dimension p old i j
-dimension-change p field i j old new holds new_holds (kink_dropped crossing is) = dimension-move p old new (KinkDrop crossing) field holds
-    is i j
-dimension-change p field i j old new holds new_holds (bigon_dropped first second is) =
-    dimension-move p old new (FingerDrop first second) field holds is i j
-dimension-change p field i j old new holds new_holds (strand_slid first second third is) =
-    dimension-move p old new (Slide first second third) field holds is i j
-dimension-change p field i j old new holds new_holds (arcs_renumbered other) =
-    dimension-renumbered_code p other.number old new field holds new_holds other.renumbered (numbers-plus old new other)
-    (numbers-minus old new other) i j
-dimension-change p field i j old new holds new_holds (crossings_reordered other) =
-    dimension-same_signs p old new field (order-slots old new other) other.loops (order-plus old new other) (order-minus old new other) i j
-dimension-change p field i j old new holds new_holds (all_reversed is) =
-    ap (λ (code : Code). dimension p code i j) is ∙ reversal-dimension old holds p i j field
+-- survivors
+pub survivors-numbers : (p h : ℕ) (old new : Code) → HasInverses p → IsTrue (accepted old) → IsTrue (accepted new)
+    → HasOtherNumbers old new → (i t : ℤ) → code_survivors p h new i t ≡ code_survivors p h old i t
+survivors-numbers p h old new field holds new_holds other i t =
+    survivors-renumbered_code p h other.number old new field holds new_holds other.renumbered (numbers-plus old new other)
+    (numbers-minus old new other) i t
+
+pub survivors-order : (p h : ℕ) (old new : Code) → HasInverses p → HasOtherOrder old new → (i t : ℤ)
+    → code_survivors p h new i t ≡ code_survivors p h old i t
+survivors-order p h old new field other i t =
+    survivors-same_signs p h old new field (order-slots old new other) other.loops (order-plus old new other) (order-minus old new other)
+    i t
+
+-- one change of a diagram
+pub survivors-change : (p h : ℕ) → HasInverses p → (i t : ℤ) (old new : Code) → IsTrue (accepted old) → IsTrue (accepted new)
+    → IsLinkChange old new → code_survivors p h new i t ≡ code_survivors p h old i t
+survivors-change p h field i t old new holds new_holds (kink_dropped crossing is) =
+    let drop = IsKinkDrop-moved old new crossing holds is in
+    survivors-dropped_kink p h old new (place_of crossing) drop.slot field holds drop.cut drop.signs i t
+survivors-change p h field i t old new holds new_holds (bigon_dropped first second is) =
+    let drop = IsFingerDrop-moved old new first second holds is in
+    survivors-dropped_bigon p h old new (place_of first) (place_of second) drop.slot drop.other_slot field holds drop.cut drop.signs i t
+survivors-change p h field i t old new holds new_holds (strand_slid first second third is) =
+    survivors-slid p h old new field (HasSeenSlide-moved old new first second third holds is) i t
+survivors-change p h field i t old new holds new_holds (arcs_renumbered other) =
+    survivors-numbers p h old new field holds new_holds other i t
+survivors-change p h field i t old new holds new_holds (crossings_reordered other) = survivors-order p h old new field other i t
+survivors-change p h field i t old new holds new_holds (all_reversed is) =
+    ap (λ (code : Code). code_survivors p h code i t) is ∙ survivors-reversed old holds p h field i t
 
 -- state sums
 sum-move : (e : ℤ) (code new : Code) (change : Move) → IsTrue (accepted code) → moved code change ≡ Ok new

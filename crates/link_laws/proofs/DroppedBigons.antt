@@ -1,7 +1,7 @@
--- Two crossings of a bigon that are dropped keep the dimensions.
+-- Two crossings of a bigon that are dropped keep the survivors.
 use Rattle.std.proofs.Common.{◌≡◌, ◌≢◌, ℕ, ◌⊎◌, inl, inr, ◌+◌, ◌-◌, ◌*◌, ◌^◌, ◌<◌, ◌∙◌, ℤ, pos, ◌+ℤ◌, ◌-ℤ◌, List, length, refl, sym, subst, ap, arith, Bool, true, false, ◌||◌, IsTrue}
-use Rattle.std.specs.Prelude.{nat_eq, if◌then◌else◌}
 use Rattle.std.specs.List.{Contains, list_all, range_with_len}
+use Rattle.std.specs.Prelude.{nat_eq, if◌then◌else◌}
 use Rattle.std.proofs.lemmas.Bool.{cases_eq, eq-eqb, ne_eqb}
 use Rattle.std.proofs.lemmas.Int.{ints}
 use Rattle.kh_types.specs.Acceptance.{accepted}
@@ -9,31 +9,35 @@ use Rattle.kh_types.specs.Bits.{ones}
 use Rattle.kh_types.specs.Code.{Code}
 use Rattle.kh_types.specs.Directions.{minus_count, plus_count}
 use Rattle.kh_types.specs.Residues.{HasInverses}
-use Rattle.kh_types.specs.Table.{dimension}
-use Rattle.cell_laws.specs.Cells.{AreComplex, dimension_at}
-use Rattle.cell_laws.specs.Layers.{Layers, cells_of}
-use Rattle.cell_laws.proofs.CubeCells.{AreComplex-cube}
 use Rattle.kink_and_finger_laws.specs.Drops.{is_of_two}
-use Rattle.layer_laws.specs.Cuts.{IsCut, is_step}
-use Rattle.layer_laws.specs.Slid.{kind_of_bigon}
-use Rattle.layer_laws.proofs.Bigons.{bigon-closes_first, bigon-closes_second, has_kind, near-bigon}
+use Rattle.cell_laws.specs.Filtered.{AreFiltered, survivors}
+use Rattle.cell_laws.specs.Layers.{Layers, cells_of}
+use Rattle.cell_laws.proofs.FilteredCubes.{AreFiltered-cube}
+use Rattle.order_laws.proofs.ExchangedSurvivors.{survivors-reordered}
+use Rattle.order_laws.proofs.Reordered.{reordered-length}
+use Rattle.view_laws.specs.DeformedLayers.{deformed_layers}
+use Rattle.view_laws.specs.Fronts.{first_to}
 use Rattle.view_laws.specs.Partitions.{AgreeOn}
+use Rattle.view_laws.specs.ViewLayers.{degree_of_labels, outer_count}
 use Rattle.view_laws.specs.Views.{HasCircles, SeeAlike, View, joint_state, together}
-use Rattle.view_laws.specs.ViewLayers.{degree_of_labels, outer_count, view_layers}
 use Rattle.view_laws.proofs.CircleNames.{HasCircles-accepted}
-use Rattle.view_laws.proofs.InnerEdges.{complex-cut, dimension-cut}
+use Rattle.view_laws.proofs.ClosedOne.{closes-elsewhere, closes-there}
+use Rattle.view_laws.proofs.DeformedInner.{filtered-cut, survivors-cut}
+use Rattle.layer_laws.specs.Cuts.{is_step}
+use Rattle.layer_laws.specs.FilteredCuts.{IsFilteredCut}
+use Rattle.layer_laws.specs.Slid.{kind_of_bigon}
+use Rattle.layer_laws.proofs.Bigons.{has_kind, near-bigon}
+use Rattle.layer_laws.proofs.FilteredBigons.{bigon-keeps_first, bigon-keeps_second}
+use Rattle.drop_view_laws.specs.DropSigns.{AreBigonSigns}
+use Rattle.drop_view_laws.specs.DroppedCubes.{IsBigonCut, bigon_closing, bigon_first, bigon_left, bigon_through, bigon_view}
+use Rattle.drop_view_laws.specs.DroppedFirst.{two_first}
+use Rattle.drop_view_laws.specs.NamesLeft.{number_left}
+use Rattle.link_laws.specs.CodeSurvivors.{code_survivors}
 use Rattle.link_laws.specs.SeenBy.{IsSeenBy}
 use Rattle.link_laws.proofs.CutViews.{count_by, cut-view, saddle_by}
 use Rattle.link_laws.proofs.OneObject.{like-one}
-use Rattle.drop_view_laws.specs.DropSigns.{AreBigonSigns}
-use Rattle.drop_view_laws.specs.DroppedCubes.{IsBigonCut, bigon_closing, bigon_first, bigon_left, bigon_through, bigon_view}
-use Rattle.view_laws.specs.Fronts.{first_to}
-use Rattle.drop_view_laws.specs.NamesLeft.{number_left}
-use Rattle.drop_view_laws.proofs.DroppedMoves.{dimension-bigon_first}
-use Rattle.view_laws.proofs.ClosedOne.{closes-elsewhere, closes-there}
-use Rattle.order_laws.proofs.Reordered.{reordered-length}
 
-module _ (p : ℕ) (code new : Code) (c d slot other_slot : ℕ) (field : HasInverses p) (holds : IsTrue (accepted code))
+module _ (p h : ℕ) (code new : Code) (c d slot other_slot : ℕ) (field : HasInverses p) (holds : IsTrue (accepted code))
     (cut : IsBigonCut code new c d slot other_slot) (signs : AreBigonSigns code new) where
   abbrev first : Code
   first = bigon_first code c d
@@ -74,17 +78,21 @@ module _ (p : ℕ) (code new : Code) (c d slot other_slot : ℕ) (field : HasInv
   new_circles = HasCircles-accepted new signs.accepted_too
 
   abbrev layers : Layers
-  layers = view_layers p first plus minus view
+  layers = deformed_layers p h first plus minus view
 
   abbrev single : Layers
-  single = view_layers p new new_plus new_minus plain
+  single = deformed_layers p h new new_plus new_minus plain
 
-  complex : AreComplex p (cells_of layers)
-  complex = complex-cut p first view plus minus above circles cut.view (AreComplex-cube p first plus minus above cut.first_accepted)
+  positive : 0 < p
+  positive = omega (arith, above)
 
-  new_complex : AreComplex p (cells_of single)
-  new_complex = complex-cut p new plain new_plus new_minus above new_circles cut.left
-      (AreComplex-cube p new new_plus new_minus above signs.accepted_too)
+  filtered : AreFiltered p (cells_of layers)
+  filtered = filtered-cut p h first view plus minus positive circles cut.view
+      (AreFiltered-cube p h first plus minus positive cut.first_accepted)
+
+  new_filtered : AreFiltered p (cells_of single)
+  new_filtered = filtered-cut p h new plain new_plus new_minus positive new_circles cut.left
+      (AreFiltered-cube p h new new_plus new_minus positive signs.accepted_too)
 
   size : outer_count first view ≡ length new.crossings
   size =
@@ -175,15 +183,16 @@ module _ (p : ℕ) (code new : Code) (c d slot other_slot : ℕ) (field : HasInv
         seen = λ t s within below. sees t s within (subst (λ (n : ℕ). s < 2 ^ n) size below);
       }
 
-  is-cut : IsCut p 2 closing (kind_of_bigon closing) (count_by relation view.names) (saddle_by relation view.names) layers
-  is-cut = cut-view p first plus minus view closing (kind_of_bigon closing) relation seen circles above complex
+  is-cut : IsFilteredCut p 2 closing (kind_of_bigon closing) (count_by relation view.names) (saddle_by p h relation view.names) layers
+  is-cut = cut-view p h first plus minus view closing (kind_of_bigon closing) relation seen circles above filtered
 
-  ends : (i j : ℤ) → dimension_at p (cells_of single) i j ≡ dimension_at p (cells_of layers) i j
-      → dimension p new i j ≡ dimension p code i j
-  ends i j same =
-      sym (dimension-cut p new plain new_plus new_minus field new_circles cut.left i j) ∙ same
-      ∙ dimension-cut p first view plus minus field circles cut.view i j
-      ∙ dimension-bigon_first p code new c d slot other_slot plus minus field cut i j
+  ends : (i t : ℤ) → survivors p (cells_of single) i t ≡ survivors p (cells_of layers) i t
+      → code_survivors p h new i t ≡ code_survivors p h code i t
+  ends i t same =
+      sym (survivors-cut p h new plain new_plus new_minus field new_circles cut.left i t) ∙ same
+      ∙ survivors-cut p h first view plus minus field circles cut.view i t
+      ∙ survivors-reordered p h code.loops plus minus field i t (first_to c code.crossings) (two_first c d code.crossings) cut.order.1
+      ∙ survivors-reordered p h code.loops plus minus field i t code.crossings (first_to c code.crossings) cut.order.0
 
   left-alike : (t : ℕ) → t ≡ 3 - closing → (s : ℕ) → s < 2 ^ length new.crossings
       → SeeAlike first view (joint_state view t s) new plain (joint_state plain 0 s)
@@ -191,28 +200,32 @@ module _ (p : ℕ) (code new : Code) (c d slot other_slot : ℕ) (field : HasInv
       subst (λ (a : ℕ). SeeAlike first view (joint_state view a s) new plain (joint_state plain 0 s)) (through-is ∙ sym is)
       (cut.fourth_alike s below)
 
-  pub dimension-dropped_bigon : (i j : ℤ) → dimension p new i j ≡ dimension p code i j
-  dimension-dropped_bigon i j = elim cut.one_bit [
+  pub survivors-dropped_bigon : (i t : ℤ) → code_survivors p h new i t ≡ code_survivors p h code i t
+  survivors-dropped_bigon i t = elim cut.one_bit [
     | inl one ↦
         let here : length (view.closed 2) ≡ 0 =
         ap (λ (xs : List ℕ). length xs) (closes-elsewhere _ closing 2 (λ same. omega (arith, same, one))) in
-        ends i j
-        (bigon-closes_first p (count_by relation view.names) (saddle_by relation view.names) (ones (length new.crossings)) layers single
+        ends i t
+        (bigon-keeps_first p (count_by relation view.names) (saddle_by p h relation view.names) (ones (length new.crossings)) layers single
         field
-        (subst (λ (n : ℕ). IsCut p 2 n (kind_of_bigon n) (count_by relation view.names) (saddle_by relation view.names) layers) one is-cut)
-        (like-one p first new plus minus new_plus new_minus view (number_left code (is_of_two c d)) 2 0 (omega arith) (omega (arith, above))
-        cut.left new_circles new_complex size (left-alike 2 (omega (arith, one))) (omega (arith, signs.minus))
+        (subst (λ (n : ℕ). IsFilteredCut p 2 n (kind_of_bigon n) (count_by relation view.names) (saddle_by p h relation view.names)
+        layers) one is-cut)
+        (like-one p h first new plus minus new_plus new_minus view (number_left code (is_of_two c d)) 2 0 (omega arith)
+        (omega (arith, above))
+        cut.left new_circles new_filtered size (left-alike 2 (omega (arith, one))) (omega (arith, signs.minus))
         (ap (λ (n : ℕ). degree_of_labels n 0 +ℤ (pos (1 + plus) -ℤ pos (2 * minus))) here
-        ∙ omega (arith, ints, signs.minus, signs.plus))) i j)
+        ∙ omega (arith, ints, signs.minus, signs.plus))) i t)
     | inr two ↦
         let here : length (view.closed 1) ≡ 0 =
         ap (λ (xs : List ℕ). length xs) (closes-elsewhere _ closing 1 (λ same. omega (arith, same, two))) in
-        ends i j
-        (bigon-closes_second p (count_by relation view.names) (saddle_by relation view.names) (ones (length new.crossings)) layers single
+        ends i t
+        (bigon-keeps_second p (count_by relation view.names) (saddle_by p h relation view.names) (ones (length new.crossings)) layers single
         field
-        (subst (λ (n : ℕ). IsCut p 2 n (kind_of_bigon n) (count_by relation view.names) (saddle_by relation view.names) layers) two is-cut)
-        (like-one p first new plus minus new_plus new_minus view (number_left code (is_of_two c d)) 1 0 (omega arith) (omega (arith, above))
-        cut.left new_circles new_complex size (left-alike 1 (omega (arith, two))) (omega (arith, signs.minus))
+        (subst (λ (n : ℕ). IsFilteredCut p 2 n (kind_of_bigon n) (count_by relation view.names) (saddle_by p h relation view.names)
+        layers) two is-cut)
+        (like-one p h first new plus minus new_plus new_minus view (number_left code (is_of_two c d)) 1 0 (omega arith)
+        (omega (arith, above))
+        cut.left new_circles new_filtered size (left-alike 1 (omega (arith, two))) (omega (arith, signs.minus))
         (ap (λ (n : ℕ). degree_of_labels n 0 +ℤ (pos (1 + plus) -ℤ pos (2 * minus))) here
-        ∙ omega (arith, ints, signs.minus, signs.plus))) i j)
+        ∙ omega (arith, ints, signs.minus, signs.plus))) i t)
   ]

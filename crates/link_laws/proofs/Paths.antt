@@ -1,12 +1,14 @@
--- Codes that lead to one another over others.
-use Rattle.std.proofs.Common.{◌≡◌, ℕ, ◌⊎◌, inl, inr, ◌∙◌, ℤ, List, [], ◌∷◌, ◌++◌, refl, sym, subst, ap, IsTrue}
+-- Codes that lead to one another over others: all of them have what each change keeps, the survivors, so the dimensions, and the state sum.
+use Rattle.std.proofs.Common.{◌≡◌, ℕ, ◌-◌, inl, inr, ◌∙◌, ℤ, pos, ◌+ℤ◌, List, [], ◌∷◌, ◌++◌, refl, sym, subst, ap, ap₂, IsTrue}
 use Rattle.kh_types.specs.Acceptance.{accepted}
 use Rattle.kh_types.specs.Code.{Code}
 use Rattle.kh_types.specs.Residues.{HasInverses}
 use Rattle.kh_types.specs.StateSum.{state_sum}
 use Rattle.kh_types.specs.Table.{dimension}
+use Rattle.link_laws.specs.CodeSurvivors.{code_survivors}
 use Rattle.link_laws.specs.Links.{AreNeighbours, AreOneLink, IsLinkChange, LeadsTo}
-use Rattle.link_laws.proofs.Changes.{dimension-change, sum-change}
+use Rattle.link_laws.proofs.AtZero.{survivors-zero}
+use Rattle.link_laws.proofs.Changes.{sum-change, survivors-change}
 
 near-back : (first second : Code) → AreNeighbours first second → AreNeighbours second first
 near-back first second near = record {
@@ -77,10 +79,18 @@ link-change old new holds new_holds change = record {
   path = (record { first_accepted = holds; second_accepted = new_holds; change = inl change }, refl);
 }
 
+pub survivors-link : (p h : ℕ) (first last : Code) → HasInverses p → AreOneLink first last → (i t : ℤ)
+    → code_survivors p h last i t ≡ code_survivors p h first i t
+survivors-link p h first last field link i t =
+    kept-link (λ (code : Code). code_survivors p h code i t) (survivors-change p h field i t) first last link
+
+-- where h is 0 what survives from j on, less what does from j + 1 on, is the dimension at j
 pub dimension-link : (p : ℕ) (first last : Code) → HasInverses p → AreOneLink first last → (i j : ℤ)
     → dimension p last i j ≡ dimension p first i j
 dimension-link p first last field link i j =
-    kept-link (λ (code : Code). dimension p code i j) (dimension-change p field i j) first last link
+    sym (survivors-zero p last i j field (link-accepted first last link))
+    ∙ ap₂ (λ (m n : ℕ). m - n) (survivors-link p 0 first last field link i j) (survivors-link p 0 first last field link i (j +ℤ pos 1))
+    ∙ survivors-zero p first i j field link.first_accepted
 
 pub sum-link : (first last : Code) (e : ℤ) → AreOneLink first last → state_sum last e ≡ state_sum first e
 sum-link first last e link = kept-link (λ (code : Code). state_sum code e) (sum-change e) first last link

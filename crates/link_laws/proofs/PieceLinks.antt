@@ -1,7 +1,7 @@
 -- A code in parts that share no arc is a diagram of the same link as the union of the parts.
 --
 -- Its crossings, each with its sign, stand in another order, those that are kept first; and then its arcs get other numbers.
-use Rattle.std.proofs.Common.{◌≡◌, ◌∙◌, ℕ, ◌+◌, ◌<◌, List, [], ◌∷◌, length, map, refl, sym, subst, ap, ap₂, arith, Bool, IsTrue}
+use Rattle.std.proofs.Common.{◌≡◌, ◌∙◌, ℕ, ◌+◌, List, [], ◌∷◌, length, map, refl, sym, subst, ap, ap₂, arith, Bool, IsTrue}
 use Rattle.std.specs.Prelude.{not}
 use Rattle.std.specs.List.{range_with_len, zip}
 use Rattle.std.proofs.lemmas.Simd.{map-map}

@@ -1,30 +1,33 @@
--- A slide keeps the dimensions: both codes with the three crossings first, seen through all arcs and loops but the sides, are cut.
+-- A slide keeps the survivors: both codes with the three crossings first, seen through all arcs and loops but the sides, are cut.
 use Rattle.std.proofs.Common.{◌≡◌, ℕ, ◌+◌, ◌-◌, ◌*◌, ◌^◌, ◌<◌, ◌∙◌, ℤ, List, length, refl, sym, subst, ap, ap₂, arith, Bool, true, ◌||◌, IsTrue}
-use Rattle.std.specs.Prelude.{nat_eq, if◌then◌else◌}
 use Rattle.std.specs.List.{Contains}
+use Rattle.std.specs.Prelude.{nat_eq, if◌then◌else◌}
 use Rattle.std.proofs.lemmas.Bool.{eq-eqb, ne_eqb, or_right}
 use Rattle.kh_types.specs.Acceptance.{accepted}
 use Rattle.kh_types.specs.Code.{Code}
 use Rattle.kh_types.specs.Directions.{minus_count, plus_count}
 use Rattle.kh_types.specs.Residues.{HasInverses}
-use Rattle.kh_types.specs.Table.{dimension}
-use Rattle.cell_laws.specs.Cells.{AreComplex, dimension_at}
-use Rattle.cell_laws.specs.Cubes.{cube_of}
+use Rattle.cell_laws.specs.DeformedCubes.{deformed_cube_of}
+use Rattle.cell_laws.specs.Filtered.{AreFiltered, survivors}
 use Rattle.cell_laws.specs.Layers.{Layers, cells_of}
-use Rattle.cell_laws.proofs.CubeCells.{AreComplex-cube}
-use Rattle.layer_laws.specs.Cuts.{IsCut, is_step}
-use Rattle.layer_laws.specs.Slid.{IsMeasured, is_near, kind_after, kind_before}
-use Rattle.layer_laws.proofs.Slides.{dimension-slide}
-use Rattle.layer_laws.proofs.SlideTables.{near-after, near-before}
+use Rattle.cell_laws.proofs.FilteredCubes.{AreFiltered-cube}
+use Rattle.order_laws.proofs.ExchangedSurvivors.{survivors-reordered}
+use Rattle.view_laws.specs.DeformedLayers.{deformed_layers}
 use Rattle.view_laws.specs.Partitions.{AgreeOn}
+use Rattle.view_laws.specs.ViewLayers.{outer_count}
 use Rattle.view_laws.specs.Views.{HasCircles, IsView, View, together}
-use Rattle.view_laws.specs.ViewLayers.{outer_count, view_layers}
 use Rattle.view_laws.proofs.CircleNames.{HasCircles-accepted}
-use Rattle.view_laws.proofs.InnerEdges.{complex-cut, dimension-cut}
+use Rattle.view_laws.proofs.DeformedInner.{filtered-cut, survivors-cut}
+use Rattle.layer_laws.specs.Cuts.{is_step}
+use Rattle.layer_laws.specs.FilteredCuts.{IsFilteredCut}
+use Rattle.layer_laws.specs.Slid.{IsMeasured, is_near, kind_after, kind_before}
+use Rattle.layer_laws.proofs.FilteredSlides.{survivors-slide}
+use Rattle.layer_laws.proofs.SlideTables.{near-after, near-before}
+use Rattle.slide_view_laws.specs.SeenSlides.{HasSeenSlide, IsInOrder, IsSeenSlide}
+use Rattle.link_laws.specs.CodeSurvivors.{code_survivors}
 use Rattle.link_laws.specs.SeenBy.{IsSeenBy}
 use Rattle.link_laws.proofs.CutViews.{count_by, cut-view, saddle_by}
 use Rattle.link_laws.proofs.Measured.{between_by, height_by, measured-view, weight_by}
-use Rattle.slide_view_laws.specs.SeenSlides.{HasSeenSlide, IsSeenSlide}
 
 -- a view of three inner crossings, of which one state closes a circle, is seen by kinds
 pub by-kinds : (code : Code) (view : View) (closing : ℕ) (kind : ℕ → ℕ) (relation : ℕ → ℕ → ℕ → ℕ → Bool) → IsView code view
@@ -48,7 +51,7 @@ by-kinds code view closing kind relation is three below closed near sees =
           (sees t s (eight t within));
     }
 
-module _ (p : ℕ) (first second : Code) (first_view second_view : View) (closing plus minus : ℕ) (field : HasInverses p)
+module _ (p h : ℕ) (first second : Code) (first_view second_view : View) (closing plus minus : ℕ) (field : HasInverses p)
     (seen : IsSeenSlide first second first_view second_view closing) (holds : IsTrue (accepted first))
     (holds_second : IsTrue (accepted second))
   where
@@ -65,18 +68,22 @@ module _ (p : ℕ) (first second : Code) (first_view second_view : View) (closin
     circles_second = HasCircles-accepted second holds_second
 
     abbrev layers : Layers
-    layers = view_layers p first plus minus first_view
+    layers = deformed_layers p h first plus minus first_view
 
     abbrev layers_second : Layers
-    layers_second = view_layers p second plus minus second_view
+    layers_second = deformed_layers p h second plus minus second_view
 
-    complex : AreComplex p (cells_of layers)
-    complex = complex-cut p first first_view plus minus above circles seen.first_is (AreComplex-cube p first plus minus above holds)
+    positive : 0 < p
+    positive = omega (arith, above)
 
-    complex_second : AreComplex p (cells_of layers_second)
-    complex_second =
-        complex-cut p second second_view plus minus above circles_second seen.second_is
-        (AreComplex-cube p second plus minus above holds_second)
+    filtered : AreFiltered p (cells_of layers)
+    filtered = filtered-cut p h first first_view plus minus positive circles seen.first_is
+        (AreFiltered-cube p h first plus minus positive holds)
+
+    filtered_second : AreFiltered p (cells_of layers_second)
+    filtered_second =
+        filtered-cut p h second second_view plus minus positive circles_second seen.second_is
+        (AreFiltered-cube p h second plus minus positive holds_second)
 
     before : IsSeenBy first first_view closing (kind_before closing) relation
     before =
@@ -101,53 +108,63 @@ module _ (p : ℕ) (first second : Code) (first_view second_view : View) (closin
     same-outer = ap₂ (λ (a b : ℕ). a - b) seen.size (seen.second_inner ∙ sym seen.first_inner)
 
     -- both are cut
-    cut : IsCut p 3 closing (kind_before closing) (count_by relation names) (saddle_by relation names) layers
+    cut : IsFilteredCut p 3 closing (kind_before closing) (count_by relation names) (saddle_by p h relation names) layers
     cut =
-        subst (λ (k : ℕ). IsCut p k closing (kind_before closing) (count_by relation names) (saddle_by relation names) layers)
+        subst (λ (k : ℕ). IsFilteredCut p k closing (kind_before closing) (count_by relation names) (saddle_by p h relation names) layers)
         seen.first_inner
-        (cut-view p first plus minus first_view closing (kind_before closing) relation before circles above complex)
+        (cut-view p h first plus minus first_view closing (kind_before closing) relation before circles above filtered)
 
-    cut-second : IsCut p 3 closing (kind_after closing) (count_by relation names) (saddle_by relation names) layers_second
+    cut-second : IsFilteredCut p 3 closing (kind_after closing) (count_by relation names) (saddle_by p h relation names) layers_second
     cut-second =
-        subst (λ (xs : List ℕ). IsCut p 3 closing (kind_after closing) (count_by relation xs) (saddle_by relation xs) layers_second)
+        subst (λ (xs : List ℕ). IsFilteredCut p 3 closing (kind_after closing) (count_by relation xs) (saddle_by p h relation xs)
+        layers_second)
         seen.names
-        (subst (λ (k : ℕ). IsCut p k closing (kind_after closing) (count_by relation second_view.names)
-        (saddle_by relation second_view.names)
+        (subst (λ (k : ℕ). IsFilteredCut p k closing (kind_after closing) (count_by relation second_view.names)
+        (saddle_by p h relation second_view.names)
         layers_second) seen.second_inner
-        (cut-view p second plus minus second_view closing (kind_after closing) relation after circles_second above complex_second))
+        (cut-view p h second plus minus second_view closing (kind_after closing) relation after circles_second above filtered_second))
 
     measured : IsMeasured p closing (kind_before closing) (height_by minus n) (weight_by plus minus relation names n)
-        (between_by p relation names n) layers
-    measured = measured-view p first plus minus first_view closing (kind_before closing) relation before circles above complex
+        (between_by p h relation names n) layers
+    measured = measured-view p h first plus minus first_view closing (kind_before closing) relation before circles above filtered
         seen.first_inner
 
     measured-second : IsMeasured p closing (kind_after closing) (height_by minus n) (weight_by plus minus relation names n)
-        (between_by p relation names n) layers_second
+        (between_by p h relation names n) layers_second
     measured-second =
         subst (λ (xs : List ℕ). IsMeasured p closing (kind_after closing) (height_by minus n) (weight_by plus minus relation xs n)
-        (between_by p relation xs n) layers_second) seen.names
+        (between_by p h relation xs n) layers_second) seen.names
         (subst (λ (m : ℕ). IsMeasured p closing (kind_after closing) (height_by minus m) (weight_by plus minus relation second_view.names m)
-        (between_by p relation second_view.names m) layers_second) same-outer
-        (measured-view p second plus minus second_view closing (kind_after closing) relation after circles_second above complex_second
+        (between_by p h relation second_view.names m) layers_second) same-outer
+        (measured-view p h second plus minus second_view closing (kind_after closing) relation after circles_second above filtered_second
         seen.second_inner))
 
-    pub dimension-seen_slide : (i j : ℤ) → dimension_at p (cube_of p second plus minus) i j
-        ≡ dimension_at p (cube_of p first plus minus) i j
-    dimension-seen_slide i j =
-        sym (dimension-cut p second second_view plus minus field circles_second seen.second_is i j)
-        ∙ dimension-slide p closing (count_by relation names) (saddle_by relation names) (height_by minus n)
+    pub survivors-seen_slide : (i t : ℤ) → survivors p (deformed_cube_of p h second plus minus) i t
+        ≡ survivors p (deformed_cube_of p h first plus minus) i t
+    survivors-seen_slide i t =
+        sym (survivors-cut p h second second_view plus minus field circles_second seen.second_is i t)
+        ∙ survivors-slide p closing (count_by relation names) (saddle_by p h relation names) (height_by minus n)
         (weight_by plus minus relation names n)
-        (between_by p relation names n) layers layers_second field seen.some seen.not_all (ap (λ (m : ℕ). 2 ^ m) same-outer) cut measured
-        cut-second measured-second i j
-        ∙ dimension-cut p first first_view plus minus field circles seen.first_is i j
+        (between_by p h relation names n) layers layers_second field seen.some seen.not_all (ap (λ (m : ℕ). 2 ^ m) same-outer) cut measured
+        cut-second measured-second i t
+        ∙ survivors-cut p h first first_view plus minus field circles seen.first_is i t
 
-pub dimension-slid : (p : ℕ) (code new : Code) → HasInverses p → HasSeenSlide code new → (i j : ℤ) → dimension p new i j
-    ≡ dimension p code i j
-dimension-slid p code new field slide i j =
+-- what is in order has the same survivors
+in-order : (p h : ℕ) (code other : Code) (plus minus : ℕ) → HasInverses p → IsInOrder code other → (i t : ℤ)
+    → survivors p (deformed_cube_of p h other plus minus) i t ≡ survivors p (deformed_cube_of p h code plus minus) i t
+in-order p h code other plus minus field order i t =
+    ap (λ (l : ℕ). survivors p (deformed_cube_of p h (record { crossings = other.crossings; loops = l }) plus minus) i t) order.loops
+    ∙ survivors-reordered p h code.loops plus minus field i t order.twice other.crossings order.orders.2
+    ∙ survivors-reordered p h code.loops plus minus field i t order.once order.twice order.orders.1
+    ∙ survivors-reordered p h code.loops plus minus field i t code.crossings order.once order.orders.0
+
+pub survivors-slid : (p h : ℕ) (code new : Code) → HasInverses p → HasSeenSlide code new → (i t : ℤ)
+    → code_survivors p h new i t ≡ code_survivors p h code i t
+survivors-slid p h code new field slide i t =
     let plus = plus_count code.crossings in
     let minus = minus_count code.crossings in
-    ap₂ (λ (a b : ℕ). dimension_at p (cube_of p new a b) i j) slide.plus slide.minus
-    ∙ sym (slide.second_order.dimensions p plus minus field i j)
-    ∙ dimension-seen_slide p slide.first slide.second slide.first_view slide.second_view slide.closing plus minus field slide.seen
-    slide.first_order.accepted_too slide.second_order.accepted_too i j
-    ∙ slide.first_order.dimensions p plus minus field i j
+    ap₂ (λ (a b : ℕ). survivors p (deformed_cube_of p h new a b) i t) slide.plus slide.minus
+    ∙ sym (in-order p h new slide.second plus minus field slide.second_order i t)
+    ∙ survivors-seen_slide p h slide.first slide.second slide.first_view slide.second_view slide.closing plus minus field slide.seen
+    slide.first_order.accepted_too slide.second_order.accepted_too i t
+    ∙ in-order p h code slide.first plus minus field slide.first_order i t

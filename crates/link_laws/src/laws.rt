@@ -11,6 +11,8 @@ ghost use Rattle.diagram_moves.specs.Moved.{moved};
 ghost use Rattle.diagram_moves.specs.declared.change.Move.{Move};
 ghost use Rattle.link_algebra.specs.Unions.{union_of};
 ghost use Rattle.union_laws.specs.Pieces.{IsCut, first_piece, other_pieces, part_of};
+ghost use Rattle.link_laws.specs.CodeSurvivors.{code_survivors};
+ghost use Rattle.link_laws.specs.LastPages.{lasting_of, s, s_max, s_min};
 ghost use Rattle.link_laws.specs.Links.{AreOneLink};
 
 /// That two codes are diagrams of one link is an equivalence of accepted codes.
@@ -27,6 +29,35 @@ pub fn one_link_is_an_equivalence()
 pub fn moves_keep_the_link()
     ensures { (code new : Code) (change : Move) → IsTrue (accepted code)
         → moved code change ≡ Ok new → AreOneLink code new }
+{}
+
+/// All diagrams of one link have the same survivors, at each homological degree and from each
+/// quantum degree on, whatever h is.
+pub fn links_have_the_same_survivors()
+    ensures { (p h : ℕ) (first last : Code) → HasInverses p → AreOneLink first last
+        → (i t : ℤ) → code_survivors p h last i t ≡ code_survivors p h first i t }
+{}
+
+/// They have one last page: at each homological degree as many classes last up to each quantum
+/// degree (Rasmussen 2010, theorem 1; Mackaay, Turner and Vaz 2007; Lipshitz and Sarkar 2014).
+pub fn links_have_one_last_page()
+    ensures lasting { (p : ℕ) (first last : Code) → HasInverses p → AreOneLink first last
+        → (i j : ℤ) → lasting_of p last i j ≡ lasting_of p first i j }
+    ensures fields { (p : ℕ) (first last : Code) → IsSmallPrime p → AreOneLink first last
+        → (i j : ℤ) → lasting_of p last i j ≡ lasting_of p first i j }
+{}
+
+/// So all diagrams of a knot have one s, over each field; and what s is read off is one for all
+/// diagrams of any link (Rasmussen 2010; Mackaay, Turner and Vaz 2007; Lipshitz and Sarkar 2014).
+pub fn knots_have_one_s()
+    ensures least { (p : ℕ) (first last : Code) → HasInverses p → AreOneLink first last
+        → s_min p last ≡ s_min p first }
+    ensures greatest { (p : ℕ) (first last : Code) → HasInverses p → AreOneLink first last
+        → s_max p last ≡ s_max p first }
+    ensures s { (p : ℕ) (first last : Code) → HasInverses p → AreOneLink first last
+        → s p last ≡ s p first }
+    ensures fields { (p : ℕ) (first last : Code) → IsSmallPrime p → AreOneLink first last
+        → s p last ≡ s p first }
 {}
 
 /// All diagrams of a link have one homology over each field of p elements, so over the four fields

@@ -6,14 +6,14 @@ use Rattle.kh_types.specs.Directions.{minus_count, plus_count}
 use Rattle.kh_types.specs.Residues.{HasInverses}
 use Rattle.kh_types.proofs.AcceptedLemmas.{HasArcsTwice-accepted}
 use Rattle.gluing_laws.specs.Codes.{IsRenumbered}
-use Rattle.cell_laws.specs.Filtered.{survivors}
 use Rattle.cell_laws.specs.DeformedCubes.{deformed_cube_of}
+use Rattle.cell_laws.specs.Filtered.{survivors}
 use Rattle.order_laws.specs.Orders.{IsReordered}
 use Rattle.order_laws.proofs.ExchangedSurvivors.{survivors-reordered}
 use Rattle.view_laws.proofs.CircleNames.{HasCircles-accepted}
 use Rattle.view_laws.proofs.Renumbered.{fixed, holds-arcs, new-plain, old-plain, renumbered-fixed, see-alike}
 use Rattle.link_laws.specs.CodeSurvivors.{code_survivors}
-use Rattle.link_laws.proofs.PlainSurvivors.{survivors-plain}
+use Rattle.link_laws.proofs.SeenAlike.{survivors-plain}
 
 pub survivors-renumbered_code : (p h : ℕ) (f : ℕ → ℕ) (old new : Code) → HasInverses p → IsTrue (accepted old) → IsTrue (accepted new)
     → IsRenumbered f old new → plus_count new.crossings ≡ plus_count old.crossings

@@ -8,10 +8,10 @@ use Rattle.kh_types.specs.Residues.{HasInverses}
 use Rattle.kh_types.specs.Table.{dimension}
 use Rattle.cell_laws.specs.Cells.{Cells}
 use Rattle.cell_laws.specs.Cubes.{cube_of}
-use Rattle.cell_laws.proofs.CubeCells.{AreComplex-cube}
 use Rattle.cell_laws.specs.Filtered.{lasting}
-use Rattle.cell_laws.proofs.LevelSurvivors.{lasting-level}
+use Rattle.cell_laws.proofs.CubeCells.{AreComplex-cube}
 use Rattle.cell_laws.proofs.DeformedCells.{cube-plain}
+use Rattle.cell_laws.proofs.LevelSurvivors.{lasting-level}
 use Rattle.link_laws.specs.CodeSurvivors.{code_survivors}
 
 pub survivors-zero : (p : ℕ) (code : Code) (i j : ℤ) → HasInverses p → IsTrue (accepted code)

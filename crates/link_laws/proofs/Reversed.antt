@@ -2,12 +2,14 @@
 use Rattle.std.proofs.Common.{◌≡◌, ℕ, ◌+◌, ◌-◌, ◌^◌, ◌<◌, ◌∙◌, ℤ, List, length, refl, sym, subst, ap, ap₂, arith, IsTrue}
 use Rattle.std.specs.Prelude.{nat_eq}
 use Rattle.std.proofs.lemmas.Bool.{eq-eqb, eqb-true}
+use Rattle.std.proofs.lemmas.Nat.{pow_pos}
 use Rattle.kh_types.specs.Acceptance.{accepted}
 use Rattle.kh_types.specs.CircleNumbers.{IsName}
 use Rattle.kh_types.specs.Code.{Code, arc_count, arcs_and_loops}
 use Rattle.kh_types.specs.Directions.{minus_count, plus_count}
 use Rattle.kh_types.specs.Residues.{HasInverses}
 use Rattle.kh_types.proofs.AcceptedLemmas.{HasArcsTwice-accepted}
+use Rattle.kh_types.proofs.Lists.{within-range}
 use Rattle.kh_types.proofs.Tests.{agree}
 use Rattle.gluing_laws.specs.Codes.{IsRenumbered}
 use Rattle.slide_laws.proofs.SlidTriangle.{HoldsArcs-twice}
@@ -16,15 +18,13 @@ use Rattle.link_algebra.proofs.Flips.{flipped, flipped-below, flipped-twice}
 use Rattle.link_algebra.proofs.MovedLabels.{Corresponds-back, IsName-back, name-here}
 use Rattle.link_algebra.proofs.TurnedCircles.{Corresponds, Corresponds-turned}
 use Rattle.link_algebra.proofs.TurnedCodes.{mirror-accepted, mirror-dual, mirror-rotated, mirror_name, mirror_number, reversal-accepted, reversal-dual, reversal-plus, reversal-rotated, reversal_name, reversal_number}
+use Rattle.cell_laws.specs.DeformedCubes.{deformed_cube_of}
+use Rattle.cell_laws.specs.Filtered.{survivors}
 use Rattle.view_laws.specs.Views.{IsPlain, circle_at}
 use Rattle.view_laws.proofs.CircleNames.{HasCircles-accepted}
 use Rattle.view_laws.proofs.Renumbered.{old-plain}
-use Rattle.cell_laws.specs.Filtered.{survivors}
-use Rattle.cell_laws.specs.DeformedCubes.{deformed_cube_of}
 use Rattle.link_laws.specs.CodeSurvivors.{code_survivors}
-use Rattle.link_laws.proofs.PlainSurvivors.{survivors-plain}
-use Rattle.std.proofs.lemmas.Nat.{pow_pos}
-use Rattle.kh_types.proofs.Lists.{within-range}
+use Rattle.link_laws.proofs.SeenAlike.{survivors-plain}
 
 module _ (code : Code) (holds : IsTrue (accepted code)) where
   abbrev middle : Code

@@ -1,28 +1,28 @@
 -- Where two codes with as many crossings are seen alike at each state, their deformed cubes have the same survivors.
 use Rattle.std.proofs.Common.{◌≡◌, ℕ, ◌+◌, ◌-◌, ◌*◌, ◌/◌, ◌^◌, ◌<◌, ◌∙◌, ℤ, pos, ◌+ℤ◌, ◌-ℤ◌, List, length, refl, sym, subst, ap, ap₂, arith, cond}
-use Rattle.std.specs.Prelude.{nat_eq}
 use Rattle.std.specs.List.{Contains}
+use Rattle.std.specs.Prelude.{nat_eq}
 use Rattle.kh_types.specs.Bits.{ones}
 use Rattle.kh_types.specs.Code.{Code}
 use Rattle.kh_types.specs.Residues.{HasInverses}
+use Rattle.kh_types.proofs.JointNumbers.{inside-below}
 use Rattle.kh_types.proofs.Residues.{same-equal}
 use Rattle.cell_laws.specs.Alike.{AreAlike}
-use Rattle.cell_laws.specs.Layers.{Layer, Layers, cells_of, layer_coefficient}
-use Rattle.cell_laws.proofs.Matched.{AreListed-matched}
-use Rattle.view_laws.specs.Views.{HasCircles, IsInnerStep, IsPlain, SeeAlike, View, plain_view}
-use Rattle.view_laws.specs.ViewLayers.{degree_of_labels, inside_of, ones_of, outer_count, relation_of, seen_at, state_of}
-use Rattle.cell_laws.proofs.CellLists.{cell-from, cell-of, cells-once}
-use Rattle.view_laws.proofs.Cells.{objects-once, state-below}
-use Rattle.kh_types.proofs.JointNumbers.{inside-below}
-use Rattle.cell_laws.specs.Filtered.{survivors}
 use Rattle.cell_laws.specs.DeformedCubes.{deformed_cube_of}
-use Rattle.view_laws.specs.DeformedLayers.{deformed_layers, deformed_outer}
+use Rattle.cell_laws.specs.Filtered.{survivors}
+use Rattle.cell_laws.specs.Layers.{Layer, Layers, cells_of, layer_coefficient}
 use Rattle.cell_laws.proofs.AlikeSurvivors.{survivors-alike}
+use Rattle.cell_laws.proofs.CellLists.{cell-from, cell-of, cells-once}
+use Rattle.cell_laws.proofs.Matched.{AreListed-matched}
+use Rattle.view_laws.specs.DeformedLayers.{deformed_layers, deformed_outer}
 use Rattle.view_laws.specs.Partitions.{AgreeOn}
-use Rattle.view_laws.proofs.PlainViews.{plain-view}
-use Rattle.view_laws.proofs.Seen.{seen-alike}
+use Rattle.view_laws.specs.ViewLayers.{degree_of_labels, inside_of, ones_of, outer_count, relation_of, seen_at, state_of}
+use Rattle.view_laws.specs.Views.{HasCircles, IsInnerStep, IsPlain, SeeAlike, View, plain_view}
+use Rattle.view_laws.proofs.Cells.{objects-once, state-below}
 use Rattle.view_laws.proofs.DeformedAlike.{outer-alike}
 use Rattle.view_laws.proofs.DeformedInner.{inner-none, layers-below, survivors-cut}
+use Rattle.view_laws.proofs.PlainViews.{plain-view}
+use Rattle.view_laws.proofs.Seen.{seen-alike}
 
 module _ (p h : ℕ) (old new : Code) (plus minus : ℕ) (names : List ℕ) (arc new_arc : ℕ → ℕ) (field : HasInverses p)
     (circles : HasCircles old) (new_circles : HasCircles new) (is : IsPlain old names arc) (new_is : IsPlain new names new_arc)
