@@ -1,13 +1,14 @@
 -- A slide: what two eliminations leave before and after has the same survivors.
-use Rattle.std.proofs.Common.{◌≡◌, ℕ, ◌<◌, ◌∙◌, ℤ, pos, refl, sym, ap₂}
+use Rattle.std.proofs.Common.{◌≡◌, ℕ, ◌<◌, ◌∙◌, ℤ, pos, refl, sym, subst, ap₂}
 use Rattle.std.specs.List.{Contains}
 use Rattle.kh_types.specs.Residues.{HasInverses}
 use Rattle.cell_laws.specs.Layers.{Layers, cells_of, layer_of}
 use Rattle.cell_laws.specs.Signs.{sign_of_power}
 use Rattle.cell_laws.specs.Filtered.{survivors}
 use Rattle.layer_laws.specs.Slid.{IsMeasured, above_of, below_of, kind_after, kind_before}
-use Rattle.layer_laws.proofs.SlideTables.{last_objects, turn_of}
-use Rattle.layer_laws.proofs.Slides.{last-is, other-there, pairs_first, pairs_second, renamed-slide, there, there-below, there-state, to}
+use Rattle.layer_laws.proofs.SlideTables.{exchanged, exchanged-is, last_objects, near-after, near-before, pairs-at, turn_of}
+use Rattle.layer_laws.proofs.TwoPairs.{ArePairs}
+use Rattle.layer_laws.proofs.Slides.{last-is, other-there, renamed-slide, there-below}
 use Rattle.layer_laws.specs.FilteredCuts.{IsFilteredCut, unfiltered_layers}
 use Rattle.layer_laws.proofs.FilteredPairs.{filtered-pairs, filtered_left, survivors-pairs}
 use Rattle.layer_laws.proofs.RenamedLayers.{renamed-filtered, survivors-renamed}
@@ -38,31 +39,27 @@ module _ (p o : ℕ) (count : ℕ → ℕ → ℕ) (saddle : ℕ → ℕ → ℕ
   second-level : IsMeasured p o (kind_after o) height (λ r n state label. pos 0) between (unfiltered_layers second)
   second-level = measured-unfiltered p o (kind_after o) height weight between second measured_second
 
+  first-pairs : ArePairs 3 o (above_of o) (below_of o) (kind_before o)
+  first-pairs = pairs-at o (kind_before o) above below (near-before o above below)
+
+  second-pairs : ArePairs 3 o (above_of o) (below_of o) (kind_after o)
+  second-pairs = pairs-at o (kind_after o) above below (near-after o above below)
+
   abbrev last_first : Layers
-  last_first = filtered_left p 3 o (above_of o) (below_of o) (kind_before o) count saddle first field is_first
-      (pairs_first p o count saddle height level between (unfiltered_layers first) (unfiltered_layers second) field above below states
-      is_first.cut first-level is_second.cut second-level)
+  last_first = filtered_left p 3 o (above_of o) (below_of o) (kind_before o) count saddle first field is_first first-pairs
 
   abbrev last_second : Layers
-  last_second = filtered_left p 3 o (above_of o) (below_of o) (kind_after o) count saddle second field is_second
-      (pairs_second p o count saddle height level between (unfiltered_layers first) (unfiltered_layers second) field above below states
-      is_first.cut first-level is_second.cut second-level)
-
-  abbrev turned : ℕ → ℕ
-  turned = to p o count saddle height level between (unfiltered_layers first) (unfiltered_layers second) field above below states
-      is_first.cut first-level is_second.cut second-level
+  last_second = filtered_left p 3 o (above_of o) (below_of o) (kind_after o) count saddle second field is_second second-pairs
 
   quantum-exchanged : (x state label : ℕ) → Contains (last_objects o) x → state < first.states → label < first.labels x state
-      → second.quantum (layer_of (turned x) state label) ≡ first.quantum (layer_of x state label)
+      → second.quantum (layer_of (exchanged o x) state label) ≡ first.quantum (layer_of x state label)
   quantum-exchanged x state label has below_states label_below =
       let is = last-is o x has in
-      let e = there p o count saddle height level between (unfiltered_layers first) (unfiltered_layers second) field above below states
-      is_first.cut first-level is_second.cut second-level x is in
-      measured_second.quantum (turned x) state label e.within
+      let e = exchanged-is o x above below is.within is.last in
+      measured_second.quantum (exchanged o x) state label e.within
       (other-there p o count saddle height level between (unfiltered_layers first) (unfiltered_layers second) field above below states
       is_first.cut first-level is_second.cut second-level x is).other
-      (there-state p o count saddle height level between (unfiltered_layers first) (unfiltered_layers second) field above below states
-      is_first.cut first-level is_second.cut second-level state below_states)
+      (subst (λ (n : ℕ). state < n) (sym states) below_states)
       (there-below p o count saddle height level between (unfiltered_layers first) (unfiltered_layers second) field above below states
       is_first.cut first-level is_second.cut second-level x state label is below_states label_below)
       ∙ ap₂ (λ (n m : ℕ). weight n m state label) e.ones e.kind
@@ -70,20 +67,12 @@ module _ (p o : ℕ) (count : ℕ → ℕ → ℕ) (saddle : ℕ → ℕ → ℕ
 
   pub survivors-slide : (i t : ℤ) → survivors p (cells_of second) i t ≡ survivors p (cells_of first) i t
   survivors-slide i t =
-      sym (survivors-pairs p 3 o (above_of o) (below_of o) (kind_after o) count saddle second field is_second
-      (pairs_second p o count saddle height level between (unfiltered_layers first) (unfiltered_layers second) field above below states
-      is_first.cut first-level is_second.cut second-level) i t)
-      ∙ survivors-renamed p turned (λ x state. sign_of_power p (turn_of o x)) last_first last_second
-      (renamed-filtered p turned (λ x state. sign_of_power p (turn_of o x)) last_first last_second
+      sym (survivors-pairs p 3 o (above_of o) (below_of o) (kind_after o) count saddle second field is_second second-pairs i t)
+      ∙ survivors-renamed p (exchanged o) (λ x state. sign_of_power p (turn_of o x)) last_first last_second
+      (renamed-filtered p (exchanged o) (λ x state. sign_of_power p (turn_of o x)) last_first last_second
       (renamed-slide p o count saddle height level between (unfiltered_layers first) (unfiltered_layers second) field above below states
       is_first.cut first-level is_second.cut second-level)
       quantum-exchanged) field
-      (filtered-pairs p 3 o (above_of o) (below_of o) (kind_before o) count saddle first field is_first
-      (pairs_first p o count saddle height level between (unfiltered_layers first) (unfiltered_layers second) field above below states
-      is_first.cut first-level is_second.cut second-level))
-      (filtered-pairs p 3 o (above_of o) (below_of o) (kind_after o) count saddle second field is_second
-      (pairs_second p o count saddle height level between (unfiltered_layers first) (unfiltered_layers second) field above below states
-      is_first.cut first-level is_second.cut second-level)) i t
-      ∙ survivors-pairs p 3 o (above_of o) (below_of o) (kind_before o) count saddle first field is_first
-      (pairs_first p o count saddle height level between (unfiltered_layers first) (unfiltered_layers second) field above below states
-      is_first.cut first-level is_second.cut second-level) i t
+      (filtered-pairs p 3 o (above_of o) (below_of o) (kind_before o) count saddle first field is_first first-pairs)
+      (filtered-pairs p 3 o (above_of o) (below_of o) (kind_after o) count saddle second field is_second second-pairs) i t
+      ∙ survivors-pairs p 3 o (above_of o) (below_of o) (kind_before o) count saddle first field is_first first-pairs i t

@@ -106,10 +106,10 @@ module _ (p o : ℕ) (count : ℕ → ℕ → ℕ) (saddle : ℕ → ℕ → ℕ
   abbrev pub left_second : Layers
   left_second = left p 3 o (above_of o) (below_of o) (kind_after o) count saddle second field cut_second pairs_second
 
-  abbrev pub to : ℕ → ℕ
+  abbrev to : ℕ → ℕ
   to = exchanged o
 
-  pub there : (x : ℕ) → IsLast o x → IsExchanged o x
+  there : (x : ℕ) → IsLast o x → IsExchanged o x
   there x is = exchanged-is o x above below is.within is.last
 
   pub other-there : (x : ℕ) → IsLast o x → IsLast o (to x)
@@ -138,7 +138,7 @@ module _ (p o : ℕ) (count : ℕ → ℕ → ℕ) (saddle : ℕ → ℕ → ℕ
   there-below x state label is below_states label_below =
       subst (λ (n : ℕ). label < n) (sym (labels-second x state is below_states)) label_below
 
-  pub there-state : (state : ℕ) → state < first.states → state < second.states
+  there-state : (state : ℕ) → state < first.states → state < second.states
   there-state state below_states = subst (λ (n : ℕ). state < n) (sym states) below_states
 
   inner-exchanged : (x y state label other : ℕ) → IsLast o x → IsLast o y → state < first.states → label < first.labels x state
