@@ -24,7 +24,8 @@ use Rattle.link_laws.specs.Links.{HasOtherNumbers, HasOtherOrder, IsLinkChange, 
 use Rattle.link_laws.proofs.DroppedBigons.{survivors-dropped_bigon}
 use Rattle.link_laws.proofs.DroppedKinks.{survivors-dropped_kink}
 use Rattle.link_laws.proofs.ExchangedSums.{sum-reordered}
-use Rattle.link_laws.proofs.OtherNumbers.{survivors-renumbered_code, survivors-same_signs}
+use Rattle.link_laws.proofs.OtherOrders.{survivors-same_signs}
+use Rattle.view_laws.proofs.Renumbered.{survivors-renumbered_code}
 use Rattle.link_laws.proofs.Reversed.{survivors-reversed}
 use Rattle.link_laws.proofs.SignedCrossings.{order-minus, order-plus, order-slots}
 use Rattle.link_laws.proofs.SlidMoves.{survivors-slid}

@@ -15,14 +15,14 @@ use Rattle.cell_laws.specs.Filtered.{AreFiltered}
 use Rattle.cell_laws.specs.Layers.{Layers, cells_of, layer_of}
 use Rattle.cell_laws.specs.Signs.{sign_of_power}
 use Rattle.cell_laws.proofs.NoDoubles.{flat_map-range}
-use Rattle.view_laws.specs.DeformedLayers.{deformed_layers}
-use Rattle.view_laws.specs.DeformedPartitions.{deformed_saddle_number}
+use Rattle.view_laws.specs.ViewLayers.{view_layers}
+use Rattle.view_laws.specs.Partitions.{deformed_saddle_number}
 use Rattle.view_laws.specs.Partitions.{AgreeOn, seen_count}
 use Rattle.view_laws.specs.ViewLayers.{closed_of, degree_of_labels, inside_of, object_of, objects_at, outer_count, relation_of, seen_at, view_objects}
 use Rattle.view_laws.specs.Views.{HasCircles, IsInnerStep, SeeAlike, View, joint_state, together}
 use Rattle.view_laws.proofs.Cells.{object-closed, object-inside}
-use Rattle.view_laws.proofs.DeformedAlike.{deformed-alike}
-use Rattle.view_laws.proofs.DeformedInner.{inner-none, inner-saddle, merge-identity, split-identity}
+use Rattle.view_laws.proofs.Seen.{saddle-alike}
+use Rattle.view_laws.proofs.InnerEdges.{inner-none, inner-saddle, merge-identity, split-identity}
 use Rattle.view_laws.proofs.Seen.{seen-alike}
 use Rattle.layer_laws.specs.Cuts.{IsCut, IsNothing, IsTimes, cut_objects, is_step, same_label, step_sign}
 use Rattle.layer_laws.specs.FilteredCuts.{IsFilteredCut, unfiltered_layers}
@@ -40,9 +40,9 @@ saddle_by p h relation names i j s label other =
 
 module _ (p h : ℕ) (code : Code) (plus minus : ℕ) (view : View) (closing : ℕ) (kind : ℕ → ℕ) (relation : ℕ → ℕ → ℕ → ℕ → Bool)
     (seen : IsSeenBy code view closing kind relation) (circles : HasCircles code) (above : 1 < p)
-    (filtered : AreFiltered p (cells_of (deformed_layers p h code plus minus view))) where
+    (filtered : AreFiltered p (cells_of (view_layers p h code plus minus view))) where
   abbrev layers : Layers
-  layers = deformed_layers p h code plus minus view
+  layers = view_layers p h code plus minus view
 
   abbrev k : ℕ
   k = view.inner
@@ -159,7 +159,7 @@ module _ (p h : ℕ) (code : Code) (plus minus : ℕ) (view : View) (closing : �
             ∙ mod-mod (sign * d) p
             ∙ same-equal p (sign * d) (step_sign p k t u * saddle_by p h relation view.names (kind t) (kind u) s label other)
             (ap₂ (λ (m e : ℕ). m * e) (sign-found t u found)
-            (deformed-alike (together code view (joint_state view t s)) (together code view (joint_state view u s)) (relation (kind t) s)
+            (saddle-alike (together code view (joint_state view t s)) (together code view (joint_state view u s)) (relation (kind t) s)
             (relation (kind u) s) view.names label other (seen.seen t s t_within below) (seen.seen u s u_within below) h (opposite p h)));
       }
 

@@ -13,21 +13,21 @@ use Rattle.kink_and_finger_laws.specs.Drops.{is_of_two}
 use Rattle.cell_laws.specs.Filtered.{AreFiltered, survivors}
 use Rattle.cell_laws.specs.Layers.{Layers, cells_of}
 use Rattle.cell_laws.proofs.FilteredCubes.{AreFiltered-cube}
-use Rattle.order_laws.proofs.ExchangedSurvivors.{survivors-reordered}
+use Rattle.order_laws.proofs.Orders.{survivors-reordered}
 use Rattle.order_laws.proofs.Reordered.{reordered-length}
-use Rattle.view_laws.specs.DeformedLayers.{deformed_layers}
+use Rattle.view_laws.specs.ViewLayers.{view_layers}
 use Rattle.view_laws.specs.Fronts.{first_to}
 use Rattle.view_laws.specs.Partitions.{AgreeOn}
 use Rattle.view_laws.specs.ViewLayers.{degree_of_labels, outer_count}
 use Rattle.view_laws.specs.Views.{HasCircles, SeeAlike, View, joint_state, together}
 use Rattle.view_laws.proofs.CircleNames.{HasCircles-accepted}
 use Rattle.view_laws.proofs.ClosedOne.{closes-elsewhere, closes-there}
-use Rattle.view_laws.proofs.DeformedInner.{filtered-cut, survivors-cut}
+use Rattle.view_laws.proofs.Cut.{filtered-cut, survivors-cut}
 use Rattle.layer_laws.specs.Cuts.{is_step}
 use Rattle.layer_laws.specs.FilteredCuts.{IsFilteredCut}
 use Rattle.layer_laws.specs.Slid.{kind_of_bigon}
 use Rattle.layer_laws.proofs.Bigons.{has_kind, near-bigon}
-use Rattle.layer_laws.proofs.FilteredBigons.{bigon-keeps_first, bigon-keeps_second}
+use Rattle.layer_laws.proofs.Bigons.{bigon-keeps_first, bigon-keeps_second}
 use Rattle.drop_view_laws.specs.DropSigns.{AreBigonSigns}
 use Rattle.drop_view_laws.specs.DroppedCubes.{IsBigonCut, bigon_closing, bigon_first, bigon_left, bigon_through, bigon_view}
 use Rattle.drop_view_laws.specs.DroppedFirst.{two_first}
@@ -78,10 +78,10 @@ module _ (p h : ℕ) (code new : Code) (c d slot other_slot : ℕ) (field : HasI
   new_circles = HasCircles-accepted new signs.accepted_too
 
   abbrev layers : Layers
-  layers = deformed_layers p h first plus minus view
+  layers = view_layers p h first plus minus view
 
   abbrev single : Layers
-  single = deformed_layers p h new new_plus new_minus plain
+  single = view_layers p h new new_plus new_minus plain
 
   positive : 0 < p
   positive = omega (arith, above)

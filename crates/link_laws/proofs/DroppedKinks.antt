@@ -12,17 +12,17 @@ use Rattle.kink_and_finger_laws.specs.DropCircles.{closing_at, through_at}
 use Rattle.cell_laws.specs.Filtered.{AreFiltered, survivors}
 use Rattle.cell_laws.specs.Layers.{Layers, cells_of}
 use Rattle.cell_laws.proofs.FilteredCubes.{AreFiltered-cube}
-use Rattle.order_laws.proofs.ExchangedSurvivors.{survivors-reordered}
+use Rattle.order_laws.proofs.Orders.{survivors-reordered}
 use Rattle.order_laws.proofs.Reordered.{reordered-length}
-use Rattle.view_laws.specs.DeformedLayers.{deformed_layers}
+use Rattle.view_laws.specs.ViewLayers.{view_layers}
 use Rattle.view_laws.specs.Fronts.{first_to}
 use Rattle.view_laws.specs.ViewLayers.{degree_of_labels, outer_count}
 use Rattle.view_laws.specs.Views.{HasCircles, View, joint_state, together}
 use Rattle.view_laws.proofs.CircleNames.{HasCircles-accepted}
 use Rattle.view_laws.proofs.ClosedOne.{closes-there, closes-elsewhere}
-use Rattle.view_laws.proofs.DeformedInner.{filtered-cut, survivors-cut}
+use Rattle.view_laws.proofs.Cut.{filtered-cut, survivors-cut}
 use Rattle.layer_laws.specs.FilteredCuts.{IsFilteredCut}
-use Rattle.layer_laws.proofs.FilteredKinks.{kink-keeps_first, kink-keeps_second}
+use Rattle.layer_laws.proofs.Kinks.{kink-keeps_first, kink-keeps_second}
 use Rattle.drop_view_laws.specs.DropSigns.{AreKinkSigns}
 use Rattle.drop_view_laws.specs.DroppedCubes.{IsKinkCut, kink_first, kink_left, kink_view}
 use Rattle.drop_view_laws.specs.NamesLeft.{number_left}
@@ -80,10 +80,10 @@ module _ (p h : ℕ) (code new : Code) (c slot : ℕ) (field : HasInverses p) (h
   new_circles = HasCircles-accepted new signs.accepted_too
 
   abbrev layers : Layers
-  layers = deformed_layers p h first plus minus view
+  layers = view_layers p h first plus minus view
 
   abbrev single : Layers
-  single = deformed_layers p h new new_plus new_minus plain
+  single = view_layers p h new new_plus new_minus plain
 
   positive : 0 < p
   positive = omega (arith, above)

@@ -5,8 +5,7 @@ pub mod OneObject
 pub mod DroppedKinks
 pub mod DroppedBigons
 pub mod SlidMoves
-pub mod SeenAlike
-pub mod OtherNumbers
+pub mod OtherOrders
 pub mod Reversed
 pub mod SignedCrossings
 pub mod ExchangedSums

@@ -5,11 +5,11 @@ use Rattle.kh_types.specs.Code.{Code}
 use Rattle.kh_types.proofs.Residues.{same-equal}
 use Rattle.cell_laws.specs.Filtered.{AreFiltered}
 use Rattle.cell_laws.specs.Layers.{Layers, cells_of}
-use Rattle.view_laws.specs.DeformedLayers.{deformed_layers, deformed_outer}
+use Rattle.view_laws.specs.ViewLayers.{view_layers, outer_number}
 use Rattle.view_laws.specs.Partitions.{seen_count}
 use Rattle.view_laws.specs.ViewLayers.{degree_of_labels, inside_of, outer_count, relation_of, seen_at}
 use Rattle.view_laws.specs.Views.{HasCircles, View}
-use Rattle.view_laws.proofs.DeformedAlike.{outer-alike}
+use Rattle.view_laws.proofs.Steps.{outer-alike}
 use Rattle.layer_laws.specs.Slid.{IsMeasured}
 use Rattle.link_laws.specs.SeenBy.{IsSeenBy}
 use Rattle.link_laws.proofs.CutViews.{closed-open, count-inside, inside-open, seen-inside}
@@ -24,13 +24,13 @@ weight_by plus minus relation names n ones_inside i s label =
     +ℤ (pos (ones_inside + ones n s + plus) -ℤ pos (2 * minus))
 
 abbrev pub between_by : ℕ → ℕ → (ℕ → ℕ → ℕ → ℕ → Bool) → List ℕ → ℕ → ℕ → ℕ → ℕ → ℕ → ℕ → ℕ → ℕ
-between_by p h relation names n ones_inside i s next label other = deformed_outer p h n ones_inside (relation i) names s next label other
+between_by p h relation names n ones_inside i s next label other = outer_number p h n ones_inside (relation i) names s next label other
 
 module _ (p h : ℕ) (code : Code) (plus minus : ℕ) (view : View) (closing : ℕ) (kind : ℕ → ℕ) (relation : ℕ → ℕ → ℕ → ℕ → Bool)
     (seen : IsSeenBy code view closing kind relation) (circles : HasCircles code) (above : 1 < p)
-    (filtered : AreFiltered p (cells_of (deformed_layers p h code plus minus view))) (three : view.inner ≡ 3) where
+    (filtered : AreFiltered p (cells_of (view_layers p h code plus minus view))) (three : view.inner ≡ 3) where
   abbrev layers : Layers
-  layers = deformed_layers p h code plus minus view
+  layers = view_layers p h code plus minus view
 
   abbrev n : ℕ
   n = outer_count code view

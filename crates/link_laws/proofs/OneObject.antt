@@ -16,14 +16,14 @@ use Rattle.cell_laws.specs.Filtered.{AreFiltered}
 use Rattle.cell_laws.specs.Layers.{Layers, cells_of}
 use Rattle.cell_laws.specs.Signs.{sign_of_power}
 use Rattle.cell_laws.proofs.Members.{sum_by-same}
-use Rattle.view_laws.specs.DeformedLayers.{deformed_layers, deformed_outer, deformed_outer_along}
-use Rattle.view_laws.specs.DeformedPartitions.{deformed_saddle_number}
+use Rattle.view_laws.specs.ViewLayers.{view_layers, outer_number, outer_along}
+use Rattle.view_laws.specs.Partitions.{deformed_saddle_number}
 use Rattle.view_laws.specs.ViewLayers.{closed_of, degree_of_labels, inside_of, object_of, outer_count, relation_of, seen_at}
 use Rattle.view_laws.specs.Views.{HasCircles, IsView, SeeAlike, View, joint_state, plain_view}
 use Rattle.view_laws.proofs.Cells.{object-closed, object-inside}
-use Rattle.view_laws.proofs.DeformedAlike.{outer-alike}
-use Rattle.view_laws.proofs.DeformedInner.{inner-none}
-use Rattle.view_laws.proofs.DeformedSteps.{outer-some}
+use Rattle.view_laws.proofs.Steps.{outer-alike}
+use Rattle.view_laws.proofs.InnerEdges.{inner-none}
+use Rattle.view_laws.proofs.Steps.{outer-some}
 use Rattle.view_laws.proofs.Seen.{seen-alike}
 use Rattle.layer_laws.specs.Cuts.{IsLikeOne}
 use Rattle.layer_laws.specs.FilteredCuts.{IsFilteredLike, unfiltered_layers}
@@ -32,17 +32,17 @@ use Rattle.layer_laws.proofs.Signs.{sign-sum}
 
 -- ones inside turn the sign of all numbers along outer steps
 outer-turned : (p h count r : ℕ) (relation : ℕ → ℕ → ℕ → Bool) (names : List ℕ) (s t label other : ℕ) → 0 < p
-    → Same p (deformed_outer p h count r relation names s t label other)
-    (sign_of_power p r * deformed_outer p h count 0 relation names s t label other)
+    → Same p (outer_number p h count r relation names s t label other)
+    (sign_of_power p r * outer_number p h count 0 relation names s t label other)
 outer-turned p h count r relation names s t label other positive =
-    sum_by-same p (deformed_outer_along p h r relation names s t label other)
-    (λ place. sign_of_power p r * deformed_outer_along p h 0 relation names s t label other place)
+    sum_by-same p (outer_along p h r relation names s t label other)
+    (λ place. sign_of_power p r * outer_along p h 0 relation names s t label other place)
     (range_with_len 0 count)
     (λ place has. by place (nat_eq (bit s place) 0 && nat_eq t (s + 2 ^ place)))
-    ∙ same-equal p (sum_by (λ place. sign_of_power p r * deformed_outer_along p h 0 relation names s t label other place)
+    ∙ same-equal p (sum_by (λ place. sign_of_power p r * outer_along p h 0 relation names s t label other place)
     (range_with_len 0 count))
-    (sign_of_power p r * deformed_outer p h count 0 relation names s t label other)
-    (sum_by-times (deformed_outer_along p h 0 relation names s t label other) (sign_of_power p r) (range_with_len 0 count))
+    (sign_of_power p r * outer_number p h count 0 relation names s t label other)
+    (sum_by-times (outer_along p h 0 relation names s t label other) (sign_of_power p r) (range_with_len 0 count))
   where
     zero-sum : (n : ℕ) → 0 + n ≡ n
     zero-sum n = omega arith
@@ -72,7 +72,7 @@ outer-turned p h count r relation names s t label other positive =
 
 module _ (p h : ℕ) (code new : Code) (plus minus new_plus new_minus : ℕ) (view : View) (arc : ℕ → ℕ) (t c : ℕ)
     (t_within : t < 2 ^ view.inner) (positive : 0 < p) (new_is : IsView new (plain_view view.names arc)) (new_circles : HasCircles new)
-    (filtered : AreFiltered p (cells_of (deformed_layers p h new new_plus new_minus (plain_view view.names arc))))
+    (filtered : AreFiltered p (cells_of (view_layers p h new new_plus new_minus (plain_view view.names arc))))
     (size : outer_count code view ≡ length new.crossings)
     (alike : (s : ℕ) → s < 2 ^ length new.crossings
     → SeeAlike code view (joint_state view t s) new (plain_view view.names arc) (joint_state (plain_view view.names arc) 0 s))
@@ -83,10 +83,10 @@ module _ (p h : ℕ) (code new : Code) (plus minus new_plus new_minus : ℕ) (vi
   plain = plain_view view.names arc
 
   abbrev layers : Layers
-  layers = deformed_layers p h code plus minus view
+  layers = view_layers p h code plus minus view
 
   abbrev single : Layers
-  single = deformed_layers p h new new_plus new_minus plain
+  single = view_layers p h new new_plus new_minus plain
 
   abbrev object : ℕ
   object = object_of view t c
@@ -139,12 +139,12 @@ module _ (p h : ℕ) (code new : Code) (plus minus new_plus new_minus : ℕ) (vi
         };
         outer = λ s next label other below next_below differ label_below other_below.
             same-equal p (layers.outer object s next label other)
-            (deformed_outer p h (outer_count new plain) (ones view.inner t) (relation_of new plain 0) view.names s next label other)
+            (outer_number p h (outer_count new plain) (ones view.inner t) (relation_of new plain 0) view.names s next label other)
             (outer-alike p h (outer_count code view) (ones view.inner (inside_of view object)) (ones view.inner t)
             (relation_of code view object)
             (relation_of new plain 0) view.names s next label other (ap (λ (a : ℕ). ones view.inner a % 2) inside) (see s below)
             (see next next_below)
-            ∙ ap (λ (m : ℕ). deformed_outer p h m (ones view.inner t) (relation_of new plain 0) view.names s next label other)
+            ∙ ap (λ (m : ℕ). outer_number p h m (ones view.inner t) (relation_of new plain 0) view.names s next label other)
             (sym same-count))
             ∙ outer-turned p h (outer_count new plain) (ones view.inner t) (relation_of new plain 0) view.names s next label other positive;
         steps = λ s next label other below next_below differ label_below other_below.

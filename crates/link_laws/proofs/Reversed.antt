@@ -24,7 +24,7 @@ use Rattle.view_laws.specs.Views.{IsPlain, circle_at}
 use Rattle.view_laws.proofs.CircleNames.{HasCircles-accepted}
 use Rattle.view_laws.proofs.Renumbered.{old-plain}
 use Rattle.link_laws.specs.CodeSurvivors.{code_survivors}
-use Rattle.link_laws.proofs.SeenAlike.{survivors-plain}
+use Rattle.view_laws.proofs.PlainViews.{survivors-plain}
 
 module _ (code : Code) (holds : IsTrue (accepted code)) where
   abbrev middle : Code

@@ -11,13 +11,13 @@ use Rattle.cell_laws.specs.DeformedCubes.{deformed_cube_of}
 use Rattle.cell_laws.specs.Filtered.{AreFiltered, survivors}
 use Rattle.cell_laws.specs.Layers.{Layers, cells_of}
 use Rattle.cell_laws.proofs.FilteredCubes.{AreFiltered-cube}
-use Rattle.order_laws.proofs.ExchangedSurvivors.{survivors-reordered}
-use Rattle.view_laws.specs.DeformedLayers.{deformed_layers}
+use Rattle.order_laws.proofs.Orders.{survivors-reordered}
+use Rattle.view_laws.specs.ViewLayers.{view_layers}
 use Rattle.view_laws.specs.Partitions.{AgreeOn}
 use Rattle.view_laws.specs.ViewLayers.{outer_count}
 use Rattle.view_laws.specs.Views.{HasCircles, IsView, View, together}
 use Rattle.view_laws.proofs.CircleNames.{HasCircles-accepted}
-use Rattle.view_laws.proofs.DeformedInner.{filtered-cut, survivors-cut}
+use Rattle.view_laws.proofs.Cut.{filtered-cut, survivors-cut}
 use Rattle.layer_laws.specs.Cuts.{is_step}
 use Rattle.layer_laws.specs.FilteredCuts.{IsFilteredCut}
 use Rattle.layer_laws.specs.Slid.{IsMeasured, is_near, kind_after, kind_before}
@@ -68,10 +68,10 @@ module _ (p h : ℕ) (first second : Code) (first_view second_view : View) (clos
     circles_second = HasCircles-accepted second holds_second
 
     abbrev layers : Layers
-    layers = deformed_layers p h first plus minus first_view
+    layers = view_layers p h first plus minus first_view
 
     abbrev layers_second : Layers
-    layers_second = deformed_layers p h second plus minus second_view
+    layers_second = view_layers p h second plus minus second_view
 
     positive : 0 < p
     positive = omega (arith, above)

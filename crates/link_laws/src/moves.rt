@@ -13,8 +13,8 @@ ghost use Rattle.cell_laws.specs.Layers.{cells_of};
 ghost use Rattle.diagram_moves.specs.Moved.{moved};
 ghost use Rattle.diagram_moves.specs.declared.change.Move.{Move};
 ghost use Rattle.layer_laws.specs.FilteredCuts.{IsFilteredCut};
-ghost use Rattle.view_laws.specs.DeformedLayers.{deformed_layers};
-ghost use Rattle.view_laws.specs.DeformedPartitions.{deformed_saddle_number};
+ghost use Rattle.view_laws.specs.ViewLayers.{view_layers};
+ghost use Rattle.view_laws.specs.Partitions.{deformed_saddle_number};
 ghost use Rattle.view_laws.specs.Partitions.{seen_count};
 ghost use Rattle.view_laws.specs.Views.{HasCircles, View};
 ghost use Rattle.link_algebra.specs.Mirrors.{reversal_of};
@@ -27,11 +27,11 @@ ghost use Rattle.link_laws.specs.SeenBy.{IsSeenBy};
 pub fn views_are_cut()
     ensures { (p h : ℕ) (code : Code) (plus minus : ℕ) (view : View) (closing : ℕ) (kind : ℕ → ℕ)
         (relation : ℕ → ℕ → ℕ → ℕ → Bool) → IsSeenBy code view closing kind relation
-        → HasCircles code → 1 < p → AreFiltered p (cells_of (deformed_layers p h code plus minus view))
+        → HasCircles code → 1 < p → AreFiltered p (cells_of (view_layers p h code plus minus view))
         → IsFilteredCut p view.inner closing kind (λ i s. 2 ^ seen_count (relation i s) view.names)
         (λ i j s label other. deformed_saddle_number h (opposite p h) (relation i s) (relation j s)
         view.names label other)
-        (deformed_layers p h code plus minus view) }
+        (view_layers p h code plus minus view) }
 {}
 
 /// Every Reidemeister move keeps the survivors of the deformed cube, at each homological degree and

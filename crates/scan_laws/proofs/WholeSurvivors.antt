@@ -24,7 +24,7 @@ use Rattle.cell_laws.proofs.FilteredCubes.{AreFiltered-cube}
 use Rattle.cell_laws.proofs.LevelParts.{dimension-equal}
 use Rattle.order_laws.specs.Orders.{listed_by}
 use Rattle.order_laws.proofs.AnyOrder.{accepted-reordered}
-use Rattle.order_laws.proofs.ExchangedSurvivors.{survivors-reordered}
+use Rattle.order_laws.proofs.Orders.{survivors-reordered}
 use Rattle.order_laws.proofs.Orders.{dimension-reordered}
 use Rattle.scan_laws.specs.Scans.{Scan, first_scan}
 use Rattle.scan_laws.specs.Complexes.{complex_of}
