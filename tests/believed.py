@@ -22,6 +22,8 @@ STATEMENTS = (
     "link_laws::moves_keep_homology",
     "link_laws::links_have_one_table",
     "link_laws::links_have_one_polynomial",
+    "link_laws::links_have_one_last_page",
+    "link_laws::knots_have_one_s",
     "union_laws::unions_multiply_dimensions",
     "link_algebra::mirrors_are_dual",
     "cancel_log::logs_are_verified",

@@ -3,7 +3,7 @@
 
 pub mod blocks;
 pub mod coefficients;
-pub mod known;
-pub mod squares;
 pub mod deformed;
+pub mod known;
 pub mod known_deformed;
+pub mod squares;
