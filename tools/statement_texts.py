@@ -131,6 +131,13 @@ Two words more of the standard library: `get_or l k x` is the element of the lis
 `int_div_euclid` divides integers and rounds down, where the divisor is positive.
 """
 
+S_PREMISES = """\
+## The premises
+
+The laws ask that p has inverses, as 2, 3, 5 and 7 have by `small_primes_give_fields`, and that codes are accepted, or of one link. What
+these rest on is in [DEFINITIONS](DEFINITIONS.md#links).
+"""
+
 S_END = """\
 ## What is still trusted
 
@@ -198,9 +205,12 @@ S_LAWS = (
     "cell_laws::survivors_of_level_cells lasting",
     "cell_laws::reductions_count_survivors",
     "link_laws::survivors_at_zero_are_homology",
+    "link_laws::classes_survive_from_s_min_and_s_max",
     "link_laws::links_have_one_last_page",
     "link_laws::knots_have_one_s",
 )
+# The definitions that the premises of these laws name.
+S_PREMISE_WORDS = ("kh_types.specs.Residues.HasInverses", "link_laws.specs.Links.AreOneLink")
 
 WORDS = (
     ("slice_index slice_index_or", "`slice_index l k`, the element of the list l at the place k, counted from 0, and 0 past the end; \

@@ -49,7 +49,7 @@ pub added-terms : (p f : ℕ) (code : Code) (k smoothing : ℕ) (m n : List (ℕ
 added-terms p f code k smoothing m n label other old start new none one is =
     let count = sets_behind code k smoothing smoothing m n in
     let worth : Term → ℕ → ℕ =
-    λ term kept. term.coefficient * value (added_surface code k smoothing m n term.dots label other kept) in
+    λ term kept. term.coefficient * value 0 0 (added_surface code k smoothing m n term.dots label other kept) in
     let list = spread count worth old in
     record {
       dots = below-from p f count list start new none is (spread-below count worth old);
@@ -66,7 +66,7 @@ pub saddle-terms : (p f : ℕ) (code : Code) (k : ℕ) (m : List (ℕ × ℕ)) (
     → IsSum p start (scaled f (saddle_map code k m label other)) new → AreSaddleTerms p f code k m label other new
 saddle-terms p f code k m label other start new none is =
     let count = sets_behind code k 0 1 m m in
-    let worth : ℕ → ℕ = λ kept. value (saddle_surface code k m label other kept) in
+    let worth : ℕ → ℕ = λ kept. value 0 0 (saddle_surface code k m label other kept) in
     let list = all_terms count worth in
     record {
       dots = below-from p f count list start new none is (all-below worth count 0 count (omega arith));

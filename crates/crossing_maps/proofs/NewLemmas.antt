@@ -52,7 +52,7 @@ pub coefficients-made : (code : Code) (k first second : ℕ) (m n : List (ℕ ×
     (marks : ℕ) (term : Term) → ArePairs code k m n → AllByRecursion (λ x. Contains (near (step_at code k)) x) ds
     → AllByRecursion (λ x. Contains (near (step_at code k)) x) lowers → IsSeamAt code k first second m n ds lowers label other seam marks
     → HaveCoefficients (sets_behind code k first second m n)
-    (λ kept. term.coefficient * value (coefficient_sheet code k first second m n (marked term.dots ds) lowers label other kept))
+    (λ kept. term.coefficient * value 0 0 (coefficient_sheet code k first second m n (marked term.dots ds) lowers label other kept))
     (seam_behind seam (dotted_term marks 1 ∷ []) term)
 coefficients-made code k first second m n ds lowers label other seam marks term are all_ds all_lowers is =
     let joins = joins_there code k first second m n in
@@ -108,7 +108,7 @@ map_made p f code k smoothing m n label other seam marks terms old new are is su
     (least-contained points.size points.opened (m ++ n)) in
     IsSum-spread p f (sets_behind code k smoothing smoothing m n)
     (λ term kept. term.coefficient
-    * value (coefficient_sheet code k smoothing smoothing m n (marked term.dots (discs points m n)) points.opened label other kept))
+    * value 0 0 (coefficient_sheet code k smoothing smoothing m n (marked term.dots (discs points m n)) points.opened label other kept))
     (seam_behind seam (dotted_term marks 1 ∷ [])) terms old new (pow_pos (length (discs_behind code k smoothing smoothing m n)))
     (λ term. coefficients-made code k smoothing smoothing m n (discs points m n) points.opened label other seam marks term are faces lowers is) sum
 
@@ -159,12 +159,12 @@ saddle_made p f code k m label other seam marks old new are is sum =
     (λ pair has. opened-near code k pair.0 has.0) are.first) in
     let count = sets_behind code k 0 1 m m in
     let worth : Term → ℕ → ℕ =
-    λ term kept. term.coefficient * value (coefficient_sheet code k 0 1 m m (marked term.dots ds) strips label other kept) in
+    λ term kept. term.coefficient * value 0 0 (coefficient_sheet code k 0 1 m m (marked term.dots ds) strips label other kept) in
     subst (λ ts. IsSum p old (scaled f ts) new)
     (append-nil (all_terms count (worth (dotted_term 0 1)))
-    ∙ terms-alike (worth (dotted_term 0 1)) (λ kept. value (saddle_surface code k m label other kept)) (range_with_len 0 count)
-    (λ kept. one_time (value (coefficient_sheet code k 0 1 m m (marked 0 ds) strips label other kept))
-    ∙ ap (λ faces. value (coefficient_sheet code k 0 1 m m faces strips label other kept)) (unmarked 0 m)))
+    ∙ terms-alike (worth (dotted_term 0 1)) (λ kept. value 0 0 (saddle_surface code k m label other kept)) (range_with_len 0 count)
+    (λ kept. one_time (value 0 0 (coefficient_sheet code k 0 1 m m (marked 0 ds) strips label other kept))
+    ∙ ap (λ faces. value 0 0 (coefficient_sheet code k 0 1 m m faces strips label other kept)) (unmarked 0 m)))
     (IsSum-spread p f count worth (seam_behind seam (dotted_term marks 1 ∷ [])) (dotted_term 0 1 ∷ []) old new
     (pow_pos (length (discs_behind code k 0 1 m m)))
     (λ term. coefficients-made code k 0 1 m m ds strips label other seam marks term are faces lowers is) sum)

@@ -56,7 +56,7 @@ on-alike points f g at within alike =
 -- the value of a surface, by classes of another size, both above the points
 pub value-sized : (limit n : ℕ) (points : List ℕ) (joins : List (ℕ × ℕ)) (at : Places) (kept dots label other : ℕ) → limit ≤ n
     → limit ≤ POINTS → AreJoins limit points joins → AreDistinct points → AreWithin points at → kept < 2 ^ length at.rims
-    → value (surface_at n points joins at kept dots label other)
+    → value 0 0 (surface_at n points joins at kept dots label other)
     ≡ product_over (factor_at (on (slice_index (classes_of POINTS joins)) at) dots label other) (least_points POINTS points joins)
     * count_by (nat_eq kept) (sets_at (least_points POINTS points joins) (on (slice_index (classes_of POINTS joins)) at) dots label other)
 value-sized limit n points joins at kept dots label other whole fits joined distinct within below =

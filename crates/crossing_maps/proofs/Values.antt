@@ -15,8 +15,9 @@ use Rattle.std.proofs.lemmas.Nat.{shr-shr}
 use Rattle.kh_types.specs.Bits.{bit}
 use Rattle.kh_types.specs.Classes.{classes_of, is_least}
 use Rattle.surface_laws.specs.Points.{least_points}
-use Rattle.surface_laws.specs.Surfaces.{Surface, factor, genus_on, is_component, marks_on, value, weight}
+use Rattle.surface_laws.specs.Surfaces.{Surface, genus_on, is_component, marks_on, plain_weight, value}
 use Rattle.surface_laws.proofs.Components.{AllByRecursion-at, AllByRecursion-weaker, list_any-contained, list_any-some}
+use Rattle.surface_laws.proofs.Factors.{value-plain}
 use Rattle.surface_laws.proofs.Products.{product_below-alike}
 use Rattle.surface_laws.proofs.TwoSides.{AllByRecursion-map}
 use Rattle.dotted_maps.specs.Choices.{choices}
@@ -91,14 +92,16 @@ same-components surface k joined =
     (ap (λ c. nat_eq c k) (eqb-true (slice_index classes found.0) found.0 least) ∙ found.2))
 
 abbrev part_of : Surface → ℕ → ℕ
-part_of surface k = weight (genus_on surface k) (marks_on surface k)
+part_of surface k = plain_weight (genus_on surface k) (marks_on surface k)
 
 pub value-listed : (surface : Surface) → AreJoins surface.size surface.places surface.joins → AreDistinct surface.places
-    → value surface ≡ product_over (part_of surface) (least_points surface.size surface.places surface.joins)
+    → value 0 0 surface ≡ product_over (part_of surface) (least_points surface.size surface.places surface.joins)
 value-listed surface joined distinct =
     let classes = classes_of surface.size surface.joins in
     let names = least_points surface.size surface.places surface.joins in
-    product_below-alike surface.size (factor surface) (λ k. cond (is_in names k) (part_of surface k) 1)
+    value-plain surface
+    ∙ product_below-alike surface.size (λ k. cond (is_component surface k) (part_of surface k) 1)
+    (λ k. cond (is_in names k) (part_of surface k) 1)
     (λ k below. ap (λ b. cond b (part_of surface k) 1) (same-components surface k joined))
     ∙ product-distinct surface.size (part_of surface) names
     (AllByRecursion-filter (λ x. x < surface.size) (is_least classes) surface.places joined.below)
@@ -117,25 +120,25 @@ places-named size places joins xs joined within =
 
 -- the factor of a component
 
-weight-split : (g d u : ℕ) → weight g (u + d) ≡ factor_for (d + g) g * one_if (nat_eq u (1 - (d + g)))
+weight-split : (g d u : ℕ) → plain_weight g (u + d) ≡ factor_for (d + g) g * one_if (nat_eq u (1 - (d + g)))
 weight-split g d u = elim (cases_eq (d + g) 0) [
   | inl none ↦ spheres g d u none
   | inr some ↦ elim (cases_eq (d + g) 1) [ inl one ↦ loaded g d u one | inr more ↦ heavy g d u some more ]
 ]
   where
-    spheres : (g d u : ℕ) → d + g ≡ 0 → weight g (u + d) ≡ factor_for (d + g) g * one_if (nat_eq u (1 - (d + g)))
+    spheres : (g d u : ℕ) → d + g ≡ 0 → plain_weight g (u + d) ≡ factor_for (d + g) g * one_if (nat_eq u (1 - (d + g)))
     spheres g d u none = grind (arith, nat_tests)
 
-    loaded : (g d u : ℕ) → d + g ≡ 1 → weight g (u + d) ≡ factor_for (d + g) g * one_if (nat_eq u (1 - (d + g)))
+    loaded : (g d u : ℕ) → d + g ≡ 1 → plain_weight g (u + d) ≡ factor_for (d + g) g * one_if (nat_eq u (1 - (d + g)))
     loaded g d u one = elim (cases_eq g 0) [ inl flat ↦ dotted g d u one flat | inr torus ↦ holed g d u one torus ]
       where
-        dotted : (g d u : ℕ) → d + g ≡ 1 → g ≡ 0 → weight g (u + d) ≡ factor_for (d + g) g * one_if (nat_eq u (1 - (d + g)))
+        dotted : (g d u : ℕ) → d + g ≡ 1 → g ≡ 0 → plain_weight g (u + d) ≡ factor_for (d + g) g * one_if (nat_eq u (1 - (d + g)))
         dotted g d u one flat = grind (arith, nat_tests)
 
-        holed : (g d u : ℕ) → d + g ≡ 1 → g ≢ 0 → weight g (u + d) ≡ factor_for (d + g) g * one_if (nat_eq u (1 - (d + g)))
+        holed : (g d u : ℕ) → d + g ≡ 1 → g ≢ 0 → plain_weight g (u + d) ≡ factor_for (d + g) g * one_if (nat_eq u (1 - (d + g)))
         holed g d u one torus = grind (arith, nat_tests)
 
-    heavy : (g d u : ℕ) → d + g ≢ 0 → d + g ≢ 1 → weight g (u + d) ≡ factor_for (d + g) g * one_if (nat_eq u (1 - (d + g)))
+    heavy : (g d u : ℕ) → d + g ≢ 0 → d + g ≢ 1 → plain_weight g (u + d) ≡ factor_for (d + g) g * one_if (nat_eq u (1 - (d + g)))
     heavy g d u some more = grind (arith, nat_tests)
 
 product-split : (w f : ℕ → ℕ) (test : ℕ → Bool) (xs : List ℕ) → ((k : ℕ) → w k ≡ f k * one_if (test k))
@@ -172,7 +175,7 @@ factor_at at dots label other k = factor_for (load_at at dots label other k) (ge
 
 pub value-chosen : (size : ℕ) (places : List ℕ) (joins : List (ℕ × ℕ)) (at : Places) (kept dots label other : ℕ)
     → AreJoins size places joins → AreDistinct places → AllByRecursion (λ x. Contains places x) at.rims → kept < 2 ^ length at.rims
-    → value (surface_at size places joins at kept dots label other)
+    → value 0 0 (surface_at size places joins at kept dots label other)
     ≡ product_over (factor_at (on (slice_index (classes_of size joins)) at) dots label other) (least_points size places joins)
     * count_by (nat_eq kept) (sets_at (least_points size places joins) (on (slice_index (classes_of size joins)) at) dots label other)
 value-chosen size places joins at kept dots label other joined distinct within below =
@@ -188,7 +191,7 @@ value-chosen size places joins at kept dots label other joined distinct within b
     value-listed surface joined distinct
     ∙ product-split (part_of surface) f test names
     (λ k.
-    ap₂ (λ g c. weight g c) (counted size places joins at.rims at.discs at.closed at.others at.lowers at.raises kept dots label other k)
+    ap₂ (λ g c. plain_weight g c) (counted size places joins at.rims at.discs at.closed at.others at.lowers at.raises kept dots label other k)
     (counted-marks size places joins at.rims at.discs at.closed at.others at.lowers at.raises kept dots label other k)
     ∙ weight-split (genus_at here k) (rest_at here dots label other k) (blanks_on k kept ks)
     ∙ ap (λ u. f k * one_if (nat_eq u (left k))) (blanks-zeros k kept 0 ks ∙ ap (zeros ks k) (whole-number kept)))

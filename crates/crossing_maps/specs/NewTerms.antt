@@ -22,7 +22,7 @@ sets_behind code k first second m n = 2 ^ length (discs_behind code k first seco
 abbrev pub new_terms : Code → ℕ → ℕ → List (ℕ × ℕ) → List (ℕ × ℕ) → ℕ → ℕ → Term → List Term
 new_terms code k smoothing m n label other term =
     all_terms (sets_behind code k smoothing smoothing m n)
-    (λ kept. term.coefficient * value (added_surface code k smoothing m n term.dots label other kept))
+    (λ kept. term.coefficient * value 0 0 (added_surface code k smoothing m n term.dots label other kept))
 
 -- what a map becomes
 abbrev pub new_map : Code → ℕ → ℕ → List (ℕ × ℕ) → List (ℕ × ℕ) → ℕ → ℕ → List Term → List Term
@@ -31,7 +31,7 @@ new_map code k smoothing m n label other terms = flat_map (new_terms code k smoo
 -- the saddle of a pairing
 abbrev pub saddle_map : Code → ℕ → List (ℕ × ℕ) → ℕ → ℕ → List Term
 saddle_map code k m label other =
-    all_terms (sets_behind code k 0 1 m m) (λ kept. value (saddle_surface code k m label other kept))
+    all_terms (sets_behind code k 0 1 m m) (λ kept. value 0 0 (saddle_surface code k m label other kept))
 
 -- the arc at which a pair's disc is
 abbrev pub first_end : ℕ × ℕ → ℕ
@@ -43,10 +43,10 @@ pub record AreAddedTerms (p : ℕ) (code : Code) (k smoothing : ℕ) (m n : List
   pub dots : HaveDotsBelow (sets_behind code k smoothing smoothing m n) new
   pub coefficients : (kept : ℕ) → kept < sets_behind code k smoothing smoothing m n
       → Same p (coefficient_in new kept)
-      (sum_by (λ term. term.coefficient * value (added_surface code k smoothing m n term.dots label other kept)) old)
+      (sum_by (λ term. term.coefficient * value 0 0 (added_surface code k smoothing m n term.dots label other kept)) old)
 
 -- terms are a multiple of the saddle of a pairing, modulo p: the coefficient of a dot set is that of the number of the saddle's surface
 pub record AreSaddleTerms (p factor : ℕ) (code : Code) (k : ℕ) (m : List (ℕ × ℕ)) (label other : ℕ) (new : List Term) : Type 0 where
   pub dots : HaveDotsBelow (sets_behind code k 0 1 m m) new
   pub coefficients : (kept : ℕ) → kept < sets_behind code k 0 1 m m
-      → Same p (coefficient_in new kept) (factor * value (saddle_surface code k m label other kept))
+      → Same p (coefficient_in new kept) (factor * value 0 0 (saddle_surface code k m label other kept))

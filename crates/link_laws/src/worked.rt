@@ -21,17 +21,17 @@ pub fn worked_links()
 /// Of the left-handed trefoil both classes of degree 0 survive from -3 on, and one from -1 on; of
 /// the unknot with a curl both from -1 on, and one from 1 on.
 pub fn known_survivors()
-    ensures trefoil { map (code_survivors 3 1 trefoil (pos 0))
+    ensures code_survivors_trefoil { map (code_survivors 3 1 trefoil (pos 0))
         (neg_ℤ (pos 4) ∷ neg_ℤ (pos 3) ∷ neg_ℤ (pos 2) ∷ neg_ℤ (pos 1) ∷ pos 0 ∷ []) ≡ 2 ∷ 2 ∷ 1 ∷ 1 ∷ 0 ∷ [] }
-    ensures curl { map (code_survivors 3 1 curl (pos 0))
+    ensures code_survivors_curl { map (code_survivors 3 1 curl (pos 0))
         (neg_ℤ (pos 2) ∷ neg_ℤ (pos 1) ∷ pos 0 ∷ pos 1 ∷ pos 2 ∷ []) ≡ 2 ∷ 2 ∷ 1 ∷ 1 ∷ 0 ∷ [] }
 {}
 
 /// Over the fields of two and of three elements s is 0 for the unknot, as a loop and with a curl,
 /// -2 for the left-handed trefoil, and 2 for the right-handed one (Rasmussen 2010).
 pub fn known_s()
-    ensures unknot { (s 2 one_loop ≡ pos 0) × (s 3 one_loop ≡ pos 0) }
-    ensures curl { (s 2 curl ≡ pos 0) × (s 3 curl ≡ pos 0) }
-    ensures left { (s 2 trefoil ≡ neg_ℤ (pos 2)) × (s 3 trefoil ≡ neg_ℤ (pos 2)) }
-    ensures right { (s 2 (mirror_of trefoil) ≡ pos 2) × (s 3 (mirror_of trefoil) ≡ pos 2) }
+    ensures s_unknot { (s 2 one_loop ≡ pos 0) × (s 3 one_loop ≡ pos 0) }
+    ensures s_curl { (s 2 curl ≡ pos 0) × (s 3 curl ≡ pos 0) }
+    ensures s_left { (s 2 trefoil ≡ neg_ℤ (pos 2)) × (s 3 trefoil ≡ neg_ℤ (pos 2)) }
+    ensures s_right { (s 2 (mirror_of trefoil) ≡ pos 2) × (s 3 (mirror_of trefoil) ≡ pos 2) }
 {}

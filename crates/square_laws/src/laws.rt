@@ -5,5 +5,4 @@ pub mod blocks;
 pub mod coefficients;
 pub mod deformed;
 pub mod known;
-pub mod known_deformed;
 pub mod squares;

@@ -174,15 +174,15 @@ pub IsSum-matrix : (p : ℕ) (points : Points) (m n o w : List (ℕ × ℕ)) (fi
     → ArePlaced points → IsOpenPairing points m → AreGlued points m n w → AreGlued points n o w → AreGlued points m o w
     → AreGlued (inner points) m o n → AreDotted points m o old
     → IsSum p old (scaled factor (listed points m n o first second)) sum
-    → matrix_of p points m o w sum row column
-    ≡ (matrix_of p points m o w old row column
-    + factor * product_at (2 ^ length (circles points n w)) (matrix_of p points n o w second) (matrix_of p points m n w first) row column)
+    → matrix_of p 0 0 points m o w sum row column
+    ≡ (matrix_of p 0 0 points m o w old row column
+    + factor * product_at (2 ^ length (circles points n w)) (matrix_of p 0 0 points n o w second) (matrix_of p 0 0 points m n w first) row column)
     % p
 IsSum-matrix p points m n o w first second old sum factor row column placed pairing before onward across inside dotted is =
     let list = listed points m n o first second in
     let made = IsComposition-listed p points m n o first second
     record { placed = placed; pairing = pairing; first = before.first; second = before.second; third = across.second } in
-    matrix-same p points m o w sum (old ++ scaled factor list) row column
+    matrix-same p 0 0 points m o w sum (old ++ scaled factor list) row column
     (IsSum-map p points m o old (scaled factor list) sum dotted (scaled-below factor (2 ^ length (discs points m o)) list made.dots) is)
-    ∙ matrix-added p points m n o w first second list old factor row column
+    ∙ matrix-added p 0 0 points m n o w first second list old factor row column refl
     record { placed = placed; first = before; second = onward; whole = across; inside = inside } made

@@ -8,10 +8,11 @@ use Rattle.std.specs.List.{count_by, sum_by, enumerate_from, AllByRecursion}
 use Rattle.std.proofs.lemmas.List.Sums.{sum_by-cons}
 use Rattle.kh_types.specs.Bits.{bit}
 use Rattle.kh_types.specs.Classes.{classes_of, is_least}
+use Rattle.surface_laws.specs.Surfaces.{weight}
 use Rattle.surface_laws.specs.Points.{ArePlaced, AreAmong, IsOpenPairing, discs, least_points}
 use Rattle.surface_laws.proofs.Components.{AllByRecursion-weaker}
 use Rattle.dotted_maps.specs.Composition.{composed}
-use Rattle.dotted_maps.specs.Parts.{components, component_in, dotted_on, undotted_on, genus_in, part_at, part_coefficient, product_over}
+use Rattle.dotted_maps.specs.Parts.{components, component_in, dotted_on, undotted_on, genus_in, part_at, product_over}
 use Rattle.dotted_maps.proofs.ComponentParts.{composed-parts}
 use Rattle.dotted_maps.proofs.LeastPoints.{AllByRecursion-filter, AreAmong-append, AreBelow-among, all-themselves}
 use Rattle.tangle_maps.specs.Pairings.{numbered}
@@ -69,9 +70,9 @@ on-discs P n opened joins all = AllByRecursion-filter P (is_least (classes_of n 
 abbrev formula : ℕ → ℕ → ℕ → ℕ → ℕ
 formula arcs whole first second = (arcs + 4 - 2 * (whole + (first + second))) / 4
 
-parts-agree : (n k : ℕ) (opened : List ℕ) (m c o : List (ℕ × ℕ)) (dots others kept x : ℕ) → AreSized n k opened m c o
-    → part_at (numbered k opened) m c o dots others kept x ≡ part_at (numbered n opened) m c o dots others kept x
-parts-agree n k opened m c o dots others kept x is =
+parts-agree : (h minus n k : ℕ) (opened : List ℕ) (m c o : List (ℕ × ℕ)) (dots others kept x : ℕ) → AreSized n k opened m c o
+    → part_at h minus (numbered k opened) m c o dots others kept x ≡ part_at h minus (numbered n opened) m c o dots others kept x
+parts-agree h minus n k opened m c o dots others kept x is =
     let f = component_in (numbered k opened) m c o in
     let g = component_in (numbered n opened) m c o in
     let arcs = classes-agree n k opened m c o is in
@@ -100,32 +101,32 @@ parts-agree n k opened m c o dots others kept x is =
     (sum (bit dots) (least_points k opened (m ++ c)) (few m c) mc (on (m ++ c) arcs))
     (sum (bit others) (least_points k opened (c ++ o)) (few c o) co (on (c ++ o) arcs)) in
     let undotted = sum (λ i. 1 - bit kept i) (least_points k opened (m ++ o)) (few m o) mo (on (m ++ o) arcs) in
-    ap₂ (λ a b. part_coefficient a b (undotted_on (numbered k opened) m c o x kept (least_points k opened (m ++ o)))) genus dotted
-    ∙ ap (part_coefficient (genus_in (numbered n opened) m c o x)
+    ap₂ (λ a b. weight h minus a b (undotted_on (numbered k opened) m c o x kept (least_points k opened (m ++ o)))) genus dotted
+    ∙ ap (weight h minus (genus_in (numbered n opened) m c o x)
     (dotted_on (numbered n opened) m c o x dots (few m c) + dotted_on (numbered n opened) m c o x others (few c o))) undotted
 
-pub composed-size : (n k : ℕ) (opened : List ℕ) (m c o : List (ℕ × ℕ)) (dots others kept : ℕ) → n ≤ k → ArePlaced (numbered n opened)
+pub composed-size : (h minus n k : ℕ) (opened : List ℕ) (m c o : List (ℕ × ℕ)) (dots others kept : ℕ) → n ≤ k → ArePlaced (numbered n opened)
     → IsOpenPairing (numbered n opened) m → AreAmong opened m → AreAmong opened c → AreAmong opened o
-    → composed (numbered k opened) m c o dots others kept ≡ composed (numbered n opened) m c o dots others kept
-composed-size n k opened m c o dots others kept within placed pairing first second third =
+    → composed h minus (numbered k opened) m c o dots others kept ≡ composed h minus (numbered n opened) m c o dots others kept
+composed-size h minus n k opened m c o dots others kept within placed pairing first second third =
     let is : AreSized n k opened m c o =
     record { within = within; below = placed.alive; first = first; second = second; third = third } in
     let wider : ArePlaced (numbered k opened) = record {
       alive = AllByRecursion-weaker (λ x. x < n) (λ x. x < k) opened (λ x small. omega (arith, small, within)) placed.alive;
       opened = all-themselves opened;
     } in
-    composed-parts (numbered k opened) m c o dots others kept wider record { ends = pairing.ends; once = pairing.once }
+    composed-parts h minus (numbered k opened) m c o dots others kept wider record { ends = pairing.ends; once = pairing.once }
     first second third
-    ∙ product-alike (part_at (numbered k opened) m c o dots others kept) (part_at (numbered n opened) m c o dots others kept)
-    (components (numbered k opened) m c o) (λ x. parts-agree n k opened m c o dots others kept x is)
-    ∙ ap (product_over (part_at (numbered n opened) m c o dots others kept))
+    ∙ product-alike (part_at h minus (numbered k opened) m c o dots others kept) (part_at h minus (numbered n opened) m c o dots others kept)
+    (components (numbered k opened) m c o) (λ x. parts-agree h minus n k opened m c o dots others kept x is)
+    ∙ ap (product_over (part_at h minus (numbered n opened) m c o dots others kept))
     (discs-agree n k opened (m ++ (o ++ c)) within placed.alive
     (AreAmong-append opened m (o ++ c) first (AreAmong-append opened o c third second)))
-    ∙ sym (composed-parts (numbered n opened) m c o dots others kept placed pairing first second third)
+    ∙ sym (composed-parts h minus (numbered n opened) m c o dots others kept placed pairing first second third)
 
-pub composed-sizes : (l n k : ℕ) (opened : List ℕ) (m c o : List (ℕ × ℕ)) (dots others kept : ℕ) → l ≤ n → l ≤ k
+pub composed-sizes : (h minus l n k : ℕ) (opened : List ℕ) (m c o : List (ℕ × ℕ)) (dots others kept : ℕ) → l ≤ n → l ≤ k
     → ArePlaced (numbered l opened) → IsOpenPairing (numbered l opened) m → AreAmong opened m → AreAmong opened c → AreAmong opened o
-    → composed (numbered k opened) m c o dots others kept ≡ composed (numbered n opened) m c o dots others kept
-composed-sizes l n k opened m c o dots others kept first_within second_within placed pairing first second third =
-    composed-size l k opened m c o dots others kept second_within placed pairing first second third
-    ∙ sym (composed-size l n opened m c o dots others kept first_within placed pairing first second third)
+    → composed h minus (numbered k opened) m c o dots others kept ≡ composed h minus (numbered n opened) m c o dots others kept
+composed-sizes h minus l n k opened m c o dots others kept first_within second_within placed pairing first second third =
+    composed-size h minus l k opened m c o dots others kept second_within placed pairing first second third
+    ∙ sym (composed-size h minus l n opened m c o dots others kept first_within placed pairing first second third)

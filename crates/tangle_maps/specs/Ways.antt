@@ -42,12 +42,12 @@ listed_along way = listed (points_on way) (joins_from way) (joins_over way) (joi
 -- a sum of terms is the composition of the maps of a way, modulo p
 abbrev pub IsComposedAlong : ℕ → Way → List Term → Type 0
 IsComposedAlong p way terms =
-    IsComposition p (points_on way) (joins_from way) (joins_over way) (joins_to way) way.first.now way.second.now terms
+    IsComposition p 0 0 (points_on way) (joins_from way) (joins_over way) (joins_to way) way.first.now way.second.now terms
 
 -- the coefficient of a dot set in that composition
 abbrev pub composed_along : Way → ℕ → ℕ
 composed_along way kept =
-    composed_in (points_on way) (joins_from way) (joins_over way) (joins_to way) way.first.now way.second.now kept
+    composed_in 0 0 (points_on way) (joins_from way) (joins_over way) (joins_to way) way.first.now way.second.now kept
 
 -- the dots of each term are dots of discs of the first pairing and the third
 abbrev pub AreDottedAlong : Way → List Term → Type 0

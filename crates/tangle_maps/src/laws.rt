@@ -57,10 +57,10 @@ pub fn sums_are_maps()
         → IsOpenPairing points m → AreGlued points m n w → AreGlued points n o w → AreGlued points m o w
         → AreGlued (inner points) m o n → AreDotted points m o old
         → IsSum p old (scaled factor (listed points m n o first second)) sum
-        → matrix_of p points m o w sum row column
-        ≡ (matrix_of p points m o w old row column
-        + factor * product_at (2 ^ length (circles points n w)) (matrix_of p points n o w second)
-        (matrix_of p points m n w first) row column) % p }
+        → matrix_of p 0 0 points m o w sum row column
+        ≡ (matrix_of p 0 0 points m o w old row column
+        + factor * product_at (2 ^ length (circles points n w)) (matrix_of p 0 0 points n o w second)
+        (matrix_of p 0 0 points m n w first) row column) % p }
 {}
 
 /// Classes and discs of arcs, and compositions, do not depend on the size, where the arcs are below
@@ -71,11 +71,11 @@ pub fn sizes_do_not_matter()
     ensures least { (n k : ℕ) (points : List ℕ) (joins : List (ℕ × ℕ)) → n ≤ k
         → AllByRecursion (λ x. x < n) points → AreBelow n joins
         → least_points k points joins ≡ least_points n points joins }
-    ensures composed { (n k : ℕ) (opened : List ℕ) (m c o : List (ℕ × ℕ)) (dots others kept : ℕ)
+    ensures composed { (h minus n k : ℕ) (opened : List ℕ) (m c o : List (ℕ × ℕ)) (dots others kept : ℕ)
         → n ≤ k → ArePlaced (numbered n opened) → IsOpenPairing (numbered n opened) m
         → AreAmong opened m → AreAmong opened c → AreAmong opened o
-        → composed (numbered k opened) m c o dots others kept
-        ≡ composed (numbered n opened) m c o dots others kept }
+        → composed h minus (numbered k opened) m c o dots others kept
+        ≡ composed h minus (numbered n opened) m c o dots others kept }
 {}
 
 /// Nor do they where two sizes are both above the arcs, whichever of them is the greater: so loops,
@@ -86,9 +86,9 @@ pub fn sizes_above_arcs_do_not_matter()
     ensures least { (l n k : ℕ) (points : List ℕ) (joins : List (ℕ × ℕ)) → l ≤ n → l ≤ k
         → AllByRecursion (λ x. x < l) points → AreBelow l joins
         → least_points k points joins ≡ least_points n points joins }
-    ensures composed { (l n k : ℕ) (opened : List ℕ) (m c o : List (ℕ × ℕ)) (dots others kept : ℕ)
+    ensures composed { (h minus l n k : ℕ) (opened : List ℕ) (m c o : List (ℕ × ℕ)) (dots others kept : ℕ)
         → l ≤ n → l ≤ k → ArePlaced (numbered l opened) → IsOpenPairing (numbered l opened) m
         → AreAmong opened m → AreAmong opened c → AreAmong opened o
-        → composed (numbered k opened) m c o dots others kept
-        ≡ composed (numbered n opened) m c o dots others kept }
+        → composed h minus (numbered k opened) m c o dots others kept
+        ≡ composed h minus (numbered n opened) m c o dots others kept }
 {}

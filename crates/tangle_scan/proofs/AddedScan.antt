@@ -167,7 +167,7 @@ module _ (p : ℕ) (adding : Adding) (made : TangleComplex) (all : AreAllMade p 
   origins-are-once : HasNoDoubles (all_origins adding)
   origins-are-once = origins-once code_here scan_here all.of.once
 
-  pub scan-made : IsAdding p code_here scan_here scan_made
+  pub scan-made : IsAdding p 0 0 code_here scan_here scan_made
   scan-made = record {
     within = all.ready.place.crossing;
     done = refl;

@@ -375,7 +375,7 @@ module _ (p : ℕ) (front : Front) (start left : Rowed) (taken : Taken) (turn : 
     pairs-next : (z : ℕ) → z < length old → pairs_of next_scan z ≡ joins_of (partners_at new z) turn.opened.now
     pairs-next z below = ap (λ (object : scans.Object). object.pairs) (same-object z) ∙ pairs-scan z below
 
-    number-there : IsNumber p code scan tail head turn.pivot.number
+    number-there : IsNumber p 0 0 code scan tail head turn.pivot.number
     number-there =
         record {
           pairs = pairs-there front.opened.items old head head-within
@@ -438,7 +438,7 @@ module _ (p : ℕ) (front : Front) (start left : Rowed) (taken : Taken) (turn : 
     terms-next : (x y kept : ℕ) → Contains next_scan.numbers x → Contains next_scan.numbers y → kept < dot_sets code next_scan x y
         → Same p
         (coefficient_in (terms_between next x y) kept
-        + way_coefficient p code scan tail head turn.pivot.number x y kept)
+        + way_coefficient p 0 0 code scan tail head turn.pivot.number x y kept)
         (coefficient_in (terms_between before x y) kept)
     terms-next x y kept has_x has_y kept_below =
         let points = points_at code front.done in
@@ -452,7 +452,7 @@ module _ (p : ℕ) (front : Front) (start left : Rowed) (taken : Taken) (turn : 
         (terms_between next x y) (paired-there x below_x) (paired-there tail tail-within) (paired-there y below_y)
         (less-at x y has_x has_y) kept (omega (arith, kept_below, sets)) in
         let way = λ (m h o : List (ℕ × ℕ)).
-        composed_in points m h o (terms_between before x head) (terms_between before tail y) kept in
+        composed_in 0 0 points m h o (terms_between before x head) (terms_between before tail y) kept in
         let moved : way (pairs_of scan x) (pairs_of scan tail) (pairs_of scan y)
         ≡ way (joins_of (partners_at new x) turn.opened.now) (joins_of (partners_at new tail) turn.opened.now)
         (joins_of (partners_at new y) turn.opened.now) =
@@ -463,7 +463,7 @@ module _ (p : ℕ) (front : Front) (start left : Rowed) (taken : Taken) (turn : 
         (pairs-scan y below_y) in
         ap (λ n. (coefficient_in (terms_between next x y) kept + inverse p turn.pivot.number * n) % p) moved ∙ by
 
-    pub eliminated : (step : IsEliminating p code scan next_scan) × ((step.tail ≡ tail) × (step.head ≡ head))
+    pub eliminated : (step : IsEliminating p 0 0 code scan next_scan) × ((step.tail ≡ tail) × (step.head ≡ head))
     eliminated = (
       record {
         done = refl;

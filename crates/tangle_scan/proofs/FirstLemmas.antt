@@ -71,9 +71,9 @@ module _ (complex : TangleComplex) (is : IsFirstComplex complex) where
   abbrev seen : List ℕ → Scan
   seen numbers = record { done = 0; numbers = numbers; object = object_at [] objects; terms = terms_between complex }
 
-  seen-reached : (p : ℕ) (code : Code) → IsReached p code (seen (0 ∷ []))
+  seen-reached : (p : ℕ) (code : Code) → IsReached p 0 0 code (seen (0 ∷ []))
   seen-reached p code =
-      reached-step p code first_scan (seen (0 ∷ [])) (reached-first p code)
+      reached-step p 0 0 code first_scan (seen (0 ∷ [])) (reached-first p 0 0 code)
       (IsScanStep.renumbered (record {
         done = refl;
         number = λ x. x;
@@ -93,8 +93,8 @@ module _ (complex : TangleComplex) (is : IsFirstComplex complex) where
         terms = λ x y kept has_x has_y below. ap (λ (terms : List Term). coefficient_in terms kept % p) (no-terms x y);
       }))
 
-  pub first-reached : (p : ℕ) (code : Code) → IsReached p code (scan_behind 0 [] complex)
-  first-reached p code = subst (λ numbers. IsReached p code (seen numbers)) (sym one-place) (seen-reached p code)
+  pub first-reached : (p : ℕ) (code : Code) → IsReached p 0 0 code (scan_behind 0 [] complex)
+  first-reached p code = subst (λ numbers. IsReached p 0 0 code (seen numbers)) (sym one-place) (seen-reached p code)
 
   pub first-pivots : HasNoPivot complex
   first-pivots tail head number pivot =

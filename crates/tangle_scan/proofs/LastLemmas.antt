@@ -176,7 +176,7 @@ module _ (p : ℕ) (held : Scanned) (field : HasInverses p) (is : IsTrue (accept
             }))
       ]
 
-  pub last-scan : IsLast p held.front.diagram scan
+  pub last-scan : IsLast p 0 0 held.front.diagram scan
   last-scan =
       record {
         done = done;

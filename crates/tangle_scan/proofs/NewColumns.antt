@@ -136,7 +136,7 @@ module _ (p : ℕ) (adding : Adding) where
   -- a target has its terms
   pub target-right : (from : Origin) (targets : List Origin) (column : List Entry) (to : Origin) (y kept : ℕ)
       → HasEntriesTo p adding from targets column → HasNoDoubles (all_origins adding) → Contains targets to → StandsAt adding to y
-      → HasNoEntryAt column y → kept < sets_from adding from to → Same p 0 (new_coefficient p code_here scan_here from to kept)
+      → HasNoEntryAt column y → kept < sets_from adding from to → Same p 0 (new_coefficient p 0 0 code_here scan_here from to kept)
   target-right from targets column to y kept has once there stands none below =
       let found = zip-there (IsEntryTo p adding from) targets has.all to has.each there in
       let entry = found.0 in
@@ -167,12 +167,12 @@ module _ (p : ℕ) (adding : Adding) where
   -- where the column has no entry the coefficient is 0
   pub no-entry-right : (from to : Origin) (column : List Entry) (y kept : ℕ) → IsColumnFrom p adding from column
       → HasNoDoubles (all_origins adding) → IsOrigin code_here scan_here to → StandsAt adding to y → HasNoEntryAt column y
-      → kept < sets_from adding from to → Same p 0 (new_coefficient p code_here scan_here from to kept)
+      → kept < sets_from adding from to → Same p 0 (new_coefficient p 0 0 code_here scan_here from to kept)
   no-entry-right from to column y kept is once origin stands none below =
       let old = column_at adding.complex.now from.object in
       let targets = flat_map (targets_along adding from.smoothing) (map head_of old) in
-      let added = added_coefficient code_here scan_here from to kept in
-      let saddle = saddle_coefficient p code_here scan_here from to kept in
+      let added = added_coefficient 0 0 code_here scan_here from to kept in
+      let saddle = saddle_coefficient p 0 0 code_here scan_here from to kept in
       let is_saddle = nat_eq from.object to.object && nat_eq from.smoothing 0 in
       elim (cases_Bool (nat_eq from.smoothing to.smoothing)) [
         | inl alike ↦ elim (entry-cases old to.object) [
@@ -185,13 +185,13 @@ module _ (p : ℕ) (adding : Adding) where
               (sym (eqb-true from.smoothing to.smoothing alike)) (along-has to origin))))
               stands none below
           | inr nothing ↦
-              same-equal p 0 (new_coefficient p code_here scan_here from to kept)
+              same-equal p 0 (new_coefficient p 0 0 code_here scan_here from to kept)
               (sym (ap (λ b. cond b added (cond is_saddle saddle 0)) alike
               ∙ ap
               (λ (ts : List Term).
               sum_by
               (λ term. term.coefficient
-              * value (added_surface code_here scan_here.done from.smoothing (pairs_of scan_here from.object) (pairs_of scan_here to.object)
+              * value 0 0 (added_surface code_here scan_here.done from.smoothing (pairs_of scan_here from.object) (pairs_of scan_here to.object)
               term.dots from.label to.label kept))
               ts)
               nothing.terms))
@@ -209,7 +209,7 @@ module _ (p : ℕ) (adding : Adding) where
               (subst (λ (e : ℕ). Contains (with to.object e) to) one (with-has to origin)))))
               stands none below
           | inr fails ↦
-              same-equal p 0 (new_coefficient p code_here scan_here from to kept)
+              same-equal p 0 (new_coefficient p 0 0 code_here scan_here from to kept)
               (sym (ap₂ (λ b c. cond b added (cond c saddle 0)) differ fails))
         ]
       ]
@@ -223,7 +223,7 @@ module _ (p : ℕ) (adding : Adding) where
   -- a new map has the new coefficients
   pub column-right : (from to : Origin) (column : List Entry) (y kept : ℕ) → IsColumnFrom p adding from column
       → HasNoDoubles (all_origins adding) → IsOrigin code_here scan_here to → StandsAt adding to y → kept < sets_from adding from to
-      → Same p (coefficient_in (terms_to column y) kept) (new_coefficient p code_here scan_here from to kept)
+      → Same p (coefficient_in (terms_to column y) kept) (new_coefficient p 0 0 code_here scan_here from to kept)
   column-right from to column y kept is once origin stands below = elim (entry-cases column y) [
     | inl found ↦
         let right = entry-right from (targets_of adding from) column found.entry is found.has in

@@ -70,11 +70,11 @@ entry-added p adding from to m n old entry same_m same_n same_old smoothing stan
       terms = λ kept below.
           there.coefficients kept
           (subst (λ e. kept < sets_behind code k from.smoothing e first second) (sym smoothing) below)
-          ∙ same-equal p (added_coefficient code scan from to kept) (new_coefficient p code scan from to kept)
+          ∙ same-equal p (added_coefficient 0 0 code scan from to kept) (new_coefficient p 0 0 code scan from to kept)
           (sym (ap
           (λ b.
-          cond b (added_coefficient code scan from to kept)
-          (cond (nat_eq from.object to.object && nat_eq from.smoothing 0) (saddle_coefficient p code scan from to kept) 0))
+          cond b (added_coefficient 0 0 code scan from to kept)
+          (cond (nat_eq from.object to.object && nat_eq from.smoothing 0) (saddle_coefficient p 0 0 code scan from to kept) 0))
           (eq-eqb from.smoothing to.smoothing smoothing)));
     }
 
@@ -103,10 +103,10 @@ entry-saddled p adding from to m sign degree entry same_m same_object zero one s
       dots = subst (λ n. HaveDotsBelow n entry.terms.items) (sym sets) there.dots;
       terms = λ kept below.
           there.coefficients kept (subst (λ n. kept < n) sets below)
-          ∙ same-equal p (sign * value (saddle_surface code k first from.label to.label kept)) (new_coefficient p code scan from to kept)
-          (ap (λ s. s * value (saddle_surface code k first from.label to.label kept)) signs
+          ∙ same-equal p (sign * value 0 0 (saddle_surface code k first from.label to.label kept)) (new_coefficient p 0 0 code scan from to kept)
+          (ap (λ s. s * value 0 0 (saddle_surface code k first from.label to.label kept)) signs
           ∙ sym (ap₂
-          (λ b c. cond b (added_coefficient code scan from to kept) (cond c (saddle_coefficient p code scan from to kept) 0))
+          (λ b c. cond b (added_coefficient 0 0 code scan from to kept) (cond c (saddle_coefficient p 0 0 code scan from to kept) 0))
           (apart from.smoothing to.smoothing zero one)
           (ap₂ (λ b c. b && c) (eq-eqb from.object to.object same_object) (eq-eqb from.smoothing 0 zero))));
     }

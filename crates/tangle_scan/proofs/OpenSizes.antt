@@ -95,20 +95,20 @@ module _ (code : Code) (k : ℕ) (opened : List ℕ) (is : IsOpenAt code k opene
 
   composed-open : (m c o : List (ℕ × ℕ)) (dots others kept : ℕ) → AreAmong opened m → AreAmong opened c → AreAmong opened o
       → IsOpenPairing (opened_points opened) m
-      → composed (opened_points opened) m c o dots others kept ≡ composed (points_at code k) m c o dots others kept
+      → composed 0 0 (opened_points opened) m c o dots others kept ≡ composed 0 0 (points_at code k) m c o dots others kept
   composed-open m c o dots others kept first second third pairing =
       let placed : ArePlaced (numbered few opened) = record { alive = below; opened = all-themselves opened } in
       let pairs : IsOpenPairing (numbered few opened) m = record { ends = pairing.ends; once = pairing.once } in
-      composed-size few POINTS opened m c o dots others kept is.fits placed pairs first second third
-      ∙ sym (composed-size few size opened m c o dots others kept small placed pairs first second third)
-      ∙ ap (λ (xs : List ℕ). composed (numbered size xs) m c o dots others kept) is.open_arcs
+      composed-size 0 0 few POINTS opened m c o dots others kept is.fits placed pairs first second third
+      ∙ sym (composed-size 0 0 few size opened m c o dots others kept small placed pairs first second third)
+      ∙ ap (λ (xs : List ℕ). composed 0 0 (numbered size xs) m c o dots others kept) is.open_arcs
 
   composed_in-open : (m c o : List (ℕ × ℕ)) (first second : List Term) (kept : ℕ) → AreAmong opened m → AreAmong opened c
       → AreAmong opened o → IsOpenPairing (opened_points opened) m
-      → composed_in (opened_points opened) m c o first second kept ≡ composed_in (points_at code k) m c o first second kept
+      → composed_in 0 0 (opened_points opened) m c o first second kept ≡ composed_in 0 0 (points_at code k) m c o first second kept
   composed_in-open m c o first second kept m_among c_among o_among pairing =
-      let wide = composed (opened_points opened) m c o in
-      let here = composed (points_at code k) m c o in
+      let wide = composed 0 0 (opened_points opened) m c o in
+      let here = composed 0 0 (points_at code k) m c o in
       sum_by-alike
       (λ (term : Term). sum_by (λ (other : Term). term.coefficient * other.coefficient * wide term.dots other.dots kept) second)
       (λ (term : Term). sum_by (λ (other : Term). term.coefficient * other.coefficient * here term.dots other.dots kept) second)
@@ -129,7 +129,7 @@ module _ (code : Code) (k : ℕ) (opened : List ℕ) (is : IsOpenAt code k opene
       → Same p
       (coefficient_in new kept
       + inverse p c
-      * composed_in (points_at code k) (joins_of from opened) (joins_of over opened) (joins_of to opened) first second kept)
+      * composed_in 0 0 (points_at code k) (joins_of from opened) (joins_of over opened) (joins_of to opened) first second kept)
       (coefficient_in old kept)
   less-open p c from over to first second old new pairs_from pairs_over pairs_to less kept kept_below =
       let m = joins_of from opened in

@@ -18,8 +18,8 @@ use Rattle.tangle_scan.specs.Held.{IsColumn, IsComplexAt, alive_places, scan_at}
 use Rattle.tangle_scan.specs.Clearings.{HasEliminated}
 use Rattle.tangle_scan.specs.Eliminations.{HasOneEach, IsIndexed, IsRowed, IsRowedFrom}
 
-steps-both : (p : ℕ) (code : Code) (scan : Scan) (first second : List Scan) → AreSteps p code scan first
-    → AreSteps p code (last_of scan first) second → AreSteps p code scan (first ++ second)
+steps-both : (p : ℕ) (code : Code) (scan : Scan) (first second : List Scan) → AreSteps p 0 0 code scan first
+    → AreSteps p 0 0 code (last_of scan first) second → AreSteps p 0 0 code scan (first ++ second)
 steps-both p code scan [] second none rest = rest
 steps-both p code scan (next ∷ first) second (step, later) rest = (step, steps-both p code next first second later rest)
 
@@ -27,13 +27,13 @@ last-both : (scan : Scan) (first second : List Scan) → last_of scan (first ++ 
 last-both scan [] second = refl
 last-both scan (next ∷ first) second = last-both next first second
 
-pub leads-both : (p : ℕ) (code : Code) (scan middle next : Scan) → LeadsTo p code scan middle → LeadsTo p code middle next
-    → LeadsTo p code scan next
+pub leads-both : (p : ℕ) (code : Code) (scan middle next : Scan) → LeadsTo p 0 0 code scan middle → LeadsTo p 0 0 code middle next
+    → LeadsTo p 0 0 code scan next
 leads-both p code scan middle next first second =
     record {
       later = first.later ++ second.later;
       steps = steps-both p code scan first.later second.later first.steps
-          (subst (λ (at : Scan). AreSteps p code at second.later) (sym first.last) second.steps);
+          (subst (λ (at : Scan). AreSteps p 0 0 code at second.later) (sym first.last) second.steps);
       last = last-both scan first.later second.later ∙ ap (λ (at : Scan). last_of at second.later) first.last ∙ second.last;
     }
 
@@ -62,7 +62,7 @@ abbrev pub alive_count : TangleComplex → ℕ
 alive_count complex = sum_by (λ (x : ℕ). 1) (alive_places complex.objects.items)
 
 pub fewer : (p : ℕ) (front : Front) (before after : TangleComplex)
-    → IsEliminating p front.diagram (scan_at front before) (scan_at front after) → alive_count after < alive_count before
+    → IsEliminating p 0 0 front.diagram (scan_at front before) (scan_at front after) → alive_count after < alive_count before
 fewer p front before after step =
     let one : ℕ → ℕ = λ x. 1 in
     let left = alive_places after.objects.items in

@@ -33,7 +33,7 @@ less-no_first p c opened from over to second terms =
     record { coefficients = λ kept below. plus-none p (coefficient_in terms kept) (inverse p c); dots = λ are. are }
 
 no-second : (opened from over to : List ℕ) (first : List Term) (kept : ℕ)
-    → composed_in (opened_points opened) (joins_of from opened) (joins_of over opened) (joins_of to opened) first [] kept ≡ 0
+    → composed_in 0 0 (opened_points opened) (joins_of from opened) (joins_of over opened) (joins_of to opened) first [] kept ≡ 0
 no-second opened from over to first kept = sum_by-zeros (λ (term : Term). 0) first (λ term. refl)
 
 pub less-no_second : (p c : ℕ) (opened from over to : List ℕ) (first terms : List Term)

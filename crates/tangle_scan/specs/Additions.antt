@@ -166,7 +166,7 @@ pub record IsEntryTo (p : ℕ) (adding : Adding) (from to : Origin) (entry : Ent
   pub reduced : AreReduced p entry.terms.items
   pub dots : HaveDotsBelow (sets_from adding from to) entry.terms.items
   pub terms : (kept : ℕ) → kept < sets_from adding from to
-      → Same p (coefficient_in entry.terms.items kept) (new_coefficient p (code_in adding) (scan_in adding) from to kept)
+      → Same p (coefficient_in entry.terms.items kept) (new_coefficient p 0 0 (code_in adding) (scan_in adding) from to kept)
 
 abbrev pub has_terms : Entry → Bool
 has_terms entry = not (nat_eq (length entry.terms.items) 0)

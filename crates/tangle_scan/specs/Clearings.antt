@@ -21,7 +21,7 @@ pub record CanEliminate (p : ℕ) (front : Front) (rowed : Rowed) (pivot : Pivot
 
 -- a pivot was cancelled: by a step of the theorem, of this pivot's tail and head, and what is left is a complex there, with its rows
 pub record HasEliminated (p : ℕ) (front : Front) (old : Rowed) (pivot : Pivot) (new : Rowed) : Type 0 where
-  pub step : IsEliminating p front.diagram (scan_at front old.complex) (scan_at front new.complex)
+  pub step : IsEliminating p 0 0 front.diagram (scan_at front old.complex) (scan_at front new.complex)
   pub tail : step.tail ≡ pivot.tail
   pub head : step.head ≡ pivot.head
   pub rowed_is : IsRowed p front new

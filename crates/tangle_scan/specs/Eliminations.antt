@@ -75,7 +75,7 @@ pub record IsRowed (p : ℕ) (front : Front) (rowed : Rowed) : Type 0 where
 -- and steps lead there from another complex
 pub record IsRowedFrom (p : ℕ) (front : Front) (start : TangleComplex) (rowed : Rowed) : Type 0 where
   pub is : IsRowed p front rowed
-  pub leads : LeadsTo p front.diagram (scan_at front start) (scan_at front rowed.complex)
+  pub leads : LeadsTo p 0 0 front.diagram (scan_at front start) (scan_at front rowed.complex)
 
 -- an object that is not there any more
 abbrev pub killed : Object → Object
@@ -114,7 +114,7 @@ pub record IsLessOver (p number : ℕ) (opened from over to : List ℕ) (first s
       → Same p
       (coefficient_in new kept
       + inverse p number
-      * composed_in (opened_points opened) (joins_of from opened) (joins_of over opened) (joins_of to opened) first second kept)
+      * composed_in 0 0 (opened_points opened) (joins_of from opened) (joins_of over opened) (joins_of to opened) first second kept)
       (coefficient_in old kept)
   pub dots : AreDotted (opened_points opened) (joins_of from opened) (joins_of to opened) old
       → AreDotted (opened_points opened) (joins_of from opened) (joins_of to opened) new

@@ -26,7 +26,7 @@ scan_of held = scan_at held.front held.complex
 pub record IsScanned (p : ℕ) (held : Scanned) : Type 0 where
   pub front : IsFront held.front
   pub complex : IsComplexAt p held.front held.complex
-  pub reached : IsReached p held.front.diagram (scan_of held)
+  pub reached : IsReached p 0 0 held.front.diagram (scan_of held)
 
 -- so many crossings of a diagram are done
 pub record IsBehind (diagram : Code) (done : ℕ) (held : Scanned) : Type 0 where

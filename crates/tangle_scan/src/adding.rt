@@ -62,7 +62,7 @@ pub fn add_crossing<'a, F: PrimeField>(
     requires complex { IsComplexAt F.P front.now complex.now }
     requires scan { IsScanOf front.now.diagram (scan_at front.now complex.now) }
     ensures complex { IfOk result (λ made. IsComplexAt F.P next.now made) }
-    ensures adding { IfOk result (λ made. IsAdding F.P front.now.diagram
+    ensures adding { IfOk result (λ made. IsAdding F.P 0 0 front.now.diagram
         (scan_at front.now complex.now) (scan_at next.now made)) }
 {
     let crossing = front.crossing();
@@ -88,7 +88,7 @@ fn add_at<F: PrimeField>(alloc: Global, adding: &Adding<'_>) -> Result<TangleCom
     requires scan { IsScanOf (code_in adding.now) (scan_in adding.now) }
     ensures complex { IfOk result (λ made. IsComplexBehind F.P (done_in adding.now + 1)
         adding.now.site.next.now made) }
-    ensures adding { IfOk result (λ made. IsAdding F.P (code_in adding.now) (scan_in adding.now)
+    ensures adding { IfOk result (λ made. IsAdding F.P 0 0 (code_in adding.now) (scan_in adding.now)
         (scan_behind (done_in adding.now + 1) adding.now.site.next.now made)) }
 {
     let layer = layer_of(alloc, adding)?;

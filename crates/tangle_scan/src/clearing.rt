@@ -64,7 +64,7 @@ pub fn eliminate_all<F: PrimeField>(
     ensures complex { IfOk result (IsComplexAt F.P front.now) }
     ensures dots { IfOk result (λ next. AllHaveDots front.now.diagram (scan_at front.now next)) }
     ensures steps { IfOk result (λ next.
-        LeadsTo F.P front.now.diagram (scan_at front.now complex) (scan_at front.now next)) }
+        LeadsTo F.P 0 0 front.now.diagram (scan_at front.now complex) (scan_at front.now next)) }
     ensures none { IfOk result HasNoPivot }
 {
     let rows = rows_of(alloc, complex.columns.as_slice())?;

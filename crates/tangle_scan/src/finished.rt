@@ -74,7 +74,7 @@ pub fn table_of_finished<F: PrimeField>(
 /// object, so that its proof knows how many partners it keeps.
 pub fn finished_scans_are_last<F: PrimeField>(scan: &Scan<F>)
     requires { IsFinished scan.now }
-    ensures { IsLast F.P scan.now.front.diagram (scan_of scan.now) }
+    ensures { IsLast F.P 0 0 scan.now.front.diagram (scan_of scan.now) }
 {
     element_laws::<F>();
     reached_scans();

@@ -64,7 +64,7 @@ impl<F: PrimeField> Scan<F> {
     pub fn with_crossing(self, alloc: Global) -> Result<Scan<F>, NoMemory>
         requires { self.front.done < length self.front.diagram.crossings }
         ensures adding { IfOk result (λ next.
-            IsAdding F.P self.front.diagram (scan_of self) (scan_of next)) }
+            IsAdding F.P 0 0 self.front.diagram (scan_of self) (scan_of next)) }
         ensures behind { IfOk result (IsBehind self.front.diagram (self.front.done + 1)) }
     {
         self.laws();
@@ -80,7 +80,7 @@ impl<F: PrimeField> Scan<F> {
     /// The scan after maps that are a number times the identity are cancelled, until none is left.
     pub fn eliminated(self, alloc: Global) -> Result<Scan<F>, NoMemory>
         ensures steps { IfOk result (λ next.
-            LeadsTo F.P self.front.diagram (scan_of self) (scan_of next)) }
+            LeadsTo F.P 0 0 self.front.diagram (scan_of self) (scan_of next)) }
         ensures none { IfOk result (λ next. HasNoPivot next.complex) }
         ensures behind { IfOk result (IsBehind self.front.diagram self.front.done) }
     {

@@ -26,8 +26,8 @@ returns-clause-adding g c =
     let front = c.args.front.now in
     let next = c.args.next.now in
     let scan = scan_at front c.args.complex.now in
-    subst (λ (xs : List ℕ). IfOk c.add_at.result (λ made. IsAdding g.F.PrimeField.P front.diagram scan (scan_behind next.done xs made)))
+    subst (λ (xs : List ℕ). IfOk c.add_at.result (λ made. IsAdding g.F.PrimeField.P 0 0 front.diagram scan (scan_behind next.done xs made)))
     c.deref-4.ensures.0
     (subst
-    (λ n. IfOk c.add_at.result (λ made. IsAdding g.F.PrimeField.P front.diagram scan (scan_behind n c.deref-4.result.now made)))
+    (λ n. IfOk c.add_at.result (λ made. IsAdding g.F.PrimeField.P 0 0 front.diagram scan (scan_behind n c.deref-4.result.now made)))
     (sym c.requires.next.done) c.add_at.ensures.adding)

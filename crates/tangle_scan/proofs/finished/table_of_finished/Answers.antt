@@ -21,7 +21,7 @@ returns g c =
     c.scans_count_dimensions.ensures.small p code crossings (scan_of held) c.element_laws.ensures.prime c.diagram_laws.ensures.accepted
     (record {
       order = c.requires.order;
-      reached = subst (λ (listed : Code). IsReached p listed (scan_of held)) same c.laws.ensures.kept.reached;
-      last = subst (λ (listed : Code). IsLast p listed (scan_of held)) same c.finished_scans_are_last.ensures;
+      reached = subst (λ (listed : Code). IsReached p 0 0 listed (scan_of held)) same c.laws.ensures.kept.reached;
+      last = subst (λ (listed : Code). IsLast p 0 0 listed (scan_of held)) same c.finished_scans_are_last.ensures;
     }) in
     subst (λ (homology : tables.Table). IfOk c.counted_table.result (λ made. made ≡ homology)) counts c.counted_table.ensures

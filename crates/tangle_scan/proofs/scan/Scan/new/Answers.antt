@@ -14,6 +14,6 @@ invariant_of-result g c =
       front = subst (λ (opened : List ℕ). IsOpenAt code 0 opened) (sym c.new.ensures) (first-opened code c.diagram_laws.ensures.accepted
           c.diagram_laws.ensures.few);
       complex = subst (λ (opened : List ℕ). IsComplexBehind p 0 opened complex) (sym c.new.ensures) (first-complex complex first p);
-      reached = subst (λ (opened : List ℕ). IsReached p code (scan_behind 0 opened complex)) (sym c.new.ensures)
+      reached = subst (λ (opened : List ℕ). IsReached p 0 0 code (scan_behind 0 opened complex)) (sym c.new.ensures)
           (first-reached complex first p code);
     }
