@@ -44,7 +44,7 @@ edge_at code k state m label other_label =
     if keeps_labels_at code k state m label other_label && changes_labels_at code k state m label other_label then 1 else 0
 
 -- the number of a change of labels: the merge table has a row more, v- and v- to h times v-, and so has the split table, v+ to minus times v+
--- and v+ (Bar-Natan 2005, section 9)
+-- and v+ (Bar-Natan 2005)
 abbrev pub changed : ℕ → ℕ → List ℕ → List ℕ → ℕ
 changed h minus labels others =
     if is_merge labels others || is_split labels others then 1

@@ -1,4 +1,4 @@
--- The composition of two terms as a list: which dot sets count.
+-- The composition of two terms as a list: dot sets among which all are that count.
 use Rattle.std.specs.Prelude.{ℕ, ◌+◌, ◌-◌, ◌*◌, List, [], ◌∷◌, ◌++◌, map, nat_eq, ◌&&◌, if◌then◌else◌}
 use Rattle.std.specs.List.{flat_map, list_all}
 use Rattle.surface_laws.specs.Points.{Points, discs}

@@ -97,8 +97,8 @@ pub fn nothing_is_opened_at_first()
     ensures discs { (code : Code) → discs (whole code) [] [] ≡ [] }
 {}
 
-/// The composition of two maps as a list, for each two terms the dot sets that count, disc by disc:
-/// it is their composition. Where h and k are 0 it is the shorter list of `listed`.
+/// The composition of two maps as a list, for each two terms dot sets among which all are that count,
+/// disc by disc: it is their composition. Where h and k are 0 it is the shorter list of `listed`.
 pub fn compositions_are_listed()
     ensures listed { (p h k : ℕ) (points : Points) (m n o : List (ℕ × ℕ)) (first second : List Term) → ArePlaced points
         → IsOpenPairing points m → AreAmong points.opened m → AreAmong points.opened n → AreAmong points.opened o

@@ -20,7 +20,7 @@ use Rattle.cell_laws.proofs.FilteredCubes.{AreFiltered-cube}
 use Rattle.cell_laws.proofs.Reductions.{survivors-fall}
 use Rattle.layer_laws.proofs.Reorderings.{at_odds}
 use Rattle.link_laws.specs.CodeSurvivors.{code_survivors}
-use Rattle.link_laws.specs.LastPages.{class_count, greatest_degree, lasting_of, s_max, s_min}
+use Rattle.link_laws.specs.LastPages.{deformed_count, greatest_degree, lasting_of, s_max, s_min}
 use Rattle.link_laws.proofs.Passing.{IsFirstOf, IsLastOf, NonePasses, first-passing, last-passing, passing-none}
 use Rattle.link_laws.proofs.Tables.{from_place}
 
@@ -63,7 +63,7 @@ module _ (p : ℕ) (code : Code) (field : HasInverses p) (holds : IsTrue (accept
   past i t beyond =
       survivors-above p cells field filtered.below i t (λ x has. let upper = (within x).0 in omega (arith, ints, beyond, upper))
 
-  low : (i t : ℤ) → t ≤ℤ (pos 0 -ℤ pos bound) → code_survivors p 1 code i t ≡ class_count p code i
+  low : (i t : ℤ) → t ≤ℤ (pos 0 -ℤ pos bound) → code_survivors p 1 code i t ≡ deformed_count p code i
   low i t least =
       survivors-all p cells field filtered.below i t (λ x has. let lower = (within x).1 in omega (arith, ints, least, lower))
 
@@ -81,7 +81,7 @@ module _ (p : ℕ) (code : Code) (field : HasInverses p) (holds : IsTrue (accept
   left t = code_survivors p 1 code (pos 0) t
 
   abbrev total : ℕ
-  total = class_count p code (pos 0)
+  total = deformed_count p code (pos 0)
 
   abbrev test : ℤ → Bool
   test j = nat_lt 0 (lasting_of p code (pos 0) j)

@@ -1,5 +1,6 @@
 pub mod Steps
 pub mod CutViews
+pub mod PlainCuts
 pub mod Measured
 pub mod OneObject
 pub mod DroppedKinks

@@ -1,6 +1,6 @@
 -- A code with its crossings in another order, where each keeps its sign, has the same survivors.
-use Rattle.std.proofs.Common.{◌≡◌, ℕ, ◌∙◌, ℤ, refl, ap, ap₂, IsTrue}
-use Rattle.kh_types.specs.Code.{Code, arcs_and_loops}
+use Rattle.std.proofs.Common.{◌≡◌, ℕ, ◌∙◌, ℤ, ap, ap₂}
+use Rattle.kh_types.specs.Code.{Code}
 use Rattle.kh_types.specs.Directions.{minus_count, plus_count}
 use Rattle.kh_types.specs.Residues.{HasInverses}
 use Rattle.cell_laws.specs.DeformedCubes.{deformed_cube_of}

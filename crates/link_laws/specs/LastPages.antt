@@ -16,9 +16,9 @@ use Rattle.link_laws.specs.CodeSurvivors.{code_survivors}
 abbrev pub lasting_of : ℕ → Code → ℤ → ℤ → ℕ
 lasting_of p code i j = code_survivors p 1 code i j - code_survivors p 1 code i (j +ℤ pos 1)
 
--- how many classes of degree i there are, whatever their quantum degrees
-abbrev pub class_count : ℕ → Code → ℤ → ℕ
-class_count p code i =
+-- how many classes of degree i the deformed homology has, whatever their quantum degrees
+abbrev pub deformed_count : ℕ → Code → ℤ → ℕ
+deformed_count p code i =
     dimension_at p (unfiltered (deformed_cube_of p 1 code (plus_count code.crossings) (minus_count code.crossings))) i (pos 0)
 
 -- a size that no quantum degree of an accepted code passes
@@ -37,6 +37,6 @@ s_min p code = get_or (lasting_degrees p code) 0 (pos 0)
 abbrev pub s_max : ℕ → Code → ℤ
 s_max p code = get_or (lasting_degrees p code) (length (lasting_degrees p code) - 1) (pos 0)
 
--- s of a knot: half of the sum of s_min and s_max
+-- s of a knot: half of the sum of s_min and s_max, rounded down
 abbrev pub s : ℕ → Code → ℤ
 s p code = int_div_euclid (s_min p code +ℤ s_max p code) (pos 2)

@@ -39,7 +39,7 @@ pub fn links_have_the_same_survivors()
 {}
 
 /// They have one last page: at each homological degree as many classes last up to each quantum
-/// degree (Rasmussen 2010, theorem 1; Mackaay, Turner and Vaz 2007; Lipshitz and Sarkar 2014).
+/// degree (Rasmussen 2010; Mackaay, Turner and Vaz 2007; Lipshitz and Sarkar 2014).
 pub fn links_have_one_last_page()
     ensures lasting { (p : ℕ) (first last : Code) → HasInverses p → AreOneLink first last
         → (i j : ℤ) → lasting_of p last i j ≡ lasting_of p first i j }
@@ -47,7 +47,7 @@ pub fn links_have_one_last_page()
         → (i j : ℤ) → lasting_of p last i j ≡ lasting_of p first i j }
 {}
 
-/// So all diagrams of a knot have one s, over each field; and what s is read off is one for all
+/// So all diagrams of a knot have one s, over each field of p elements; and what s is read off is one for all
 /// diagrams of any link (Rasmussen 2010; Mackaay, Turner and Vaz 2007; Lipshitz and Sarkar 2014).
 pub fn knots_have_one_s()
     ensures least { (p : ℕ) (first last : Code) → HasInverses p → AreOneLink first last

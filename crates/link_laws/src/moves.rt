@@ -8,35 +8,41 @@ ghost use Rattle.kh_types.specs.Residues.{HasInverses};
 ghost use Rattle.kh_types.specs.Table.{dimension, table};
 ghost use Rattle.prime_field.specs.Residues.{IsSmallPrime};
 ghost use Rattle.square_laws.specs.Deformed.{opposite};
+ghost use Rattle.cell_laws.specs.Cells.{AreComplex};
 ghost use Rattle.cell_laws.specs.Filtered.{AreFiltered};
 ghost use Rattle.cell_laws.specs.Layers.{cells_of};
 ghost use Rattle.diagram_moves.specs.Moved.{moved};
 ghost use Rattle.diagram_moves.specs.declared.change.Move.{Move};
+ghost use Rattle.layer_laws.specs.Cuts.{IsCut};
 ghost use Rattle.layer_laws.specs.FilteredCuts.{IsFilteredCut};
 ghost use Rattle.view_laws.specs.ViewLayers.{view_layers};
-ghost use Rattle.view_laws.specs.Partitions.{deformed_saddle_number};
-ghost use Rattle.view_laws.specs.Partitions.{seen_count};
+ghost use Rattle.view_laws.specs.Partitions.{deformed_saddle_number, saddle_number, seen_count};
 ghost use Rattle.view_laws.specs.Views.{HasCircles, View};
 ghost use Rattle.link_algebra.specs.Mirrors.{reversal_of};
 ghost use Rattle.link_laws.specs.CodeSurvivors.{code_survivors};
 ghost use Rattle.link_laws.specs.Links.{HasOtherNumbers, HasOtherOrder};
 ghost use Rattle.link_laws.specs.SeenBy.{IsSeenBy};
 
-/// The deformed layers of a view by which one circle closes at one inner state, and whose inner
-/// states have kinds, are cut; with h = 0 these are the plain layers.
+/// The layers of a view by which one circle closes at one inner state, and whose inner states have
+/// kinds, are cut, whatever h is; with h = 0 the saddles between them are the plain ones.
 pub fn views_are_cut()
-    ensures { (p h : ℕ) (code : Code) (plus minus : ℕ) (view : View) (closing : ℕ) (kind : ℕ → ℕ)
-        (relation : ℕ → ℕ → ℕ → ℕ → Bool) → IsSeenBy code view closing kind relation
+    ensures deformed { (p h : ℕ) (code : Code) (plus minus : ℕ) (view : View) (closing : ℕ)
+        (kind : ℕ → ℕ) (relation : ℕ → ℕ → ℕ → ℕ → Bool) → IsSeenBy code view closing kind relation
         → HasCircles code → 1 < p → AreFiltered p (cells_of (view_layers p h code plus minus view))
         → IsFilteredCut p view.inner closing kind (λ i s. 2 ^ seen_count (relation i s) view.names)
         (λ i j s label other. deformed_saddle_number h (opposite p h) (relation i s) (relation j s)
         view.names label other)
         (view_layers p h code plus minus view) }
+    ensures plain { (p : ℕ) (code : Code) (plus minus : ℕ) (view : View) (closing : ℕ) (kind : ℕ → ℕ)
+        (relation : ℕ → ℕ → ℕ → ℕ → Bool) → IsSeenBy code view closing kind relation
+        → HasCircles code → 1 < p → AreComplex p (cells_of (view_layers p 0 code plus minus view))
+        → IsCut p view.inner closing kind (λ i s. 2 ^ seen_count (relation i s) view.names)
+        (λ i j s label other. saddle_number (relation i s) (relation j s) view.names label other)
+        (view_layers p 0 code plus minus view) }
 {}
 
 /// Every Reidemeister move keeps the survivors of the deformed cube, at each homological degree and
-/// from each quantum degree on, whatever h is (Rasmussen 2010, theorem 1; Mackaay, Turner and Vaz
-/// 2007).
+/// from each quantum degree on, whatever h is (Rasmussen 2010; Mackaay, Turner and Vaz 2007).
 pub fn moves_keep_survivors()
     ensures { (p h : ℕ) (code new : Code) (change : Move) → HasInverses p
         → IsTrue (accepted code) → moved code change ≡ Ok new

@@ -12,11 +12,11 @@ use Rattle.cell_laws.proofs.NoDoubles.{once-range}
 use Rattle.order_laws.specs.Orders.{listed_by}
 use Rattle.order_laws.proofs.Reordered.{own-order}
 use Rattle.scan_laws.specs.DeformedWorked.{between_pages, deformed_1, deformed_2, deformed_3, deformed_4, deformed_5, deformed_done, deformed_hopf_scans, deformed_left_1, deformed_left_2, deformed_scans, deformed_two, first_page, last_page}
-use Rattle.scan_laws.specs.LevelSteps.{IsEndOfEvenScan, IsEndOfLevelScan, IsEvenStep, IsLevelReached, IsLevelStep, level_of}
+use Rattle.scan_laws.specs.LevelSteps.{IsEndOfLevelScan, IsEndOfFilteredScan, IsLevelStep, IsFilteredReached, IsFilteredStep, level_of}
 use Rattle.scan_laws.specs.Scans.{Scan, first_scan}
 use Rattle.scan_laws.specs.Steps.{Follow}
 use Rattle.scan_laws.specs.Worked.{hopf_crossings, hopf_left_3, hopf_left_4, hopf_one, hopf_packed, one_done, two_done, two_left}
-use Rattle.scan_laws.proofs.Checked.{AllAllowed, AllPass, Move, OnLevel, Passes, adding, eliminating, eliminating-passed, even-checked, even_last-checked, gap-checked, last-checked, packing}
+use Rattle.scan_laws.proofs.Checked.{AllAllowed, AllPass, Move, OnLevel, Passes, adding, eliminating, eliminating-passed, level-checked, level_last-checked, gap-checked, last-checked, packing}
 use Rattle.scan_laws.proofs.LastMaps.{gap-last, objects_of}
 use Rattle.scan_laws.proofs.Leading.{leads-more}
 use Rattle.scan_laws.proofs.Levels.{shortest-levels}
@@ -73,20 +73,20 @@ deformed-passes = (
   ),
 )
 
-pub deformed-steps : Follow (IsEvenStep 2 1 1 trefoil) first_scan deformed_scans
-deformed-steps = even-checked 2 1 1 trefoil first_scan deformed_moves (once-range 0 1) deformed-level deformed-passes
+pub deformed-steps : Follow (IsLevelStep 2 1 1 trefoil) first_scan deformed_scans
+deformed-steps = level-checked 2 1 1 trefoil first_scan deformed_moves (once-range 0 1) deformed-level deformed-passes
 
-pub deformed-page : IsEndOfEvenScan 2 1 1 trefoil trefoil.crossings first_page
+pub deformed-page : IsEndOfLevelScan 2 1 1 trefoil trefoil.crossings first_page
 deformed-page =
     record {
       order = own-order trefoil.crossings;
       reached = record { later = deformed_scans; steps = deformed-steps; last = refl };
-      last = even_last-checked 2 1 1 trefoil first_page refl refl;
+      last = level_last-checked 2 1 1 trefoil first_page refl refl;
     }
 
 -- an entry of the least gap
 module _ (scan next : Scan) (tail head : ℕ) (gap : ℤ)
-    (reached : IsLevelReached 2 1 1 trefoil (plus_count trefoil.crossings) (minus_count trefoil.crossings) scan)
+    (reached : IsFilteredReached 2 1 1 trefoil (plus_count trefoil.crossings) (minus_count trefoil.crossings) scan)
     (done : scan.done ≡ 3) (passes : Passes 2 1 1 trefoil scan (eliminating tail head 1) next)
     (rise : level_of (scan.object head) -ℤ level_of (scan.object tail) ≡ gap) (least : HaveGap (objects_of 2 scan) gap) where
   abbrev plus : ℕ
@@ -95,13 +95,13 @@ module _ (scan next : Scan) (tail head : ℕ) (gap : ℤ)
   abbrev minus : ℕ
   minus = minus_count trefoil.crossings
 
-  next-page : IsLevelReached 2 1 1 trefoil (plus_count trefoil.crossings) (minus_count trefoil.crossings) next
+  next-page : IsFilteredReached 2 1 1 trefoil (plus_count trefoil.crossings) (minus_count trefoil.crossings) next
   next-page =
       let cancels = cancels-opposed 2 1 1 refl trefoil plus minus two_inverses trefoil-accepted in
       let stands = stands-reached 2 1 1 refl trefoil plus minus two_inverses trefoil-accepted scan reached in
       let made = eliminating-passed 2 1 1 trefoil scan tail head 1 next stands.of.once passes in
-      leads-more (IsLevelStep 2 1 1 trefoil plus minus) first_scan scan next reached
-      (IsLevelStep.short (record {
+      leads-more (IsFilteredStep 2 1 1 trefoil plus minus) first_scan scan next reached
+      (IsFilteredStep.short (record {
         less = made.0;
         shortest = shortest-levels 2 1 1 trefoil plus minus scan next
             (record { field = two_inverses; cancels = cancels; accepted_is = trefoil-accepted; of = stands.of; less = made.0 }) gap
@@ -109,13 +109,13 @@ module _ (scan next : Scan) (tail head : ℕ) (gap : ℤ)
             (ap₂ (λ a b. level_of (scan.object b) -ℤ level_of (scan.object a)) made.1 made.2 ∙ rise);
       }))
 
-between-reached : IsLevelReached 2 1 1 trefoil (plus_count trefoil.crossings) (minus_count trefoil.crossings) between_pages
+between-reached : IsFilteredReached 2 1 1 trefoil (plus_count trefoil.crossings) (minus_count trefoil.crossings) between_pages
 between-reached =
     next-page first_page between_pages 2 8 (pos 2)
     (reached-level 2 1 1 trefoil (plus_count trefoil.crossings) (minus_count trefoil.crossings) first_page deformed-page.reached) refl
     (refl, refl, refl, refl, refl) refl (gap-checked 2 first_page (pos 2) refl)
 
-pub last-end : IsEndOfLevelScan 2 1 1 trefoil trefoil.crossings last_page
+pub last-end : IsEndOfFilteredScan 2 1 1 trefoil trefoil.crossings last_page
 last-end =
     record {
       order = own-order trefoil.crossings;
@@ -160,11 +160,11 @@ hopf-passes = (
   ),
 )
 
-pub deformed-hopf : Follow (IsEvenStep 3 1 2 code) first_scan deformed_hopf_scans
+pub deformed-hopf : Follow (IsLevelStep 3 1 2 code) first_scan deformed_hopf_scans
 deformed-hopf =
-    even-checked 3 1 2 code first_scan hopf_moves (once-range 0 1) (tt, (tt, (refl, (refl, (refl, (refl, (tt, tt))))))) hopf-passes
+    level-checked 3 1 2 code first_scan hopf_moves (once-range 0 1) (tt, (tt, (refl, (refl, (refl, (refl, (tt, tt))))))) hopf-passes
 
-pub deformed_hopf-end : IsEndOfLevelScan 3 1 2 hopf_link hopf_crossings hopf_packed
+pub deformed_hopf-end : IsEndOfFilteredScan 3 1 2 hopf_link hopf_crossings hopf_packed
 deformed_hopf-end =
     record {
       order = (slots_with 4 1 3 2 ∷ [], [], refl, ([], [], refl, refl));

@@ -27,7 +27,7 @@ use Rattle.cell_laws.proofs.Listings.{listed-same}
 use Rattle.scan_laws.specs.Scans.{IsScanOf, Scan}
 use Rattle.scan_laws.specs.Complexes.{complex_of}
 use Rattle.scan_laws.specs.Eliminating.{IsEliminated, IsEliminating, cancelled_pairs}
-use Rattle.scan_laws.specs.LevelSteps.{IsEvenStep, IsLevel, IsLevelStep, level_of}
+use Rattle.scan_laws.specs.LevelSteps.{IsLevelStep, IsLevel, IsFilteredStep, level_of}
 use Rattle.scan_laws.specs.NextGenerators.{IsAdded}
 use Rattle.scan_laws.specs.Steps.{IsScanStep}
 use Rattle.scan_laws.proofs.AddedCells.{to}
@@ -194,63 +194,63 @@ module _ (p hd hh : ℕ) (code : Code) (plus minus : ℕ) (field : HasInverses p
         once : (n : ℕ) → n ≡ 1 * (1 * n)
         once n = omega arith
 
-    made-even : ((even : IsLevel p hd hh code scan next) (pair : Layer × Layer)
+    made-level : ((even : IsLevel p hd hh code scan next) (pair : Layer × Layer)
         → Contains (cancelled_pairs code scan even.less.tail even.less.head) pair → Q pair)
-        → IsEvenStep p hd hh code scan next → IsMade Q p hd hh code plus minus scan next
-    made-even each step = elim step [
-      | IsEvenStep.added more ↦
+        → IsLevelStep p hd hh code scan next → IsMade Q p hd hh code plus minus scan next
+    made-level each step = elim step [
+      | IsLevelStep.added more ↦
           let added : IsAdded p hd hh code scan next = record { cancels = cancels; accepted_is = is; of = of; more = more } in
           made-named (scan-adding p hd hh code scan next of more)
           (to p hd hh code plus minus scan next added, alike-adding p hd hh code plus minus scan next added)
-      | IsEvenStep.level even ↦ made-eliminating even.less (each even)
-      | IsEvenStep.renumbered other ↦
+      | IsLevelStep.level even ↦ made-eliminating even.less (each even)
+      | IsLevelStep.renumbered other ↦
           made-named (scan-renumbering p hd hh code scan next of other)
           (alike-renumbering p hd hh code plus minus field cancels is scan next of other)
     ]
 
   -- in a filtered complex
   module _ (filtered : AreFiltered p (complex_of p hd hh code plus minus scan)) where
-    made-level : IsLevelStep p hd hh code plus minus scan next → IsMade (IsShortest cells) p hd hh code plus minus scan next
-    made-level step = elim step [
-      | IsLevelStep.even same ↦
-          made-even (IsShortest cells)
+    made-filtered : IsFilteredStep p hd hh code plus minus scan next → IsMade (IsShortest cells) p hd hh code plus minus scan next
+    made-filtered step = elim step [
+      | IsFilteredStep.level_step same ↦
+          made-level (IsShortest cells)
           (λ even. shortest-level p hd hh code plus minus scan next (out_of even.less) filtered even.level) same
-      | IsLevelStep.short least ↦ made-eliminating (IsShortest cells) least.less least.shortest
+      | IsFilteredStep.short least ↦ made-eliminating (IsShortest cells) least.less least.shortest
     ]
 
-    pub stays-step : IsLevelStep p hd hh code plus minus scan next
+    pub stays-step : IsFilteredStep p hd hh code plus minus scan next
         → Stays p hd hh code plus minus (complex_of p hd hh code plus minus scan) next
     stays-step step =
-        let made = made-level step in
+        let made = made-filtered step in
         record {
           of = made.of;
           filtered = filtered-made (IsShortest cells) p hd hh code plus minus scan next field made filtered made.each;
           count = survivors-made (IsShortest cells) p hd hh code plus minus scan next field made filtered made.each;
         }
 
-    pub dimension-step : IsEvenStep p hd hh code scan next → (i j : ℤ)
+    pub dimension-step : IsLevelStep p hd hh code scan next → (i j : ℤ)
         → dimension_at p (complex_of p hd hh code plus minus next) i j ≡ dimension_at p (complex_of p hd hh code plus minus scan) i j
     dimension-step step =
         let IsAlong : Layer × Layer → Type 0 = λ pair. cells.quantum pair.1 ≡ cells.quantum pair.0 in
-        let made = made-even IsAlong (λ even. each-level p hd hh code plus minus scan next (out_of even.less) even.level) step in
+        let made = made-level IsAlong (λ even. each-level p hd hh code plus minus scan next (out_of even.less) even.level) step in
         dimension-made IsAlong p hd hh code plus minus scan next field made filtered made.each
 
   -- in a complex each step is between objects of one level
   module _ (complex : AreComplex p (complex_of p hd hh code plus minus scan)) where
-    pub even-step : IsScanStep p hd hh code scan next → IsEvenStep p hd hh code scan next
-    even-step step = elim step [
-      | IsScanStep.added more ↦ IsEvenStep.added more
+    pub level-step : IsScanStep p hd hh code scan next → IsLevelStep p hd hh code scan next
+    level-step step = elim step [
+      | IsScanStep.added more ↦ IsLevelStep.added more
       | IsScanStep.eliminated less ↦
-          IsEvenStep.level (record { less = less; level = level-complex p hd hh code plus minus scan next (out_of less) complex })
-      | IsScanStep.renumbered other ↦ IsEvenStep.renumbered other
+          IsLevelStep.level (record { less = less; level = level-complex p hd hh code plus minus scan next (out_of less) complex })
+      | IsScanStep.renumbered other ↦ IsLevelStep.renumbered other
     ]
 
     pub keeps-step : IsScanStep p hd hh code scan next → Keeps p hd hh code plus minus (complex_of p hd hh code plus minus scan) next
     keeps-step step =
         let any : Layer × Layer → Type 0 = λ pair. Unit {0} in
-        let made = made-even any (λ even pair has. tt) (even-step step) in
+        let made = made-level any (λ even pair has. tt) (level-step step) in
         record {
           of = made.of;
           complex = complex-made any p hd hh code plus minus scan next field made complex;
-          dimension = dimension-step (filtered-level p cells complex) (even-step step);
+          dimension = dimension-step (filtered-level p cells complex) (level-step step);
         }

@@ -33,7 +33,7 @@ use Rattle.scan_laws.specs.Scans.{IsScanOf, Scan, circle_count_at, count_behind,
 use Rattle.scan_laws.specs.Complexes.{complex_of, layers_of}
 use Rattle.scan_laws.specs.Counts.{counted_with}
 use Rattle.scan_laws.specs.Eliminating.{IsNumber}
-use Rattle.scan_laws.specs.LevelSteps.{IsEvenLast, level_of}
+use Rattle.scan_laws.specs.LevelSteps.{IsLevelLast, level_of}
 use Rattle.scan_laws.proofs.Eliminating.{times-number}
 use Rattle.scan_laws.proofs.End.{cells-last, state-zero}
 use Rattle.scan_laws.proofs.LastPoints.{nothing-open, pairs-last}
@@ -175,7 +175,7 @@ module _ (p hd hh : ℕ) (code : Code) (plus minus : ℕ) (field : HasInverses p
       (least x.object y.object (cell-from layers x has_x).object (cell-from layers y has_y).object rises.0)
 
   -- where no map is left between objects of one level, no coefficient is between equal quantum degrees, and the cells are the dimensions
-  module _ (last : IsEvenLast p code scan) where
+  module _ (last : IsLevelLast p code scan) where
     level-none : (x y : Layer) → Contains cells.list x → Contains cells.list y → level_coefficient cells x y ≡ 0
     level-none x y has_x has_y = elim (cases_eq (level_coefficient cells x y) 0) [
       | inl none ↦ none

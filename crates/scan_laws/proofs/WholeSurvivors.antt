@@ -30,11 +30,11 @@ use Rattle.scan_laws.specs.Scans.{Scan, first_scan}
 use Rattle.scan_laws.specs.Complexes.{complex_of}
 use Rattle.scan_laws.specs.Counts.{counted, counted_with}
 use Rattle.scan_laws.specs.EndCounts.{counted_from}
-use Rattle.scan_laws.specs.LevelSteps.{IsEndOfEvenScan, IsEndOfLevelScan, IsEvenLast, IsEvenStep, IsEvenlyReached, IsLevelReached, IsLevelStep}
+use Rattle.scan_laws.specs.LevelSteps.{IsEndOfLevelScan, IsEndOfFilteredScan, IsLevelLast, IsLevelStep, IsLevelReached, IsFilteredReached, IsFilteredStep}
 use Rattle.scan_laws.specs.Steps.{IsLast}
 use Rattle.scan_laws.proofs.Base.{alike-deformed}
 use Rattle.scan_laws.proofs.End.{lasting-counted, survivors-counted}
-use Rattle.scan_laws.proofs.Ending.{even-ends, level-ends}
+use Rattle.scan_laws.proofs.Ending.{level-ends, filtered-ends}
 use Rattle.scan_laws.proofs.Kept.{coefficients-below}
 use Rattle.scan_laws.proofs.KeptSteps.{Stays, dimension-step, stays-step}
 use Rattle.scan_laws.proofs.LastMaps.{dimension-last}
@@ -49,13 +49,13 @@ cube-dimension p h code plus minus above is i j =
     (λ x y has_x has_y same. sym (deformed-equal p h code x y above is
     (let e : quantum_degree code y ≡ quantum_degree code x = omega (arith, ints, same) in e))) p i j)
 
--- each scan that is reached evenly is reached
-pub reached-level : (p hd hh : ℕ) (code : Code) (plus minus : ℕ) (scan : Scan) → IsEvenlyReached p hd hh code scan
-    → IsLevelReached p hd hh code plus minus scan
+-- each scan that is reached by_levels is reached
+pub reached-level : (p hd hh : ℕ) (code : Code) (plus minus : ℕ) (scan : Scan) → IsLevelReached p hd hh code scan
+    → IsFilteredReached p hd hh code plus minus scan
 reached-level p hd hh code plus minus scan reached =
-    leads-kept (IsEvenStep p hd hh code) (IsLevelReached p hd hh code plus minus)
-    (λ at next leads step. leads-more (IsLevelStep p hd hh code plus minus) first_scan at next leads (IsLevelStep.even step))
-    first_scan scan (leads-none (IsLevelStep p hd hh code plus minus) first_scan) reached
+    leads-kept (IsLevelStep p hd hh code) (IsFilteredReached p hd hh code plus minus)
+    (λ at next leads step. leads-more (IsFilteredStep p hd hh code plus minus) first_scan at next leads (IsFilteredStep.level_step step))
+    first_scan scan (leads-none (IsFilteredStep p hd hh code plus minus) first_scan) reached
 
 module _ (p h k : ℕ) (opposed : opposite p h ≡ k) (code : Code) (plus minus : ℕ) (field : HasInverses p) (is : IsTrue (accepted code)) where
   positive : 0 < p
@@ -95,25 +95,25 @@ module _ (p h k : ℕ) (opposed : opposite p h ≡ k) (code : Code) (plus minus 
             first-below i t;
       }
 
-  stands-step : (scan next : Scan) → Stands scan → IsLevelStep p h k code plus minus scan next → Stands next
+  stands-step : (scan next : Scan) → Stands scan → IsFilteredStep p h k code plus minus scan next → Stands next
   stands-step scan next stands step =
       let stays = stays-step p h k code plus minus field cancels-opposed is scan next stands.of stands.filtered step in
       record { of = stays.of; filtered = stays.filtered; count = λ i t. stays.count i t ∙ stands.count i t }
 
-  pub stands-reached : (scan : Scan) → IsLevelReached p h k code plus minus scan → Stands scan
-  stands-reached scan reached = leads-kept (IsLevelStep p h k code plus minus) Stands stands-step first_scan scan stands-first reached
+  pub stands-reached : (scan : Scan) → IsFilteredReached p h k code plus minus scan → Stands scan
+  stands-reached scan reached = leads-kept (IsFilteredStep p h k code plus minus) Stands stands-step first_scan scan stands-first reached
 
   -- before the last stage
-  abbrev StandsEven : Scan → Type 0
-  StandsEven scan =
+  abbrev StandsLevel : Scan → Type 0
+  StandsLevel scan =
       Stays p h k code plus minus (deformed_cube_of p h code plus minus) scan
       × ((i j : ℤ) → dimension_at p (complex_of p h k code plus minus scan) i j ≡ dimension_at p (deformed_cube_of p h code plus minus) i j)
 
-  even-reached : (scan : Scan) → IsEvenlyReached p h k code scan → StandsEven scan
-  even-reached scan reached =
-      leads-kept (IsEvenStep p h k code) StandsEven
+  level-reached : (scan : Scan) → IsLevelReached p h k code scan → StandsLevel scan
+  level-reached scan reached =
+      leads-kept (IsLevelStep p h k code) StandsLevel
       (λ at next stands step. (
-        stands-step at next stands.0 (IsLevelStep.even step),
+        stands-step at next stands.0 (IsFilteredStep.level_step step),
         λ i j. dimension-step p h k code plus minus field cancels-opposed is at next stands.0.of stands.0.filtered step i j ∙ stands.1 i j,
       ))
       first_scan scan (
@@ -123,25 +123,25 @@ module _ (p h k : ℕ) (opposed : opposite p h ≡ k) (code : Code) (plus minus 
       )
       reached
 
-  pub dimension-even : (scan : Scan) → IsEvenlyReached p h k code scan → IsEvenLast p code scan → (i j : ℤ)
+  pub dimension-level : (scan : Scan) → IsLevelReached p h k code scan → IsLevelLast p code scan → (i j : ℤ)
       → counted_with code.loops plus minus scan i j ≡ dimension_at p (cube_of p code plus minus) i j
-  dimension-even scan reached last i j =
-      let stands = even-reached scan reached in
+  dimension-level scan reached last i j =
+      let stands = level-reached scan reached in
       sym (dimension-last p h k code plus minus field cancels-opposed is scan stands.0.of stands.0.filtered last.done last i j)
       ∙ stands.1 i j ∙ cube-dimension p h code plus minus field.above_one is i j
 
   -- from each that is reached there are steps to an end, and to one before the last stage
-  pub level-end : (scan : Scan) → IsLevelReached p h k code plus minus scan
-      → HasEnd (IsLevelStep p h k code plus minus) (IsLast p h k code) scan
+  pub filtered-end : (scan : Scan) → IsFilteredReached p h k code plus minus scan
+      → HasEnd (IsFilteredStep p h k code plus minus) (IsLast p h k code) scan
+  filtered-end scan reached =
+      let stands = stands-reached scan reached in filtered-ends p h k code plus minus field cancels-opposed is scan stands.of stands.filtered
+
+  pub level-end : (scan : Scan) → IsLevelReached p h k code scan → HasEnd (IsLevelStep p h k code) (IsLevelLast p code) scan
   level-end scan reached =
-      let stands = stands-reached scan reached in level-ends p h k code plus minus field cancels-opposed is scan stands.of stands.filtered
+      let stands = level-reached scan reached in
+      level-ends p h k code plus minus field cancels-opposed is scan stands.0.of stands.0.filtered
 
-  pub even-end : (scan : Scan) → IsEvenlyReached p h k code scan → HasEnd (IsEvenStep p h k code) (IsEvenLast p code) scan
-  even-end scan reached =
-      let stands = even-reached scan reached in
-      even-ends p h k code plus minus field cancels-opposed is scan stands.0.of stands.0.filtered
-
-  module _ (scan : Scan) (reached : IsLevelReached p h k code plus minus scan) (last : IsLast p h k code scan) (i t : ℤ) where
+  module _ (scan : Scan) (reached : IsFilteredReached p h k code plus minus scan) (last : IsLast p h k code scan) (i t : ℤ) where
     pub survivors-reached : counted_from code.loops plus minus scan i t ≡ survivors p (deformed_cube_of p h code plus minus) i t
     survivors-reached =
         let stands = stands-reached scan reached in
@@ -162,7 +162,7 @@ module _ (p h k : ℕ) (opposed : opposite p h ≡ k) (code : Code) (crossings :
   abbrev minus : ℕ
   minus = minus_count code.crossings
 
-  module _ (end : IsEndOfLevelScan p h k code crossings scan) (i t : ℤ) where
+  module _ (end : IsEndOfFilteredScan p h k code crossings scan) (i t : ℤ) where
     same : (t : ℤ) → survivors p (deformed_cube_of p h (listed_by code crossings) plus minus) i t
         ≡ survivors p (deformed_cube_of p h code plus minus) i t
     same t = survivors-reordered p h code.loops plus minus field i t code.crossings crossings end.order
@@ -181,8 +181,8 @@ module _ (p h k : ℕ) (opposed : opposite p h ≡ k) (code : Code) (crossings :
         lasting-reached p h k opposed (listed_by code crossings) plus minus field listed_is scan end.reached end.last i t
         ∙ ap₂ (λ m n. m - n) (same t) (same (t +ℤ pos 1))
 
-  pub dimension-whole : IsEndOfEvenScan p h k code crossings scan → (i j : ℤ) → counted code scan i j ≡ dimension p code i j
+  pub dimension-whole : IsEndOfLevelScan p h k code crossings scan → (i j : ℤ) → counted code scan i j ≡ dimension p code i j
   dimension-whole end i j =
-      dimension-even p h k opposed (listed_by code crossings) plus minus field
+      dimension-level p h k opposed (listed_by code crossings) plus minus field
       (accepted-reordered code.loops code.crossings crossings end.order is) scan end.reached end.last i j
       ∙ dimension-reordered p code.loops plus minus field i j code.crossings crossings end.order

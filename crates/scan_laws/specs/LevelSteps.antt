@@ -31,39 +31,39 @@ pub record IsShort (p hd hh : ℕ) (code : Code) (plus minus : ℕ) (scan next :
       → IsShortest (complex_of p hd hh code plus minus scan) pair
 
 -- one step before the last stage: a crossing is added, an entry is eliminated between objects of one level, or objects get other numbers
-pub data IsEvenStep (p hd hh : ℕ) (code : Code) (scan next : Scan) : Type 0 where
-  added : IsAdding p hd hh code scan next → IsEvenStep p hd hh code scan next
-  level : IsLevel p hd hh code scan next → IsEvenStep p hd hh code scan next
-  renumbered : IsRenumbering p hd hh code scan next → IsEvenStep p hd hh code scan next
+pub data IsLevelStep (p hd hh : ℕ) (code : Code) (scan next : Scan) : Type 0 where
+  added : IsAdding p hd hh code scan next → IsLevelStep p hd hh code scan next
+  level : IsLevel p hd hh code scan next → IsLevelStep p hd hh code scan next
+  renumbered : IsRenumbering p hd hh code scan next → IsLevelStep p hd hh code scan next
 
 -- one step of any stage: such a one, or a shortest entry is eliminated
-pub data IsLevelStep (p hd hh : ℕ) (code : Code) (plus minus : ℕ) (scan next : Scan) : Type 0 where
-  even : IsEvenStep p hd hh code scan next → IsLevelStep p hd hh code plus minus scan next
-  short : IsShort p hd hh code plus minus scan next → IsLevelStep p hd hh code plus minus scan next
+pub data IsFilteredStep (p hd hh : ℕ) (code : Code) (plus minus : ℕ) (scan next : Scan) : Type 0 where
+  level_step : IsLevelStep p hd hh code scan next → IsFilteredStep p hd hh code plus minus scan next
+  short : IsShort p hd hh code plus minus scan next → IsFilteredStep p hd hh code plus minus scan next
 
 -- such steps lead to a scan from before the first crossing
-abbrev pub IsEvenlyReached : ℕ → ℕ → ℕ → Code → Scan → Type 0
-IsEvenlyReached p hd hh code scan = Leads (IsEvenStep p hd hh code) first_scan scan
+abbrev pub IsLevelReached : ℕ → ℕ → ℕ → Code → Scan → Type 0
+IsLevelReached p hd hh code scan = Leads (IsLevelStep p hd hh code) first_scan scan
 
-abbrev pub IsLevelReached : ℕ → ℕ → ℕ → Code → ℕ → ℕ → Scan → Type 0
-IsLevelReached p hd hh code plus minus scan = Leads (IsLevelStep p hd hh code plus minus) first_scan scan
+abbrev pub IsFilteredReached : ℕ → ℕ → ℕ → Code → ℕ → ℕ → Scan → Type 0
+IsFilteredReached p hd hh code plus minus scan = Leads (IsFilteredStep p hd hh code plus minus) first_scan scan
 
 -- a scan is before its last stage where all crossings are done and no map is left between objects of one level: all coefficients there
 -- are 0
-pub record IsEvenLast (p : ℕ) (code : Code) (scan : Scan) : Type 0 where
+pub record IsLevelLast (p : ℕ) (code : Code) (scan : Scan) : Type 0 where
   pub done : scan.done ≡ length code.crossings
   pub terms : (x y kept : ℕ) → Contains scan.numbers x → Contains scan.numbers y
       → level_of (scan.object y) ≡ level_of (scan.object x) → kept < dot_sets code scan x y
       → Same p (coefficient_in (scan.terms x y) kept) 0
 
 -- before the last stage of a scan that takes the crossings of a code in some order
-pub record IsEndOfEvenScan (p hd hh : ℕ) (code : Code) (crossings : List (List ℕ)) (scan : Scan) : Type 0 where
-  pub order : IsReordered code.crossings crossings
-  pub reached : IsEvenlyReached p hd hh (listed_by code crossings) scan
-  pub last : IsEvenLast p (listed_by code crossings) scan
-
--- the end of a scan that does, with the numbers of positive and of negative crossings of the code
 pub record IsEndOfLevelScan (p hd hh : ℕ) (code : Code) (crossings : List (List ℕ)) (scan : Scan) : Type 0 where
   pub order : IsReordered code.crossings crossings
-  pub reached : IsLevelReached p hd hh (listed_by code crossings) (plus_count code.crossings) (minus_count code.crossings) scan
+  pub reached : IsLevelReached p hd hh (listed_by code crossings) scan
+  pub last : IsLevelLast p (listed_by code crossings) scan
+
+-- the end of a scan that does, with the numbers of positive and of negative crossings of the code
+pub record IsEndOfFilteredScan (p hd hh : ℕ) (code : Code) (crossings : List (List ℕ)) (scan : Scan) : Type 0 where
+  pub order : IsReordered code.crossings crossings
+  pub reached : IsFilteredReached p hd hh (listed_by code crossings) (plus_count code.crossings) (minus_count code.crossings) scan
   pub last : IsLast p hd hh (listed_by code crossings) scan

@@ -23,7 +23,7 @@ ghost use Rattle.scan_laws.specs.Complexes.{complex_of};
 ghost use Rattle.scan_laws.specs.Counts.{counted, counted_table, counted_with};
 ghost use Rattle.scan_laws.specs.Eliminating.{IsEliminating, cancelled_pairs};
 ghost use Rattle.scan_laws.specs.Steps.{IsLast, IsScanStep, Leads};
-ghost use Rattle.scan_laws.specs.LevelSteps.{IsEndOfEvenScan, IsEndOfLevelScan, IsEvenLast, IsEvenStep, IsEvenlyReached, IsLevelReached, IsLevelStep, level_of};
+ghost use Rattle.scan_laws.specs.LevelSteps.{IsEndOfLevelScan, IsEndOfFilteredScan, IsLevelLast, IsLevelStep, IsLevelReached, IsFilteredReached, IsFilteredStep, level_of};
 ghost use Rattle.scan_laws.specs.EndCounts.{counted_from};
 
 /// Before the first crossing the complex of the scan is the deformed cube, cell by cell, where two
@@ -80,14 +80,14 @@ pub fn eliminations_keep_scan_gaps()
 /// Where the complex keeps the quantum degree, as it does for h = 0, each step of a scan is such a
 /// step, and one before the last stage.
 pub fn plain_steps_are_level()
+    ensures filtered { (p hd hh : ℕ) (code : Code) (plus minus : ℕ) (scan next : Scan)
+        → HasInverses p → Same p (hd + hh) 0 → IsTrue (accepted code) → IsScanOf code scan
+        → AreComplex p (complex_of p hd hh code plus minus scan)
+        → IsScanStep p hd hh code scan next → IsFilteredStep p hd hh code plus minus scan next }
     ensures level { (p hd hh : ℕ) (code : Code) (plus minus : ℕ) (scan next : Scan)
         → HasInverses p → Same p (hd + hh) 0 → IsTrue (accepted code) → IsScanOf code scan
         → AreComplex p (complex_of p hd hh code plus minus scan)
-        → IsScanStep p hd hh code scan next → IsLevelStep p hd hh code plus minus scan next }
-    ensures even { (p hd hh : ℕ) (code : Code) (plus minus : ℕ) (scan next : Scan)
-        → HasInverses p → Same p (hd + hh) 0 → IsTrue (accepted code) → IsScanOf code scan
-        → AreComplex p (complex_of p hd hh code plus minus scan)
-        → IsScanStep p hd hh code scan next → IsEvenStep p hd hh code scan next }
+        → IsScanStep p hd hh code scan next → IsLevelStep p hd hh code scan next }
 {}
 
 /// Each such step keeps that a scan is one of the code, that its complex is filtered, and how many
@@ -97,22 +97,22 @@ pub fn steps_keep_survivors()
     ensures of { (p hd hh : ℕ) (code : Code) (plus minus : ℕ) (scan next : Scan)
         → HasInverses p → Same p (hd + hh) 0 → IsTrue (accepted code) → IsScanOf code scan
         → AreFiltered p (complex_of p hd hh code plus minus scan)
-        → IsLevelStep p hd hh code plus minus scan next → IsScanOf code next }
+        → IsFilteredStep p hd hh code plus minus scan next → IsScanOf code next }
     ensures filtered { (p hd hh : ℕ) (code : Code) (plus minus : ℕ) (scan next : Scan)
         → HasInverses p → Same p (hd + hh) 0 → IsTrue (accepted code) → IsScanOf code scan
         → AreFiltered p (complex_of p hd hh code plus minus scan)
-        → IsLevelStep p hd hh code plus minus scan next
+        → IsFilteredStep p hd hh code plus minus scan next
         → AreFiltered p (complex_of p hd hh code plus minus next) }
     ensures survivors { (p hd hh : ℕ) (code : Code) (plus minus : ℕ) (scan next : Scan)
         → HasInverses p → Same p (hd + hh) 0 → IsTrue (accepted code) → IsScanOf code scan
         → AreFiltered p (complex_of p hd hh code plus minus scan)
-        → IsLevelStep p hd hh code plus minus scan next → (i t : ℤ)
+        → IsFilteredStep p hd hh code plus minus scan next → (i t : ℤ)
         → survivors p (complex_of p hd hh code plus minus next) i t
         ≡ survivors p (complex_of p hd hh code plus minus scan) i t }
     ensures dimensions { (p hd hh : ℕ) (code : Code) (plus minus : ℕ) (scan next : Scan)
         → HasInverses p → Same p (hd + hh) 0 → IsTrue (accepted code) → IsScanOf code scan
         → AreFiltered p (complex_of p hd hh code plus minus scan)
-        → IsEvenStep p hd hh code scan next → (i j : ℤ)
+        → IsLevelStep p hd hh code scan next → (i j : ℤ)
         → dimension_at p (complex_of p hd hh code plus minus next) i j
         ≡ dimension_at p (complex_of p hd hh code plus minus scan) i j }
 {}
@@ -123,100 +123,100 @@ pub fn steps_keep_survivors()
 pub fn scans_count_survivors()
     ensures survivors { (p h : ℕ) (code : Code) (crossings : List (List ℕ)) (scan : Scan)
         → HasInverses p → IsTrue (accepted code)
-        → IsEndOfLevelScan p h (opposite p h) code crossings scan → (i t : ℤ)
+        → IsEndOfFilteredScan p h (opposite p h) code crossings scan → (i t : ℤ)
         → counted_from code.loops (plus_count code.crossings) (minus_count code.crossings) scan i t
         ≡ survivors p
         (deformed_cube_of p h code (plus_count code.crossings) (minus_count code.crossings)) i t }
     ensures lasting { (p h : ℕ) (code : Code) (crossings : List (List ℕ)) (scan : Scan)
         → HasInverses p → IsTrue (accepted code)
-        → IsEndOfLevelScan p h (opposite p h) code crossings scan → (i j : ℤ)
+        → IsEndOfFilteredScan p h (opposite p h) code crossings scan → (i j : ℤ)
         → counted code scan i j
         ≡ lasting p
         (deformed_cube_of p h code (plus_count code.crossings) (minus_count code.crossings)) i j }
     ensures possible { (p h : ℕ) (code : Code) (crossings : List (List ℕ))
         → HasInverses p → IsTrue (accepted code) → IsReordered code.crossings crossings
-        → (scan : Scan) × IsEndOfLevelScan p h (opposite p h) code crossings scan }
+        → (scan : Scan) × IsEndOfFilteredScan p h (opposite p h) code crossings scan }
 {}
 
 /// Before its last stage, which eliminates between objects of different levels, a scan counts the
 /// dimensions of the code, whatever h is: where all crossings are done, each entry was eliminated
 /// between objects of one level, and none is left there. And in every order there is such a scan.
-pub fn even_scans_count_dimensions()
+pub fn level_scans_count_dimensions()
     ensures dimensions { (p h : ℕ) (code : Code) (crossings : List (List ℕ)) (scan : Scan)
         → HasInverses p → IsTrue (accepted code)
-        → IsEndOfEvenScan p h (opposite p h) code crossings scan
+        → IsEndOfLevelScan p h (opposite p h) code crossings scan
         → (i j : ℤ) → counted code scan i j ≡ dimension p code i j }
     ensures table { (p h : ℕ) (code : Code) (crossings : List (List ℕ)) (scan : Scan)
         → HasInverses p → IsTrue (accepted code)
-        → IsEndOfEvenScan p h (opposite p h) code crossings scan
+        → IsEndOfLevelScan p h (opposite p h) code crossings scan
         → counted_table p code scan ≡ table p code }
     ensures possible { (p h : ℕ) (code : Code) (crossings : List (List ℕ))
         → HasInverses p → IsTrue (accepted code) → IsReordered code.crossings crossings
-        → (scan : Scan) × IsEndOfEvenScan p h (opposite p h) code crossings scan }
+        → (scan : Scan) × IsEndOfLevelScan p h (opposite p h) code crossings scan }
 {}
 
 /// What a program keeps that scans a code so: the first scan is reached, and each step leads from
 /// one that is to another. One that is reached is a scan of the code, its complex is filtered and
 /// has the survivors of the deformed cube; where it is a last one it counts them, and what lasts;
 /// and from each there are steps to a last one.
-pub fn level_reached_scans()
+pub fn filtered_reached_scans()
     ensures first { (p hd hh : ℕ) (code : Code) (plus minus : ℕ)
-        → IsLevelReached p hd hh code plus minus first_scan }
+        → IsFilteredReached p hd hh code plus minus first_scan }
     ensures step { (p hd hh : ℕ) (code : Code) (plus minus : ℕ) (scan next : Scan)
-        → IsLevelReached p hd hh code plus minus scan
-        → IsLevelStep p hd hh code plus minus scan next
-        → IsLevelReached p hd hh code plus minus next }
+        → IsFilteredReached p hd hh code plus minus scan
+        → IsFilteredStep p hd hh code plus minus scan next
+        → IsFilteredReached p hd hh code plus minus next }
     ensures of { (p h : ℕ) (code : Code) (plus minus : ℕ) (scan : Scan)
         → HasInverses p → IsTrue (accepted code)
-        → IsLevelReached p h (opposite p h) code plus minus scan → IsScanOf code scan }
+        → IsFilteredReached p h (opposite p h) code plus minus scan → IsScanOf code scan }
     ensures filtered { (p h : ℕ) (code : Code) (plus minus : ℕ) (scan : Scan)
         → HasInverses p → IsTrue (accepted code)
-        → IsLevelReached p h (opposite p h) code plus minus scan
+        → IsFilteredReached p h (opposite p h) code plus minus scan
         → AreFiltered p (complex_of p h (opposite p h) code plus minus scan) }
     ensures kept { (p h : ℕ) (code : Code) (plus minus : ℕ) (scan : Scan)
         → HasInverses p → IsTrue (accepted code)
-        → IsLevelReached p h (opposite p h) code plus minus scan → (i t : ℤ)
+        → IsFilteredReached p h (opposite p h) code plus minus scan → (i t : ℤ)
         → survivors p (complex_of p h (opposite p h) code plus minus scan) i t
         ≡ survivors p (deformed_cube_of p h code plus minus) i t }
     ensures survivors { (p h : ℕ) (code : Code) (plus minus : ℕ) (scan : Scan)
         → HasInverses p → IsTrue (accepted code)
-        → IsLevelReached p h (opposite p h) code plus minus scan
+        → IsFilteredReached p h (opposite p h) code plus minus scan
         → IsLast p h (opposite p h) code scan → (i t : ℤ)
         → counted_from code.loops plus minus scan i t
         ≡ survivors p (deformed_cube_of p h code plus minus) i t }
     ensures lasting { (p h : ℕ) (code : Code) (plus minus : ℕ) (scan : Scan)
         → HasInverses p → IsTrue (accepted code)
-        → IsLevelReached p h (opposite p h) code plus minus scan
+        → IsFilteredReached p h (opposite p h) code plus minus scan
         → IsLast p h (opposite p h) code scan → (i j : ℤ)
         → counted_with code.loops plus minus scan i j
         ≡ lasting p (deformed_cube_of p h code plus minus) i j }
     ensures ends { (p h : ℕ) (code : Code) (plus minus : ℕ) (scan : Scan)
         → HasInverses p → IsTrue (accepted code)
-        → IsLevelReached p h (opposite p h) code plus minus scan
-        → (last : Scan) × Leads (IsLevelStep p h (opposite p h) code plus minus) scan last
+        → IsFilteredReached p h (opposite p h) code plus minus scan
+        → (last : Scan) × Leads (IsFilteredStep p h (opposite p h) code plus minus) scan last
         × IsLast p h (opposite p h) code last }
 {}
 
 /// And before the last stage: what is reached so is reached, with any numbers of positive and
 /// negative crossings; where no entry between objects of one level is left it counts the code's
 /// dimensions and its table; and from each there are steps to such a one.
-pub fn evenly_reached_scans()
-    ensures first { (p hd hh : ℕ) (code : Code) → IsEvenlyReached p hd hh code first_scan }
+pub fn level_reached_scans()
+    ensures first { (p hd hh : ℕ) (code : Code) → IsLevelReached p hd hh code first_scan }
     ensures step { (p hd hh : ℕ) (code : Code) (scan next : Scan)
-        → IsEvenlyReached p hd hh code scan → IsEvenStep p hd hh code scan next
-        → IsEvenlyReached p hd hh code next }
+        → IsLevelReached p hd hh code scan → IsLevelStep p hd hh code scan next
+        → IsLevelReached p hd hh code next }
     ensures level { (p hd hh : ℕ) (code : Code) (plus minus : ℕ) (scan : Scan)
-        → IsEvenlyReached p hd hh code scan → IsLevelReached p hd hh code plus minus scan }
+        → IsLevelReached p hd hh code scan → IsFilteredReached p hd hh code plus minus scan }
     ensures dimensions { (p h : ℕ) (code : Code) (scan : Scan)
         → HasInverses p → IsTrue (accepted code)
-        → IsEvenlyReached p h (opposite p h) code scan → IsEvenLast p code scan
+        → IsLevelReached p h (opposite p h) code scan → IsLevelLast p code scan
         → (i j : ℤ) → counted code scan i j ≡ dimension p code i j }
     ensures table { (p h : ℕ) (code : Code) (scan : Scan)
         → HasInverses p → IsTrue (accepted code)
-        → IsEvenlyReached p h (opposite p h) code scan → IsEvenLast p code scan
+        → IsLevelReached p h (opposite p h) code scan → IsLevelLast p code scan
         → counted_table p code scan ≡ table p code }
     ensures ends { (p h : ℕ) (code : Code) (scan : Scan)
-        → HasInverses p → IsTrue (accepted code) → IsEvenlyReached p h (opposite p h) code scan
-        → (last : Scan) × Leads (IsEvenStep p h (opposite p h) code) scan last
-        × IsEvenLast p code last }
+        → HasInverses p → IsTrue (accepted code) → IsLevelReached p h (opposite p h) code scan
+        → (last : Scan) × Leads (IsLevelStep p h (opposite p h) code) scan last
+        × IsLevelLast p code last }
 {}

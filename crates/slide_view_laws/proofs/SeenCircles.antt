@@ -1,18 +1,15 @@
 -- The circles of a code with a triangle in a state, as they are seen from outside.
-use Rattle.std.proofs.lemmas.Bool.Decides.{nat_tests}
-use Rattle.std.proofs.Common.{◌≡◌, ◌≢◌, ℕ, ◌+◌, ◌*◌, ◌<◌, ◌≤◌, ◌∙◌, List, [], ◌∷◌, length, get_or, sym, ap, ap₂, subst, arith}
+use Rattle.std.proofs.Common.{◌≡◌, ◌≢◌, ℕ, ◌+◌, ◌*◌, ◌<◌, ◌≤◌, ◌∙◌, List, [], ◌∷◌, length, sym, ap, ap₂, subst, arith}
 use Rattle.std.specs.Prelude.{slice_index}
-use Rattle.kh_types.specs.Bits.{bit}
-use Rattle.kh_types.specs.Code.{Code, arc_in}
+use Rattle.kh_types.specs.Code.{Code}
 use Rattle.kh_types.specs.Circles.{smoothings_of, circles_of}
 use Rattle.kh_types.proofs.JoinedClasses.{IsNamed-classes_of}
 use Rattle.gluing_laws.specs.Arcs.{arc_by_place}
 use Rattle.gluing_laws.specs.Codes.{name_count}
 use Rattle.gluing_laws.specs.Slides.{ends_joined, IsNoSide}
 use Rattle.gluing_laws.specs.SlidCodes.{HasTriangle}
-use Rattle.gluing_laws.proofs.OutsidePairs.{outside_at, outside_of}
-use Rattle.gluing_laws.proofs.CodeCircles.{smoothing_by-same}
-use Rattle.gluing_laws.proofs.SlidCodes.{one_of_three, flat_map-same, all_outside, AtInside, circles_at}
+use Rattle.gluing_laws.proofs.OutsidePairs.{outside_of}
+use Rattle.gluing_laws.proofs.SlidCodes.{all_outside, AtInside, circles_at}
 use Rattle.gluing_laws.proofs.SlidSums.{outside_of-same}
 use Rattle.slide_view_laws.specs.Together.{AreJoinedAlike}
 use Rattle.view_laws.specs.Views.{AreTogether}

@@ -1,5 +1,5 @@
 -- What the table of a triangle says of its states.
-use Rattle.std.proofs.Common.{◌≡◌, ◌≢◌, ℕ, ◌⊎◌, inl, inr, ◌+◌, ◌-◌, ◌<◌, ◌≤◌, ◌∙◌, List, [], ◌∷◌, sym, refl, ap, arith, Bool, true, false, not, ◌&&◌, ◌||◌}
+use Rattle.std.proofs.Common.{◌≡◌, ◌≢◌, ℕ, inl, inr, ◌+◌, ◌-◌, ◌<◌, ◌≤◌, ◌∙◌, List, sym, ap, arith, Bool, true, false, not, ◌&&◌, ◌||◌}
 use Rattle.std.specs.Prelude.{slice_index, nat_eq, nat_lt}
 use Rattle.std.specs.List.{range_with_len, list_all}
 use Rattle.std.proofs.lemmas.Slice.Eq.{bytes_eq-Decides}
@@ -10,7 +10,6 @@ use Rattle.kh_types.specs.Circles.{smoothings_of}
 use Rattle.kh_types.proofs.JoinedClasses.{IsNamed-classes_of}
 use Rattle.kh_types.proofs.RangeCounts.{list_all-at}
 use Rattle.gluing_laws.specs.Slides.{triangle_before, triangle_after, ends_joined, inside_classes, is_slidable}
-use Rattle.gluing_laws.proofs.Ties.{are_below}
 use Rattle.gluing_laws.proofs.TiedTable.{AreBelow-from}
 use Rattle.layer_laws.specs.Slid.{kind_before, kind_after}
 use Rattle.slide_view_laws.specs.Triangles.{closing, across, changed_at}

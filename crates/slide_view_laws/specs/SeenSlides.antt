@@ -29,7 +29,8 @@ pub record IsSeenSlide (first second : Code) (first_view second_view : View) (cl
   pub kinds_after : (outside inner : ℕ) → inner < 8
       → SeeAlike first first_view (kind_after closing inner + 8 * outside) second second_view (inner + 8 * outside)
 
--- a code with the crossings of another in another order: it is accepted, and its cube has the same dimensions
+-- a code with the crossings of another in another order, by three reorderings one after another: it is accepted, and its cube has the same
+-- dimensions
 pub record IsInOrder (code other : Code) : Type 0 where
   pub accepted_too : IsTrue (accepted other)
   pub size : length other.crossings ≡ length code.crossings

@@ -1,5 +1,5 @@
 -- The view round a triangle, and its crossings brought to the front.
-use Rattle.std.specs.Prelude.{ℕ, ◌+◌, List, [], ◌∷◌, ◌++◌, nat_eq, Bool, not, ◌||◌, if◌then◌else◌}
+use Rattle.std.specs.Prelude.{ℕ, List, nat_eq, Bool, not, ◌||◌}
 use Rattle.std.specs.List.{filter}
 use Rattle.kh_types.specs.Code.{Code, arcs_and_loops}
 use Rattle.view_laws.specs.Views.{View}

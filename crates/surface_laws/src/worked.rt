@@ -6,7 +6,7 @@ ghost use Rattle.surface_laws.specs.Cuts.{sum_over_labels};
 ghost use Rattle.surface_laws.specs.Worked.{patched, sphere, torus, double_torus, stripped, pants, behind, merged_number, split_number};
 
 /// A sphere counts once where it has one mark, and a torus twice where it has none. Two dots count
-/// as h of them, two hollow dots as k, and one of each kind not.
+/// as h dots, two hollow dots as k hollow dots, and one of each kind 0.
 pub fn small_surfaces()
     ensures sphere { (h k : ℕ) → value h k (sphere 0 0) ≡ 0 }
     ensures dotted { (h k : ℕ) → value h k (sphere 0 1) ≡ 1 }

@@ -96,7 +96,7 @@ generator_at code view object outside label =
     (label_of_all code view state (closed_of view object + 2 ^ length (view.closed (inside_of view object)) * label))
 
 -- the layers: within an outer state the coefficients are those of the deformed cube, and between outer states they are saddle numbers; with
--- h = 0 they are the layers of the plain cube
+-- h = 0, where p is above 1, they are the layers of the plain cube
 abbrev pub view_layers : ℕ → ℕ → Code → ℕ → ℕ → View → Layers
 view_layers p h code plus minus view = record {
   objects = view_objects view;

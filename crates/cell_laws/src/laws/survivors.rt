@@ -23,8 +23,8 @@ pub fn alike_cells_have_the_same_survivors<A, B>()
 {}
 
 /// The elimination of a family of pivots, each of them a shortest entry at its tail and at its head,
-/// leaves a filtered complex, and keeps the survivors; in whatever order the cells are listed. So
-/// does that of one entry.
+/// leaves a filtered complex, and keeps the survivors; in whatever order the cells are listed. That
+/// of one entry keeps them too.
 pub fn eliminations_keep_survivors<A>()
     ensures filtered { (p : ℕ) (cells : Cells A) (pairs : List (A × A)) (rest : List A)
         → HasInverses p → AreFiltered p cells → AreListed (λ (x : A). x) cells.list (all_of pairs rest)
@@ -56,7 +56,7 @@ pub fn entries_of_the_least_gap_are_shortest<A>()
 {}
 
 /// The elimination of a family of pivots of the least gap leaves no smaller gap; and where no entry
-/// of that gap is left, the next gap is the least.
+/// of that gap is left, none is below the next gap.
 pub fn eliminations_keep_gaps<A>()
     ensures kept { (p : ℕ) (cells : Cells A) (gap : ℤ) (pairs : List (A × A)) (rest : List A)
         → AreListed (λ (x : A). x) cells.list (all_of pairs rest) → HaveGap cells gap
