@@ -16,7 +16,7 @@ import faulty.limits
 import faulty.lists
 import faulty.streams
 from drawn.fuzzer import ScanFuzzer
-from faulty.cases import ALL, FIGURE_EIGHT, TREFOIL, Case
+from faulty.cases import ALL, FIGURE_EIGHT, SCANNED, TREFOIL, Case
 from rows import runs
 from rows.scan import SCAN_USAGE
 from rows.stream import SIZES
@@ -69,6 +69,7 @@ def limits(scan):
     """Small stacks, other places and runs side by side; address space and data, of which there is too little in some steps."""
     chosen = chosen_runs()
     yield from faulty.limits.some(scan, chosen)
+    yield from faulty.limits.large_stacks(scan, SCANNED)
     for case in (chosen[0], chosen[3]):
         yield from faulty.limits.memory_limits(scan, case, faulty.limits.run(scan, case))
         yield from faulty.limits.file_limits(scan, case, faulty.limits.run(scan, case))

@@ -1,6 +1,8 @@
 """Runs whose calls, streams and limits `tests/faults` makes fail: words and an input for each command and each way that it ends."""
 from typing import NamedTuple
 
+from shared.places import example
+
 TREFOIL = b"PD[X[1,4,2,5], X[3,6,4,1], X[5,2,6,3]]"
 HOPF = b"PD[X[4,1,3,2],X[2,3,1,4]]"
 CURL = b"PD[X[1,1,2,2]]"
@@ -69,6 +71,29 @@ ALL = (
     Case("no script", ["edit"], TREFOIL + b";undo\nturn 1\n"),
     Case("too many crossings", ["jones"], b"PD[" + b",".join([b"X[1,1,2,2]"] * 21) + b"]"),
     Case("too many bytes", ["check"], TREFOIL + b" " * 65_500),
+)
+
+
+def with_loops(text):
+    """The text of a code that has no loops, with as many as a code may have."""
+    last = 2 * text.count(b"X[")
+    return text[:-1] + b"".join(b", Loop[%d]" % (last + loop) for loop in range(1, 9)) + b"]"
+
+
+# Diagrams as large as they may be: of 20 crossings and 8 loops; and for cubes, which they are too large for, smaller ones with 8 loops.
+LARGE = with_loops(example("braid-20").strip().encode())
+SCANNED = (
+    Case("a scan of 20 crossings and 8 loops", [], LARGE),
+    Case("a list of 20 crossings and 8 loops", ["each", "--field", "all"], LARGE + b"\n" + LARGE),
+)
+WIDE = (
+    *(Case(f"{word} of 20 crossings and 8 loops", [word], LARGE) for word in ("jones", "check", "draw", "mirror", "reverse")),
+    Case("edit of 20 crossings and 8 loops", ["edit"], LARGE + b";undo\n"),
+    Case("union of 8 crossings and 8 loops", ["union"], with_loops(FIGURE_EIGHT) + b";" + FIGURE_EIGHT),
+    Case("homology with 8 loops", ["homology"], with_loops(FIGURE_EIGHT)),
+    Case("homology with 8 loops by four workers", ["homology", "--workers", "4", "--field", "3"], with_loops(FIGURE_EIGHT)),
+    Case("reduced homology with 8 loops", ["reduced", "--mark", "1"], with_loops(FIGURE_EIGHT)),
+    Case("certify with 8 loops", ["certify"], with_loops(FIGURE_EIGHT)),
 )
 
 USAGE, READ_FAULT, WRITE_FAULT, NO_MEMORY = 2, 3, 4, 5

@@ -13,7 +13,7 @@ import struct
 import subprocess
 import tempfile
 
-from faulty.cases import ALL, NO_MEMORY, Case, named
+from faulty.cases import ALL, NO_MEMORY, WIDE, Case, named
 from shared.running import HEAD, LOADED, LOADER, PATIENCE, begins_in, parts_of
 
 KB, PAGE = 1024, resource.getpagesize()
@@ -121,6 +121,13 @@ def stack_limits(program, case, wanted):
         yield f"{case.name}, {size} KB of stack", fault or (f"{came} with room" if size >= ENOUGH_STACK and came != wanted else None)
 
 
+def large_stacks(program, chosen):
+    """Diagrams as large as they may be, in the least stack in which each run ends by itself."""
+    for case in chosen:
+        wanted, came = run(program, case), run(program, case, limited(resource.RLIMIT_STACK, ENOUGH_STACK * KB), environment={})
+        yield f"{case.name}, {ENOUGH_STACK} KB of stack", None if came == wanted else f"{str(came)[:400]} and not {str(wanted)[:400]}"
+
+
 def file_limits(program, case, wanted):
     """No file is opened, so that no limit on open files matters, once the system's loader has what it needs."""
     for count in (0, 1, 2, 3, 4, 5, 8, 64):
@@ -202,11 +209,13 @@ def faults(program, chosen):
         for case, right in list(zip(chosen, wanted))[:4]:
             yield from file_limits(program, case, right)
             yield from process_limits(program, case, right, folder)
+    yield from large_stacks(program, WIDE)
     yield from side_by_side(program, chosen, wanted)
 
 
 def few(program):
     """A small part of these cases, for the gate."""
+    yield from large_stacks(program, WIDE)
     yield from some(program, [ALL[2], ALL[0], *named("certify", "verify", "verify of another long log")])
 
 

@@ -5,4 +5,5 @@ mod Numbering
 mod Progress
 mod Endings
 pub mod ListEnds
+mod TurnEnds
 mod FrameReadings

@@ -3,3 +3,4 @@ pub mod Frames
 pub mod Answered
 pub mod ListRuns
 pub mod Scans
+pub mod Turns

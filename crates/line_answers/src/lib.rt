@@ -10,4 +10,5 @@ mod stop;
 
 pub use answering::Answering;
 pub use laws::frames_tell_replies;
-pub use list::answer_list;
+pub use list::{Turn, answer_list, answer_next};
+pub use stop::ListStop;

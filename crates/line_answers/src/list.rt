@@ -1,11 +1,14 @@
 //! A list is read line by line, and each line answered before the next is read.
 
-ghost use Rattle.std.specs.Prelude.{◌≡◌, ◌≢◌, ℕ, List, map, Err};
+ghost use Rattle.std.specs.Prelude.{◌≡◌, ◌≢◌, ◌⊎◌, ℕ, List, map, Err};
 ghost use Rattle.kh_io.specs.Faults.{Rose};
+ghost use Rattle.kh_lex.specs.Lines.{HasNoLineFeed};
+ghost use Rattle.line_reader.specs.Advances.{IsReadForLine};
 ghost use Rattle.line_reader.specs.Lines.{kept};
 ghost use Rattle.kh_runs.specs.Told.{seen};
 ghost use Rattle.line_answers.specs.Answered.{AreAnswered};
 ghost use Rattle.line_answers.specs.ListRuns.{IsListRun, end_status, status_of};
+ghost use Rattle.line_answers.specs.Turns.{IsTurn};
 ghost use Rattle.line_answers.specs.Questions.{asked_by, numbered_line, question};
 
 use crate::answering::Answering;
@@ -19,6 +22,15 @@ use std::alloc::Global;
 
 /// The first line of what is written, with the version of the frames.
 const FIRST_LINE: &str = "answers 1\n";
+
+/// How a turn of a list went: what was answered, and whether there was memory for each reply.
+#[derive(Clone, Copy, Debug, PartialEq, Eq)]
+pub enum Turn {
+    /// A line that a line feed ends.
+    Ended(bool),
+    /// What follows the last line feed: the list is at its end.
+    Last(bool),
+}
 
 /// Answers each line of a source that is not blank, over each of the fields, as soon as it has been
 /// read, and writes each reply in a frame behind a first line. Where memory is wanting for a reply,
@@ -57,25 +69,62 @@ fn lines_answered<A: Answering, S: Source, K: Sink>(
     let mut buffered = Buffered::new();
     let mut whole = true;
     'lines: for number in 1..u64::MAX {
-        match next_line(alloc, source, &mut buffered)? {
-            NextLine::Ended(line) => {
-                let asked = Asked {
-                    number,
-                    line: &line,
-                };
-                whole &= answer_over(alloc, answering, fields, asked, sink)?;
-            }
-            NextLine::Last(line) => {
-                let asked = Asked {
-                    number,
-                    line: &line,
-                };
-                whole &= answer_over(alloc, answering, fields, asked, sink)?;
+        match answer_next(
+            alloc,
+            answering,
+            fields,
+            number,
+            source,
+            &mut buffered,
+            sink,
+        )? {
+            Turn::Ended(made) => whole &= made,
+            Turn::Last(made) => {
+                whole &= made;
                 return ended(whole);
             }
         }
     }
     Err(ListStop::Limit)
+}
+
+/// One turn of a list: the line of this number is taken, for which the source is read no further
+/// than `next_line` reads it, and then it is answered over each of the fields, unless it is blank.
+/// Nothing else is read or written.
+pub fn answer_next<A: Answering, S: Source, K: Sink>(
+    alloc: Global,
+    answering: &A,
+    fields: &[FieldSize],
+    number: u64,
+    source: &mut S,
+    buffered: &mut Buffered,
+    sink: &mut K,
+) -> Result<Turn, ListStop>
+    ensures turn { IsTurn (A.answers answering.now) fields.now number buffered.old buffered.new
+        (seen (S.left source.old) (S.faults source.old)) (seen (S.left source.new) (S.faults source.new))
+        (seen (K.written sink.old) (K.faults sink.old)) (seen (K.written sink.new) (K.faults sink.new)) result }
+    ensures unread { ¬ HasNoLineFeed buffered.old → source.new ≡ source.old }
+    ensures read { (source.new ≡ source.old) ⊎ IsReadForLine buffered.old buffered.new
+        (S.left source.old) (S.left source.new) (S.reads source.old) (S.reads source.new) }
+{
+    match next_line(alloc, source, buffered)? {
+        NextLine::Ended(line) => {
+            let asked = Asked {
+                number,
+                line: &line,
+            };
+            let whole = answer_over(alloc, answering, fields, asked, sink)?;
+            Ok(Turn::Ended(whole))
+        }
+        NextLine::Last(line) => {
+            let asked = Asked {
+                number,
+                line: &line,
+            };
+            let whole = answer_over(alloc, answering, fields, asked, sink)?;
+            Ok(Turn::Last(whole))
+        }
+    }
 }
 
 /// How a list ends that was read to its end: out of memory where that was wanting for some reply.

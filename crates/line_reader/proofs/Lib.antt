@@ -1,3 +1,4 @@
 pub mod Taken
 mod KeptLines
 mod LineTakings
+mod LineReads

@@ -1,5 +1,5 @@
 -- The parts of a line, as they are taken byte by byte.
-use Rattle.std.proofs.Common.{◌≡◌, ℕ, false, List, [], ◌∷◌, ◌++◌, ap, subst, ◌∙◌, ◌||◌, codes, Option, Some, arith}
+use Rattle.std.proofs.Common.{◌≡◌, ℕ, false, List, [], ◌∷◌, ◌++◌, append-nil, ap, subst, ◌∙◌, ◌||◌, codes, Option, Some, arith}
 use Rattle.std.proofs.lemmas.Bool.Decides.{nat_tests}
 use Rattle.std.proofs.lemmas.List.Folds.{list_any-append}
 use Rattle.std.specs.List.{list_any}
@@ -7,7 +7,7 @@ use Rattle.kh_lex.specs.Lines.{HasNoLineFeed, is_line_feed}
 use Rattle.line_reader.specs.Advances.{IsAdvanced, IsLineTaken, IsNextByte, IsStopped}
 use Rattle.line_reader.specs.Lines.{Kept, kept}
 use Rattle.line_reader.specs.declared.reading.LineStop.{LineStop}
-use Rattle.line_reader.specs.declared.reading.LineStop.TheVariants.{NoMemory}
+use Rattle.line_reader.specs.declared.reading.LineStop.TheVariants.{Fault, NoMemory}
 use Rattle.line_reader.proofs.Taken.{IsAdvanced-trans}
 
 -- bytes without a line feed, and one that is none behind them
@@ -50,5 +50,16 @@ IsStopped-byte a b c x y z part next byte stop none begun some other taken memor
   whole = HasNoLineFeed-push part byte none other;
   taken = IsAdvanced-byte a b c x y z part next byte begun some taken;
   emptied = λ fault. cc;
+  long = λ limit. cc;
+}
+
+-- or where the source fails
+pub IsStopped-fault : (a b c : List ℕ) (x y z : Option (List ℕ)) (part : List ℕ) (stop : LineStop) → HasNoLineFeed part → IsAdvanced a b x y part
+    → IsAdvanced b c y z [] → c ≡ [] → stop ≡ Fault → IsStopped a c x z stop
+IsStopped-fault a b c x y z part stop none begun failed emptied is = record {
+  part = part;
+  whole = none;
+  taken = subst (IsAdvanced a c x z) (append-nil part) (IsAdvanced-trans a b c x y z part [] begun failed);
+  emptied = λ fault. emptied;
   long = λ limit. cc;
 }

@@ -1,6 +1,7 @@
 -- How bytes are taken of a source through a buffer.
-use Rattle.std.specs.Prelude.{◌≡◌, ℕ, ◌-◌, ◌^◌, ◌≤◌, List, [], ◌∷◌, ◌++◌, length, codes, Option, None, Some}
+use Rattle.std.specs.Prelude.{◌≡◌, ℕ, ◌+◌, ◌-◌, ◌^◌, ◌≤◌, List, [], ◌∷◌, ◌++◌, length, codes, Option, None, Some}
 use Rattle.std.specs.Io.KnownBytes.{Consumes, IsAtEnd}
+use Rattle.kh_io.specs.declared.limits.TheConstants.{READ_BYTES}
 use Rattle.kh_lex.specs.Lines.{HasNoLineFeed}
 use Rattle.line_reader.specs.Lines.{Kept, kept}
 use Rattle.line_reader.specs.declared.reading.LineStop.{LineStop}
@@ -29,6 +30,17 @@ abbrev pub IsNextByte : List ℕ → List ℕ → Option (List ℕ) → Option (
 IsNextByte before after left_before left_after (Some byte) = IsAdvanced before after left_before left_after (byte ∷ [])
 IsNextByte before after left_before left_after None =
     IsAdvanced before after left_before left_after [] × IsSpent after left_after
+
+-- a source was read for a line no further than to its line feed: up to the last read there was none, neither buffered nor given, and what
+-- stays buffered is of that read. Each read but the last gave a byte or more
+pub record IsReadForLine (before after : List ℕ) (left_before left_after : Option (List ℕ)) (reads_before reads_after : ℕ) : Type 0 where
+  pub earlier : List ℕ
+  pub last : List ℕ
+  pub consumed : Consumes left_before left_after (earlier ++ last)
+  pub none : HasNoLineFeed (before ++ earlier)
+  pub rest : (taken : List ℕ) × (last ≡ taken ++ after)
+  pub size : length last ≤ READ_BYTES
+  pub reads : reads_after ≤ reads_before + (length earlier + 1)
 
 -- bytes without a line feed, of which this is kept, were taken, and some behind them
 pub record IsLineTaken (before after : List ℕ) (left_before left_after : Option (List ℕ)) (behind : List ℕ) (found : Kept) : Type 0 where

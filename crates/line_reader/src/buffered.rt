@@ -1,7 +1,8 @@
 //! Bytes that were read before they are wanted.
 
-ghost use Rattle.std.specs.Prelude.{◌≡◌, ◌≢◌, ◌+◌, ◌≤◌, [], IfOk, OnErr};
+ghost use Rattle.std.specs.Prelude.{◌≡◌, ◌≢◌, ◌+◌, ◌<◌, ◌≤◌, [], length, IfOk, IsOk, OnErr};
 ghost use Rattle.kh_io.specs.Faults.{HasCause};
+ghost use Rattle.kh_io.specs.declared.limits.TheConstants.{READ_BYTES};
 ghost use Rattle.std.specs.Io.KnownBytes.{IsAtEnd};
 ghost use Rattle.line_reader.specs.Advances.{IsAdvanced, IsNextByte, IsTakenFrom};
 
@@ -50,7 +51,9 @@ impl Buffered {
         ensures emptied { OnErr result (self.new ≡ []) }
         ensures cause { HasCause (S.faults source.old) (S.faults source.new) result }
         ensures unread { self.old ≢ [] → source.new ≡ source.old }
+        ensures buffered { self.old ≢ [] → IsOk result × IfOk result (IsTakenFrom self.old self.new) }
         ensures reads { S.reads source.new ≤ S.reads source.old + 1 }
+        ensures size { length self.new < READ_BYTES }
     {
         match self.take_byte() {
             Some(byte) => Ok(Some(byte)),
@@ -81,7 +84,8 @@ impl Buffered {
 
     /// Takes the first of the buffered bytes.
     fn take_byte(&mut self) -> Option<u8>
-        ensures { IsTakenFrom self.old self.new result }
+        ensures first { IsTakenFrom self.old self.new result }
+        ensures size { length self.new < READ_BYTES }
     {
         if self.at == self.end {
             return None;

@@ -1,8 +1,9 @@
 //! The next line of a source.
 
-ghost use Rattle.std.specs.Prelude.{◌≡◌, ◌≢◌, Err, IfErr, IfOk};
+ghost use Rattle.std.specs.Prelude.{◌≡◌, ◌≢◌, ◌⊎◌, Err, IfErr, IfOk};
 ghost use Rattle.kh_io.specs.Faults.{Rose};
-ghost use Rattle.line_reader.specs.Advances.{IsNextLine, IsStopped};
+ghost use Rattle.kh_lex.specs.Lines.{HasNoLineFeed};
+ghost use Rattle.line_reader.specs.Advances.{IsNextLine, IsReadForLine, IsStopped};
 ghost use Rattle.line_reader.specs.declared.reading.LineStop.{LineStop};
 
 use crate::buffered::Buffered;
@@ -51,8 +52,9 @@ pub enum NextLine {
     Last(Line),
 }
 
-/// The next line of a source. Behind its line feed nothing is read, but that bytes which the source
-/// gives with it are buffered. A stop comes behind a part of a line.
+/// The next line of a source. Where the buffered bytes have a line feed the source is not read, else
+/// up to the read that gives one: what this gives behind it is buffered. A stop comes behind a part
+/// of a line.
 pub fn next_line<S: Source>(
     alloc: Global,
     source: &mut S,
@@ -60,6 +62,9 @@ pub fn next_line<S: Source>(
 ) -> Result<NextLine, LineStop>
     ensures line { IfOk result
         (IsNextLine buffered.old buffered.new (S.left source.old) (S.left source.new)) }
+    ensures unread { ¬ HasNoLineFeed buffered.old → source.new ≡ source.old }
+    ensures read { (source.new ≡ source.old) ⊎ IsReadForLine buffered.old buffered.new
+        (S.left source.old) (S.left source.new) (S.reads source.old) (S.reads source.new) }
     ensures begun { IfErr result
         (IsStopped buffered.old buffered.new (S.left source.old) (S.left source.new)) }
     ensures fault { result ≡ Err LineStop.Fault
