@@ -1,4 +1,5 @@
-//! Complexes whose places are the elements of a list: what keeps their dimensions.
+//! Complexes whose places are the elements of a list, and filtered ones: what keeps their dimensions
+//! and their survivors.
 #![tactic(auto)]
 
 pub mod laws;
