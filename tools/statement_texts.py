@@ -142,8 +142,7 @@ S_END = """\
 ## What is still trusted
 
 That this is Rasmussen's number, with his sign, is for you to see: by the values above, by [the sources](S.md#what-is-cited-and-not-claimed),
-and by a comparison: an unproved program, written from these definitions, finds s of all knots of up to ten crossings as they are known. That s
-bounds the genus of surfaces is a theorem of his that is cited, and not proved here.
+and by [a comparison](S.md#what-is-proved). That s bounds the genus of surfaces is a theorem of his that is cited, and not proved here.
 """
 
 TITLES = {

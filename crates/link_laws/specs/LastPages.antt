@@ -1,5 +1,5 @@
 -- The last page of a code: up to which quantum degrees the classes of its deformed homology last, where h is 1; and s, which is read off
--- there (Rasmussen 2010; over any field Mackaay, Turner and Vaz 2007, and Lipshitz and Sarkar 2014).
+-- there (Rasmussen 2010; over any field Mackaay, Turner and Vaz 2007, and Lipshitz and Sarkar 2014). Classes are counted by dimension.
 use Rattle.std.specs.Prelude.{ℕ, ◌+◌, ◌-◌, ◌*◌, ℤ, pos, ◌+ℤ◌, List, length, get_or, nat_lt}
 use Rattle.std.specs.Int.{int_div_euclid}
 use Rattle.std.specs.List.{filter}
@@ -29,14 +29,16 @@ greatest_degree code = 3 * length code.crossings + component_count code.crossing
 abbrev pub lasting_degrees : ℕ → Code → List ℤ
 lasting_degrees p code = filter (λ j. nat_lt 0 (lasting_of p code (pos 0) j)) (from_minus (greatest_degree code))
 
--- the least quantum degree up to which a class of degree 0 lasts, so that from there on all survive; or 0 where there is none
+-- the least quantum degree up to which a class of degree 0 lasts: all survive from there on, and not from any higher one; or 0 where there
+-- is none
 abbrev pub s_min : ℕ → Code → ℤ
 s_min p code = get_or (lasting_degrees p code) 0 (pos 0)
 
--- the greatest quantum degree up to which a class of degree 0 lasts, so that beyond it none survives; or 0 where there is none
+-- the greatest quantum degree up to which a class of degree 0 lasts: some survive from there on, and none from any higher one; or 0 where
+-- there is none
 abbrev pub s_max : ℕ → Code → ℤ
 s_max p code = get_or (lasting_degrees p code) (length (lasting_degrees p code) - 1) (pos 0)
 
--- s of a knot: half of the sum of s_min and s_max, rounded down
+-- half of the sum of s_min and s_max, rounded down: of a knot it is s
 abbrev pub s : ℕ → Code → ℤ
 s p code = int_div_euclid (s_min p code +ℤ s_max p code) (pos 2)
