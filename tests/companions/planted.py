@@ -5,7 +5,7 @@
 import os
 
 from shared import planted_bugs
-from shared.open_goals import Check, promise
+from shared.open_goals import Check, judged, promise
 from shared.places import TOP
 
 ANSWERS = """\
@@ -94,6 +94,21 @@ PROMISES = (
     ("exchange-requires-2-clause-some", "exchange"),
     ("overflow_add-counts", "overflow_add-counts"),
 )
+OPEN = "note: src/a.rt:1:1: it is not proved that it holds (`{}`){}"
+FALSE = "; the facts known there allow values at which this goal is false"
+# What stays open without answers, of a function whose goal returns-in-a-clause-line needs one and whose goal returns-in-b-clause-line needs
+# none; whether it is false; and the outcome: an empty one where the stored answers have to tell.
+NEEDED = {("f", "returns-in-a-clause-line")}
+ALL_GOALS = {"returns-in-a-clause-line", "returns-in-b-clause-line", "returns-in-b-clause-size"}
+OUTCOMES = (
+    (["returns-in-a-clause-line"], "", ("", [])),
+    (["returns-in-a-clause-line"], FALSE, ("refused", ["returns-in-a-clause-line is false"])),
+    (["returns-in-a-clause-line", "returns-in-b-clause-size"], "", ("refused", ["returns-in-b-clause-size"])),
+    (["returns-in-a-clause-line", "returns-in-b-clause-line"], "", ("refused", ["returns-in-b-clause-line"])),
+    (["returns-in-c-clause-size"], "", ("refused", ["returns-in-c-clause-size"])),
+    (["returns-in-c-clause-line"], "", ("undecided", ["returns-in-c-clause-line"])),
+    ([], "", ("undecided", ["g/Invariants.antt"])),
+)
 
 
 def text_faults():
@@ -120,6 +135,17 @@ def check_faults():
     unfit = [("line/Line/push", "Answers", "returns-in_ok-push")]
     yield "an answer that does not fit", None if said.unfit == unfit else str(said.unfit)
     yield "the verdict", None if (said.is_judged, said.is_proved) == (True, False) else "another"
+
+
+def outcome_faults():
+    """What is wrong with how bugs are judged, if anything is."""
+    for names, more, wanted in OUTCOMES:
+        lines = [OPEN.format(it, more) for it in names] or ["proofs/g/Invariants.antt:1:1: error: another type"]
+        check = Check("some", 1, [*lines, "fn some::f: not proved", "logic=not-proved"])
+        came = judged(check, NEEDED, lambda _: ALL_GOALS)
+        yield f"a bug that leaves {', '.join(names) or 'nothing'}{more}", None if came == wanted else f"{came} and not {wanted}"
+    came = [judged(it, set(), set)[0] for it in (None, Check("some", 2, ["error: no"]), Check("some", 0, ["logic=proved"]))]
+    yield "other outcomes", None if came == ["limit", "bad", "proved"] else str(came)
 
 
 def folders_with_answers(crate):
@@ -169,6 +195,7 @@ def faults(_program):
     """What is wrong with how edits and answers are read, if anything is."""
     yield from text_faults()
     yield from check_faults()
+    yield from outcome_faults()
     crates = os.path.join(TOP, "crates")
     for name in sorted(os.listdir(crates)):
         crate = os.path.join(crates, name)

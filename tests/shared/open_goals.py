@@ -61,3 +61,28 @@ class Check:
                     self.opened.add(goal)
                     self.false.update({goal} if IS_FALSE in more else ())
                 notes = []
+
+
+def sure_goals(check, needed, goals_of):
+    """The open goals that refuse a bug: those that are false, or else those that the right body needs no answer for. Of a new goal that is
+    for what the right body needs answers for too, nothing is known, unless it is one of all goals of the right body."""
+    promises = {(folder, promise(name)) for folder, name in needed}
+    own = sorted(check.opened - needed)
+    sure = [it for it in own if (it[0], promise(it[1])) not in promises]
+    return sorted(check.false) or sure or [it for it in own if it[1] in goals_of(it[0])]
+
+
+def judged(check, needed, goals_of):
+    """What a check without answers says of a bug, given the goals that the right body needs answers for: a word with goals, or an empty
+    word where the answers of the right body have to tell. `goals_of` gives all goals of a function of the right body, by its folder."""
+    if check is None or not check.is_judged:
+        return ("bad", [check.first]) if check else ("limit", [])
+    if check.is_proved:
+        return "proved", [check.last]
+    sure = sure_goals(check, needed, goals_of)
+    if sure:
+        return "refused", [sure[0][1] + " is false" * (sure[0] in check.false)]
+    if check.opened and check.opened <= needed:
+        return "", []
+    unfit = sorted({goal or f"{folder}/{file}.antt" for folder, file, goal in check.unfit})
+    return "undecided", [name for _, name in sorted(check.opened)] or unfit or [check.first]
