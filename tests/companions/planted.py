@@ -96,10 +96,10 @@ PROMISES = (
 )
 OPEN = "note: src/a.rt:1:1: it is not proved that it holds (`{}`){}"
 FALSE = "; the facts known there allow values at which this goal is false"
-# What stays open without answers, of a function whose goal returns-in-a-clause-line needs one and whose goal returns-in-b-clause-line needs
-# none; whether it is false; and the outcome: an empty one where the stored answers have to tell.
-NEEDED = {("f", "returns-in-a-clause-line")}
-ALL_GOALS = {"returns-in-a-clause-line", "returns-in-b-clause-line", "returns-in-b-clause-size"}
+# What stays open without answers, of a function that needs answers to two of its goals; whether it is false; and the outcome, an empty one
+# where the stored answers have to tell.
+NEEDED = {("f", "returns-in-a-clause-line"), ("f", "push-requires-2")}
+ALL_GOALS = {"returns-in-a-clause-line", "returns-in-b-clause-line", "returns-in-b-clause-size", "push-requires", "push-requires-2"}
 OUTCOMES = (
     (["returns-in-a-clause-line"], "", ("", [])),
     (["returns-in-a-clause-line"], FALSE, ("refused", ["returns-in-a-clause-line is false"])),
@@ -107,6 +107,7 @@ OUTCOMES = (
     (["returns-in-a-clause-line", "returns-in-b-clause-line"], "", ("refused", ["returns-in-b-clause-line"])),
     (["returns-in-c-clause-size"], "", ("refused", ["returns-in-c-clause-size"])),
     (["returns-in-c-clause-line"], "", ("undecided", ["returns-in-c-clause-line"])),
+    (["push-requires"], "", ("undecided", ["push-requires"])),
     ([], "", ("undecided", ["g/Invariants.antt"])),
 )
 

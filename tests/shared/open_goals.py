@@ -10,7 +10,8 @@ OPEN = re.compile(r"note: src/\S+:\d+:\d+: .*\(`([^`\s]+)`\)(.*)")
 OFFERED = re.compile(r"help: (?:write|add these lines to) \./proofs/(\S+)/Answers\.antt\b")
 OFFER = re.compile(r"    pub (\S+) :")
 UNFIT = re.compile(r"(?:\./)?proofs/(\S+)/(Answers|Invariants)\.antt:\d+:\d+: error: (?:`([^`\s]+)`)?")
-ERROR = re.compile(r"\S+:\d+:\d+: error|error")
+ERROR = re.compile(r"\S+:\d+:\d+: error|error|fn \S+: no")
+ORDINAL = re.compile(r"-\d+(?=-|$)")
 IS_FALSE = "values at which this goal is false"
 PROMISES = re.compile(r"(.+?)-requires\b|(.+)-(?:init|preserved)\b|.*-clause-(\w+)|(returns)")
 
@@ -63,13 +64,18 @@ class Check:
                 notes = []
 
 
+def is_alone(name, names):
+    """Whether a name is one of these, and no other of them differs by the numbers in it alone: numbers move where a call is put before."""
+    return [it for it in names if ORDINAL.sub("", it) == ORDINAL.sub("", name)] == [name]
+
+
 def sure_goals(check, needed, goals_of):
     """The open goals that refuse a bug: those that are false, or else those that the right body needs no answer for. Of a new goal that is
     for what the right body needs answers for too, nothing is known, unless it is one of all goals of the right body."""
     promises = {(folder, promise(name)) for folder, name in needed}
     own = sorted(check.opened - needed)
     sure = [it for it in own if (it[0], promise(it[1])) not in promises]
-    return sorted(check.false) or sure or [it for it in own if it[1] in goals_of(it[0])]
+    return sorted(check.false) or sure or [it for it in own if is_alone(it[1], goals_of(it[0]))]
 
 
 def judged(check, needed, goals_of):
