@@ -11,14 +11,15 @@ import rules
 import scan_hostile
 import scan_lists
 import scan_tables
-from companions import checked, code_forms, cones, package, page, page_browser, page_server, pages, reference, scan, scripts
+from companions import checked, code_forms, cones, package, page, page_browser, page_server, pages, planted, reference, scan, scripts
 from companions import shortening, show, spoken, tabulation
 from rows.runs import all_rows, fault_of
 from shared.places import KH, TOP
 
 # (those that take long begin first)
 COMPANIONS = (
-    tabulation, show, page, package, page_server, page_browser, scan, pages, reference, checked, code_forms, spoken, shortening, cones
+    tabulation, show, page, package, page_server, page_browser, scan, pages, reference, checked, code_forms, spoken, shortening, cones,
+    planted,
 )
 ROWS_OF_A_PART = 40
 
