@@ -136,9 +136,7 @@ def _reading(value: Any, field: int | None) -> Any:
     if isinstance(value, Table):
         cells = {(j, i): group_of(str(dimension)) for (j, i), dimension in value.items()}
         return Reading(cells, True, value.field, value.mark is not None)
-    is_named = isinstance(value, Mapping) and bool(value) and all(isinstance(it, Degrees) for it in value)
     if isinstance(value, Mapping):
         value = {key: it if isinstance(it, Mapping) else str(it) for key, it in value.items() if it != 0}
     reading = read(value) if isinstance(value, str) else read_value(value)
-    reading = reading._replace(is_j_first=True) if is_named else reading
     return reading._replace(field=field) if field is not None and reading.field is None else reading

@@ -10,7 +10,8 @@ MARK = 1
 def plain_table(table):
     """The dimensions of a table, over two elements where it is one over the integers, as a table with a field and a mark."""
     found = ranks(table.groups) if table.field == RATIONAL else over(table.groups, 2 if table.field == INTEGRAL else table.field)
-    return Table(found, field=2 if table.field == INTEGRAL else table.field, mark=MARK if table.is_reduced else None)
+    field = 2 if table.field == INTEGRAL else table.field
+    return Table._of(found, field, MARK if table.is_reduced else None)
 
 
 def terms_of(table):
