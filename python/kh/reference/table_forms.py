@@ -74,7 +74,7 @@ class Cells:
         return Reading(self.groups, is_j_first, self.field)
 
 
-def field_of(value):
+def field_of(value: object) -> Any:
     """The field that a word or a number names, or nothing where it names none."""
     return FIELDS.get(str(value).lower())
 
