@@ -21,10 +21,10 @@ Own = Union[Link, str, Sequence[Any]]
 
 
 class Comparison:
-    """What came of a comparison. `agrees` says whether all answers agree. `links` has what came of each link, by its name: "agrees", one way
-    in which its table is another one, such as "mirrored" or "j shifted by 2", else "another table", "no table" where the answer can not be
-    read, or "no answer"; where that is not the same over all fields, "another table over 3". `causes` has why there is no table or no
-    answer, by the names of the links of which that is known. `lines` are those that are printed, and that `reference/compare --all` writes.
+    """What came of a comparison. `agrees` says whether all answers agree. `links` has what came of each link, by its name: "agrees", one
+    way in which its table is another one, such as "mirrored" or "j shifted by 2", else "another table", "no table" where the answer can
+    not be read, or "no answer"; where that is not the same over all fields, "another table over 3". `causes` has why there is no table or
+    no answer, by the names of links of which that is known. `lines` are those that are printed, and that `reference/compare --all` writes.
 
     The tables of the reference are those that `kh` has written, so they are proved; how others are told from them is not."""
 

@@ -8,9 +8,8 @@ from html import escape
 from typing import TYPE_CHECKING, Any, Union
 
 from . import programs
-from .codes import link_names, plain_lists, turning
+from .codes import link_names, plain_lists, stored_names, turning
 from .laurent import Polynomial, jones_of
-from .places import reference_file
 from .refused import MoveRefused, Refused, among, need_answer
 from .tables import FIELDS, Table, need_field
 from .torsion import Torsion
@@ -313,27 +312,14 @@ def _read(text: str, clockwise: bool) -> tuple[str, str, tuple[str, ...]]:
         return _read_code(text, clockwise)
     except Refused as fault:
         name = text.strip()
-        code = _stored(name) if _NAME.fullmatch(name) else ""
-        if code:
-            return code, name, ()
         if _NAME.fullmatch(name):
             fault.what = "; ".join(filter(None, (fault.what, _meant(name))))
         raise
 
 
-def _stored(name: str) -> str:
-    """The planar diagram of a name that the files of tables alone have, such as `3_1 and two loops`; nothing where they have none."""
-    from .reference.stored import FILES, diagrams
-
-    known = (diagrams(reference_file(it)) for it in FILES.values())
-    return next((str(them[name]) for them in known if name in them), "")
-
-
 def _meant(name: str) -> str:
     """Whether one of the names near this one is meant; nothing where there are none."""
-    from .reference.stored import FILES, diagrams
-
-    every = {**diagrams(reference_file(FILES["reference"])), **link_names.reference()}
+    every = {**stored_names.known(), **link_names.reference()}
     return str(link_names.question(link_names.near(link_names.name_of(name) or name, every)))
 
 

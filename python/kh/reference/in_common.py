@@ -35,7 +35,7 @@ def of_case(case: Case, lines: Mapping[str, Mapping[Any, Mapping[str, Any]]]) ->
 
 
 def in_common(some: Sequence[Case], others: Sequence[Case], lines: Mapping[str, Any], words: str) -> Iterator[str]:
-    """A line for each thing that is so of all of these and of few of the others, which the words say what they are; at most one of a kind."""
+    """A line for each thing that is so of all of these and of few of the others, of which the words say what they are; one of a kind."""
     if len(some) < 2 or not others:
         return
     shared, there = set.intersection(*(of_case(it, lines) for it in some)), [of_case(it, lines) for it in others]

@@ -9,14 +9,13 @@ from collections.abc import Iterator, Sequence
 from typing import Any, NamedTuple
 
 from ..codes import plain_lists, turning
+from ..codes.stored_names import FILES as FILES
 from ..commands import Unreadable
 from ..laurent import jones_of
 from ..tables import of_short_rows
 from .table_forms import INTEGRAL, RATIONAL
 from .groups import over, ranks
 
-# The files of the reference.
-FILES = {"reference": "vectors.jsonl", "prime": "prime.jsonl", "large": "large.jsonl"}
 
 
 class Wanted(NamedTuple):
