@@ -2,6 +2,7 @@
 checkout a `conftest.py` asks for it, `pytest_plugins = ["kh.in_pytest"]`."""
 from __future__ import annotations
 
+from collections.abc import Mapping
 from typing import Any
 
 from .tables import Table
@@ -11,10 +12,21 @@ MOST = 12
 
 
 def pytest_assertrepr_compare(config: Any, op: str, left: object, right: object) -> list[str] | None:
-    """The lines on two tables in an assertion of `==`; of all else what pytest has itself."""
-    if op != "==" or not isinstance(left, Table) or not isinstance(right, Table):
+    """The lines on two tables, or one and a plain mapping, in an assertion of `==`; of all else what pytest has itself."""
+    if op != "==" or not isinstance(left, Mapping) or not isinstance(right, Mapping):
         return None
-    return ["the tables are equal", *_lines(left, right)]
+    known = left if isinstance(left, Table) else right
+    if not isinstance(known, Table):
+        return None
+    try:
+        return ["the tables are equal", *_lines(_like(left, known), _like(right, known))]
+    except (TypeError, ValueError):
+        return None
+
+
+def _like(value: Mapping[Any, Any], known: Table) -> Table:
+    """A plain mapping as a table like the one beside it."""
+    return value if isinstance(value, Table) else Table(value, field=known.field, mark=known.mark)
 
 
 def _lines(left: Table, right: Table) -> list[str]:

@@ -210,6 +210,9 @@ from kh import Table
 def test_them():
     one = Table({(1, 0): 1, (3, 0): 1, (5, 2): 1, (9, 3): 1}, field=3)
     assert one == Table({(1, 0): 1, (3, 0): 1, (5, 2): 2}, field=5)
+
+def test_a_mapping():
+    assert {(1, 0): 1, (3, 0): 2} == Table({(1, 0): 1, (3, 0): 1}, field=3)
 """
 
 
@@ -223,4 +226,5 @@ def test_pytest_shows_in_what_tables_differ(tmp_path):
     assert told == [
         "assert the tables are equal", "the left one is over 3 elements, the right one over 5",
         "j 5 i 2: 1 on the left, 2 on the right", "j 9 i 3: 1 on the left, 0 on the right",
+        "assert the tables are equal", "j 3 i 0: 2 on the left, 1 on the right",
     ]

@@ -28,8 +28,8 @@ SEPARATORS = ",\t;|"
 MARKS = {it: re.compile(rf'"[^"]*"|["\[\](){{}}{re.escape(it)}]') for it in SEPARATORS}
 # A name before a planar diagram that may be known.
 NAMED = re.compile(r"(?P<name>[A-Za-z0-9_.^(){}+-]+)(\t|: ?)")
-# What begins with a bracket, or with what is called a diagram or a crossing before one, is no name.
-LISTED = re.compile(rf"\s*({'|'.join(sorted(filter(None, codes.DIAGRAMS | codes.CROSSINGS | {'Loop'})))})?\s*{OPEN}")
+# What begins as a list of numbers or of crossings is no name.
+LISTED = re.compile(rf"\s*({'|'.join(sorted(filter(None, codes.DIAGRAMS | codes.CROSSINGS | {'Loop'})))})?\s*{OPEN}\s*([-+\d]|X|{OPEN})")
 SIGNS = re.compile(r"\s*Signs\b")
 GAUSS = re.compile(r"\s*Gauss")
 BRAID, DOWKER, MISSING = "braid", "dowker", "missing"
