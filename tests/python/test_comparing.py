@@ -247,7 +247,9 @@ def test_links_of_ones_own():
     assert {it.name for it in asked} == {*found.links} and kh.Link("4_1") in asked
     turned = kh.compare(lambda link: link.mirror().table(3), field=3, links={"K": "3_1", "L": "8_19", "apart": "3_1 and two loops"})
     assert turned.links == {"K": "mirrored", "L": "mirrored", "apart": "mirrored"}
-    one = kh.compare({"3_1": kh.Link("3_1").reduced(1, 3)}, field=3, links="3_1")
-    assert one.links == {"3_1": "the reduced table"} and kh.compare(lambda it: it.reduced(1), links=kh.Link("4_1"), reduced=True)
+    one = kh.compare({"3_1": kh.Link("3_1").reduced(1, 3).dimensions}, field=3, links="3_1")
+    assert one.links == {"3_1": "the reduced table"}
+    assert kh.compare({"3_1": kh.Link("3_1").reduced(1, 3)}, field=3, links="3_1")
+    assert kh.compare(lambda it: it.reduced(1), links=kh.Link("4_1"), reduced=True)
     with pytest.raises(kh.TooLarge, match="long: "):
         kh.compare(lambda link: link.table(2), links=[("long", kh.Link(braid=[1] * 21))])

@@ -53,7 +53,10 @@ class OwnLinks(Reference):
 
 def head_of(link: Link, name: str) -> dict[str, Any]:
     """What a line has of a link, whatever the field."""
-    signs = link.signs
+    try:
+        signs = link.signs
+    except Refused as fault:
+        raise without_table(name, fault) from None
     return {"name": name, "pd": link.code, "plus": signs.count(1), "minus": signs.count(-1)}
 
 
