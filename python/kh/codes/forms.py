@@ -1,4 +1,6 @@
 """Tells which form a code has, and reads it: names, braid words, Gauss and DT codes, planar diagrams."""
+from typing import Any
+
 from . import braid_words, codes, dowker, gauss_codes, link_names, statements, stored_names
 
 NO_BRAID = "; before a braid word write braid:"
@@ -8,7 +10,7 @@ WHICH = (
 )
 
 
-def read(text, form, known):
+def read(text: str, form: str, known: dict[str, Any]) -> tuple[codes.Links, list[str]]:
     """The crossings of a code, of the form that is told or of the one that it looks like, and what there is to say of that form."""
     if form == statements.MISSING:
         raise codes.Fault("this row has no code in the columns that are read", 0)

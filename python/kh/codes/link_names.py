@@ -146,7 +146,7 @@ def is_known(name: str, known: dict[str, Any]) -> bool:
     return name in UNKNOT or name in known or bool(TORUS.fullmatch(name))
 
 
-def read(name, place, known):
+def read(name: str, place: int, known: dict[str, Any]) -> tuple[codes.Links, list[str]]:
     """The crossings of the link of this name, and what there is to say."""
     if name in UNKNOT:
         return codes.Links([], 1, {}), ["the unknot, as a loop"]

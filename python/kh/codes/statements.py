@@ -110,7 +110,7 @@ def is_name(text):
     return bool(words) and not is_open and not braid_words.WORD.fullmatch(words[0]) and not dowker.WORD.fullmatch(words[0])
 
 
-def named(line):
+def named(line: str) -> tuple[str, str, str]:
     """The name before a code, the code, and all that stands before it."""
     plain = line.translate(ALIKE)
     for found in BETWEEN.finditer(plain):

@@ -58,7 +58,7 @@ def is_in_no_plane(said: Sequence[str]) -> bool:
     return any(it.startswith(NO_SPHERE) for it in said)
 
 
-def name_of(statement, number):
+def name_of(statement: Any, number: int) -> str:
     """The name of a code: the one before it, or what it says itself, or its number."""
     if statement.name or isinstance(statement, statements.Known):
         return statement.name or f"code {number}"

@@ -164,7 +164,7 @@ class Collection:
         over = over_words(table.field, table.is_reduced)
         self.compared.append(Compared(answer.name, over, comparison, comparison.verdict()))
 
-    def refuse(self, answer, fault):
+    def refuse(self, answer: Answer, fault: object) -> None:
         """Notes why an answer is no table."""
         where = answer.where if answer.where.startswith(answer.name) else f"{answer.where}, {answer.name}"
         self.unreadable.append(f"{where}: {fault}")
@@ -183,9 +183,9 @@ class Collection:
                 found.setdefault((over_words(field, is_reduced), ""), []).extend(left)
         return found
 
-    def silent(self):
+    def silent(self) -> Iterator[str]:
         """A line for the links that have no answer, for each reason; the same ones over several fields are told once."""
-        alike = {}
+        alike: dict[tuple[str, tuple[str, ...]], list[str]] = {}
         for (over, why), names in self.missing().items():
             alike.setdefault((why, tuple(names)), []).append(over)
         rows = [*alike.items()]

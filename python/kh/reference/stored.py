@@ -35,7 +35,7 @@ def listed(words):
 
 
 @functools.cache
-def diagrams(path):
+def diagrams(path: str) -> dict[str, str]:
     """The planar diagrams of a file of vectors, by name."""
     return {it["name"]: it["pd"] for it in lines_of(path)}
 

@@ -94,7 +94,7 @@ def read(text: str) -> Reading:
         raise Unreadable(f"no table is so deep, or has such numbers: {fault}") from None
 
 
-def read_lines(text):
+def read_lines(text: str) -> Reading:
     """The table of lines of rows, or of a polynomial."""
     if LONG.search(text):
         raise Unreadable(f"no table has such a number: {LONG.search(text)[0][:80]}")
@@ -223,7 +223,7 @@ def read_value(value: Any) -> Reading:
     raise Unreadable(f"{value} is no table")
 
 
-def read_dictionary(value):
+def read_dictionary(value: dict) -> Reading:
     """The table of a dictionary by pairs of degrees, or by one degree and then by the other."""
     cells, is_nested = Cells(), all(isinstance(it, dict) for it in value.values())
     for key, inner in value.items():
