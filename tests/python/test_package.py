@@ -77,4 +77,6 @@ def test_it_is_installed_with_all_that_it_needs(tmp_path):
     code = "from kh.show.page_theorem import theorem_page; print('<img' in theorem_page('', ''))"
     came = subprocess.run([sys.executable, "-c", code], cwd=tmp_path, capture_output=True, text=True, timeout=120, env=settings)
     assert came.stdout == "True\n"
+    points = next(tmp_path.glob("installed/kh-*.dist-info/entry_points.txt")).read_text()
+    assert "[pytest11]\nkh.in_pytest = kh.in_pytest\n" in points
     assert os.path.exists(os.path.join(folder, "kh", "py.typed")) and os.path.exists(os.path.join(folder, "kh", "show", "page_style.css"))
