@@ -30,6 +30,12 @@ class Drawing:
         with open(path, "w", encoding="utf-8") as file:
             file.write('<?xml version="1.0" encoding="UTF-8"?>\n' + self._svg)
 
+    def __eq__(self, other: object) -> bool:
+        return isinstance(other, Drawing) and (self._slices, self._svg) == (other._slices, other._svg)
+
+    def __hash__(self) -> int:
+        return hash(self._svg)
+
     def __str__(self) -> str:
         from .show.layout import lines_of
 

@@ -1,17 +1,17 @@
 """Links, by a diagram, as values."""
 from __future__ import annotations
 
+import operator
 import re
-from collections.abc import Sequence
+from collections.abc import Iterable, Mapping, Sequence
 from html import escape
 from typing import TYPE_CHECKING, Any, Union
 
 from . import programs
-from .codes import link_names, plain_lists, turning
+from .codes import link_names, plain_lists, stored_names, turning
 from .laurent import Polynomial, jones_of
-from .places import reference_file
-from .refused import Refused, need_answer
-from .tables import FIELDS, Table
+from .refused import MoveRefused, Refused, among, need_answer
+from .tables import FIELDS, Table, need_field
 from .torsion import Torsion
 
 if TYPE_CHECKING:
@@ -46,9 +46,9 @@ class Link:
     _gauss: str | None
 
     def __init__(self, code: Code = "", *, braid: Sequence[int] | None = None, name: str = "", clockwise: bool = False) -> None:
-        if braid is not None:
-            code = f"braid: {' '.join(map(str, braid))}"
-        text = code if isinstance(code, str) else str([list(it) if isinstance(it, tuple) else it for it in code])
+        if braid is not None and code != "":
+            raise ValueError("a link is made of a code or of the letters of a braid, and here are both")
+        text = _text_of(code) if braid is None else _braid_text(braid)
         written = "" if clockwise else plain_lists.written(text)
         self._code, self._name, self._said = (written, "", ()) if written else _read(text, clockwise)
         self._name = name or self._name
@@ -119,8 +119,7 @@ class Link:
     def table(self, field: int = 2) -> Table:
         """The table of Khovanov homology over the field of 2, 3, 5 or 7 elements. Proved, but for this package's handing it on: it is the
         definition's."""
-        if field not in FIELDS:
-            raise ValueError(f"the field has 2, 3, 5 or 7 elements, and not {field}")
+        field = need_field(field)
         answer = programs.STREAMS.ask(field, self._code)
         if answer.status == programs.OUT_OF_MEMORY:
             raise MemoryError(f"kh-scan has no memory for {self!r}")
@@ -133,9 +132,10 @@ class Link:
     def reduced(self, mark: int = 1, field: int = 2) -> Table:
         """The table of reduced homology at an arc or a loop, which is proved to be the definition's. It is made from the whole cube, which
         has a limit (docs/KNOTS.md, "Which diagrams fit")."""
-        if field not in FIELDS:
-            raise ValueError(f"the field has 2, 3, 5 or 7 elements, and not {field}")
-        return Table._of_answer(self._kh("reduced", "--mark", str(mark), "--field", str(field)), field)
+        field, number = need_field(field), _number(mark)
+        if number is None:
+            raise ValueError(f"a mark is the number of an arc or of a loop, and not {mark!r}")
+        return Table._of_answer(self._kh("reduced", "--mark", str(number), "--field", str(field)), field)
 
     @property
     def jones(self) -> Polynomial:
@@ -159,16 +159,24 @@ class Link:
 
     def union(self, other: Link) -> Link:
         """Both diagrams beside each other. Proved: its tables are the products."""
+        if not isinstance(other, Link):
+            raise TypeError(f"a union is one of two links, and {other!r} is none")
         given = f"{self._code};{other._code}"
         return Link._of_code(need_answer(programs.run(["union"], given), "union", given).strip())
 
     def move(self, *lines: str) -> Link:
         """The diagram behind these Reidemeister moves, each a line of a script of `kh edit`: `r1 add 1 under plus`, `r2 drop 1 2`,
-        `r3 1 2 3` (docs/FORMATS.md, "Scripts"). One that can not be made raises `MoveRefused`. Proved: its tables are the same."""
+        `r3 1 2 3` (docs/FORMATS.md, "Scripts"). One that can not be made raises `MoveRefused`, which says which. Proved: its tables are
+        the same."""
         start, before = self._history
-        every = (*before, *(line for text in lines for line in text.splitlines() if line.strip()))
+        mine = [line for text in lines for line in text.splitlines() if line.strip()]
+        every = (*before, *mine)
         given = f"{start};\n" + "".join(f"{line}\n" for line in every)
-        wrote = need_answer(programs.run(["edit"], given), "edit", given).splitlines()
+        try:
+            wrote = need_answer(programs.run(["edit"], given), "edit", given).splitlines()
+        except MoveRefused as fault:
+            # (the code stands in a line of its own before them)
+            raise among(fault, mine, 1 + len(before)) from None
         code = wrote[-1].partition(" ")[2] if wrote else start
         return Link._of_code(code, self._name, history=(start, every))
 
@@ -192,7 +200,7 @@ class Link:
 
     def certify(self, field: int = 2) -> str:
         """A log that proves the table over a field, which `kh.verify` and others can check (docs/LOG-FORMAT.md)."""
-        return self._kh("certify", "--field", str(field))
+        return self._kh("certify", "--field", str(need_field(field)))
 
     def drawing(self, *, numbers: bool = False, mark: int | None = None, colours: bool = False) -> Drawing:
         """The drawing, with the numbers of arcs and crossings, a dot on an arc or loop, and a colour for each component, where wanted."""
@@ -268,33 +276,50 @@ def verify(log: str) -> Table:
     return Table.all_of(wrote)[0]
 
 
+def _text_of(code: Any) -> str:
+    """The text of a code, or of a list as other programs have it."""
+    if isinstance(code, str):
+        return code.removeprefix("\ufeff")
+    if not isinstance(code, Iterable) or isinstance(code, (bytes, bytearray, Mapping)):
+        raise TypeError(f"a code is a text or a list, and not {code!r}")
+    return str([list(it) if isinstance(it, tuple) else it for it in code])
+
+
+def _braid_text(letters: Any) -> str:
+    """The braid word of these letters."""
+    if isinstance(letters, (str, bytes)) or not isinstance(letters, Iterable):
+        raise TypeError(f"the letters of a braid are a list of numbers, such as [1, -2, 1, -2], and not {letters!r}")
+    numbers = []
+    for it in letters:
+        number = _number(it)
+        if not number:
+            raise ValueError(f"a letter of a braid is 1, 2 and so on, or -1, -2 for their inverses, and not {it!r}")
+        numbers.append(number)
+    return f"braid: {' '.join(map(str, numbers))}"
+
+
+def _number(value: Any) -> int | None:
+    """A number of any type of whole numbers; nothing where it is none."""
+    try:
+        return operator.index(value)
+    except TypeError:
+        return None
+
+
 def _read(text: str, clockwise: bool) -> tuple[str, str, tuple[str, ...]]:
     """The planar diagram of the one code or name of a text, its name, and what there is to say."""
     try:
         return _read_code(text, clockwise)
     except Refused as fault:
         name = text.strip()
-        code = _stored(name) if _NAME.fullmatch(name) else ""
-        if code:
-            return code, name, ()
         if _NAME.fullmatch(name):
             fault.what = "; ".join(filter(None, (fault.what, _meant(name))))
         raise
 
 
-def _stored(name: str) -> str:
-    """The planar diagram of a name that the files of tables alone have, such as `3_1 and two loops`; nothing where they have none."""
-    from .reference.stored import FILES, diagrams
-
-    known = (diagrams(reference_file(it)) for it in FILES.values())
-    return next((str(them[name]) for them in known if name in them), "")
-
-
 def _meant(name: str) -> str:
     """Whether one of the names near this one is meant; nothing where there are none."""
-    from .reference.stored import FILES, diagrams
-
-    every = {**diagrams(reference_file(FILES["reference"])), **link_names.reference()}
+    every = {**stored_names.known(), **link_names.reference()}
     return str(link_names.question(link_names.near(link_names.name_of(name) or name, every)))
 
 

@@ -63,12 +63,20 @@ def fields_of(fields: Fields) -> tuple[int, ...]:
     return chosen
 
 
+def need_jobs(jobs: object) -> None:
+    """Refuses what is no number of things to be done at once."""
+    if not isinstance(jobs, int) or jobs < 1:
+        raise ValueError(f"jobs is a number from 1, and not {jobs!r}")
+
+
 def results(links: Iterable[Link], fields: Fields = "all", jobs: int | None = None) -> Iterator[Result]:
     """What comes of each link over each field, as it comes, so in any order; with so many processes, or as many as there are processors.
     Tables are those of `Link.table`."""
     from .tabulate.tasks import Lost, Task
     from .tabulate.streams import Scans, in_runs
 
+    if jobs is not None:
+        need_jobs(jobs)
     chosen, left = fields_of(fields), iter(links)
     # (a process is over fixed fields, so links are given over one field and then over the next, some hundreds at a time)
     parts = iter(lambda: [Task(link, link.code, chosen) for link in itertools.islice(left, PART)], [])
@@ -83,7 +91,7 @@ def results(links: Iterable[Link], fields: Fields = "all", jobs: int | None = No
 
 def _result(it: Any) -> Result:
     if it.status == programs.ANSWERED:
-        return Result(it.key, it.field, Table(of_short_rows(it.table_rows), field=it.field), None)
+        return Result(it.key, it.field, Table._of(of_short_rows(it.table_rows), it.field), None)
     try:
         need_answer(programs.Answer(it.status, it.refusal), "homology", it.key.code)
     except Refused as fault:

@@ -40,7 +40,20 @@ class TooLarge(Refused):
 
 
 class MoveRefused(Refused):
-    """A move that can not be made; `line` says why. That it can not is proved."""
+    """A move that can not be made; `line` says why, `text` has the lines that were given, and `number` that of the move among them, from 1.
+    That it can not is proved."""
+
+    def __init__(self, what: str, text: str = "", spans: Sequence[tuple[int, int]] = (), line: str = "", number: int = 1) -> None:
+        super().__init__(what, text, spans, line)
+        self.number = number
+
+
+def among(fault: MoveRefused, lines: Sequence[str], before: int) -> MoveRefused:
+    """The same of these lines alone, where so many stand before them."""
+    number, text = fault.number - before, "\n".join(lines)
+    begin = sum(len(it) + 1 for it in lines[: number - 1])
+    what = f"the move in line {number}, {lines[number - 1].strip()}, can not be made (docs/FORMATS.md, \"Answers\")"
+    return MoveRefused(what, text, [(begin, begin + len(lines[number - 1]))], fault.line, number)
 
 
 def need_answer(answer: Answer, command: str, given: str) -> str:
@@ -52,8 +65,8 @@ def need_answer(answer: Answer, command: str, given: str) -> str:
         words = line.split()
         raise TooLarge(f"there are {words[-3]} {words[-4]}, and at most {words[-1]} are taken", given, line=line)
     if answer.status == MOVE_REFUSED:
-        line = answer.wrote.splitlines()[-1].partition(" ")[2]
-        raise MoveRefused("this move can not be made (docs/FORMATS.md, \"Answers\")", given, line=line)
+        number, _, line = answer.wrote.splitlines()[-1].partition(" ")
+        raise MoveRefused("this move can not be made (docs/FORMATS.md, \"Answers\")", given, line=line, number=int(number))
     return answer.wrote
 
 

@@ -1,10 +1,11 @@
 """Tables of Khovanov homology over a field, as values."""
 from __future__ import annotations
 
+import operator
 import re
 from collections import Counter
 from collections.abc import Iterator, Mapping
-from typing import TYPE_CHECKING, NamedTuple, cast
+from typing import TYPE_CHECKING, Any, NamedTuple, cast
 
 from .commands import Unreadable
 from .laurent import Polynomial, jones_line, jones_of
@@ -30,6 +31,24 @@ class Degrees(NamedTuple):
     i: int
 
 
+def need_field(field: Any) -> int:
+    """The size of a field of 2, 3, 5 or 7 elements; anything else is refused."""
+    try:
+        size = operator.index(field)
+    except TypeError:
+        size = 0
+    if size not in FIELDS:
+        raise ValueError(f"the field has 2, 3, 5 or 7 elements, and not {field!r}")
+    return size
+
+
+def _whole(value: Any, what: str) -> int:
+    """A number that is whole, whatever its type."""
+    if isinstance(value, (str, bytes)) or not hasattr(value, "__int__") or int(value) != value:
+        raise ValueError(f"{what} is a whole number, and not {value!r}")
+    return int(value)
+
+
 class Table(Mapping[Degrees, int]):
     """A table of homology over a field: a mapping of degrees (j, i) to dimensions, immutable. `table[13, 4]` is the dimension at j = 13 and
     i = 4, and 0 where the table has none; what it is iterated over, and counts, are the degrees with a dimension above 0, ascending.
@@ -42,11 +61,21 @@ class Table(Mapping[Degrees, int]):
     _dimensions: dict[Degrees, int] | None
 
     def __init__(self, dimensions: Mapping[tuple[int, int], int], *, field: int, mark: int | None = None) -> None:
-        found = {Degrees(int(j), int(i)): int(dimension) for (j, i), dimension in dimensions.items()}
+        if not isinstance(dimensions, Mapping):
+            raise TypeError(f"a table is made of a mapping of degrees (j, i) to dimensions, and not of {dimensions!r}")
+        found = {_degrees(key): _whole(dimension, "a dimension") for key, dimension in dimensions.items()}
         if any(dimension < 0 for dimension in found.values()):
             raise ValueError("a dimension is 0 or more")
-        self._field, self._mark, self._text = field, mark, ""
+        self._field, self._mark, self._text = need_field(field), None if mark is None else _whole(mark, "a mark"), ""
         self._dimensions = {degrees: found[degrees] for degrees in sorted(found) if found[degrees]}
+
+    @classmethod
+    def _of(cls, dimensions: Mapping[tuple[int, int], int], field: int, mark: int | None = None) -> Table:
+        """The table of whole numbers over a field of this size, which is 0 of the rational numbers."""
+        table = cls.__new__(cls)
+        table._field, table._mark, table._text = field, mark, ""
+        table._dimensions = {Degrees(*degrees): dimensions[degrees] for degrees in sorted(dimensions) if dimensions[degrees]}
+        return table
 
     @classmethod
     def _of_answer(cls, text: str, field: int) -> Table:
@@ -63,18 +92,21 @@ class Table(Mapping[Degrees, int]):
         from .reference import groups, stored, table_forms as forms
         from .refused import Refused
 
+        if order not in (None, "ji", "ij"):
+            raise ValueError(f"the order of pairs is \"ji\" or \"ij\", and not {order!r}")
         try:
             reading = forms.read(text)
             is_first = order == "ji" if order and reading.is_j_first is None else forms.j_is_first(reading)
             if is_first is None:
                 raise Unreadable("the numbers of its pairs may be j, i or i, j: order=\"ji\" or order=\"ij\" says it")
-            size = reading.field if reading.field in FIELDS else field or 2
+            size = reading.field if reading.field in FIELDS else need_field(2 if field is None else field)
             found = forms.groups_of(reading, is_first)
             if groups.has_torsion(found) or reading.field not in (None, *FIELDS):
                 return cls({(j, i): count for (_, j, i), count in stored.given_tables(found, forms.INTEGRAL, (size,)).items()}, field=size)
         except Unreadable as fault:
             raise Refused(str(fault), text) from None
-        return cls({degrees: sum(group.values()) for degrees, group in found.items()}, field=size, mark=0 if reading.is_reduced else None)
+        mark = reading.mark if reading.mark is not None else 0 if reading.is_reduced else None
+        return cls({degrees: sum(group.values()) for degrees, group in found.items()}, field=size, mark=mark)
 
     @classmethod
     def all_of(cls, text: str) -> list[Table]:
@@ -124,8 +156,11 @@ class Table(Mapping[Degrees, int]):
         return self._dimensions
 
     def __getitem__(self, degrees: tuple[int, int]) -> int:
-        j, i = degrees
-        return self._known.get(cast(Degrees, (j, i)), 0)
+        try:
+            return self._known[cast(Degrees, degrees)]
+        except (KeyError, TypeError):
+            # (what is asked is looked at where the table has nothing there)
+            return self._known.get(_degrees(degrees), 0)
 
     def at(self, *, j: int, i: int) -> int:
         """The dimension at these degrees, which are named."""
@@ -151,6 +186,11 @@ class Table(Mapping[Degrees, int]):
 
     def __hash__(self) -> int:
         return hash((self._field, self._mark is None, tuple(self._known.items())))
+
+    def differences(self, other: Mapping[Any, int]) -> dict[Degrees, tuple[int, int]]:
+        """The degrees at which the dimensions are other ones, ascending, with that of this table and that of the other."""
+        theirs = other if isinstance(other, Table) else Table(other, field=self._field)
+        return {at: (self[at], theirs[at]) for at in sorted({*self, *theirs}) if self[at] != theirs[at]}
 
     @property
     def total(self) -> int:
@@ -235,6 +275,13 @@ class Table(Mapping[Degrees, int]):
         lines = [" & ".join([str(j), *(str(self[j, i] or "") for i in columns)]) for j in rows]
         body = " \\\\\n".join([f"{head} \\\\ \\hline\n{lines[0] if lines else ''}", *lines[1:]])
         return f"$\\begin{{array}}{{r|{'r' * len(columns)}}}\n{body}\n\\end{{array}}$"
+
+
+def _degrees(key: Any) -> Degrees:
+    """A pair of degrees; what is none is refused."""
+    if not isinstance(key, (tuple, list)) or len(key) != 2:
+        raise TypeError(f"degrees are a pair (j, i), the quantum degree first, and not {key!r}")
+    return Degrees(_whole(key[0], "the degree j"), _whole(key[1], "the degree i"))
 
 
 def short_rows(rows: str) -> str:

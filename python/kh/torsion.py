@@ -54,6 +54,9 @@ class Torsion:
     def __eq__(self, other: object) -> bool:
         return isinstance(other, Torsion) and (self._counts, self._least) == (other._counts, other._least)
 
+    def __hash__(self) -> int:
+        return hash((frozenset((p, frozenset(found.items())) for p, found in self._counts.items()), self._least))
+
     def __str__(self) -> str:
         lines = []
         for p, found in self._counts.items():

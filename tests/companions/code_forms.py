@@ -47,10 +47,10 @@ def row_faults():
     yield "kh-codes: a line of each code that is read", None if (status, len(lines)) == (0, len(rows.READ)) else f"{status}, {lines}"
     for (name, _, *wanted), *came in zip(rows.READ, lines, said):
         yield f"kh-codes: {name}", None if came == wanted else f"{came} and not {wanted}"
-    status, lines, said = run_each([given for _, given, _, _ in rows.WRONG])
+    status, lines, said = run_each([row[1] for row in rows.WRONG])
     yield "kh-codes: no line of a wrong code", None if (status, lines) == (1, []) else f"{status}, {lines}"
-    for (name, given, what, column), came in zip(rows.WRONG, said):
-        wanted = rows.pointing(what, given, column) + rows.counted(0, 1)
+    for (name, given, what, column, *called), came in zip(rows.WRONG, said):
+        wanted = rows.pointing(what, given, column, 1, *called) + rows.counted(0, 1)
         yield f"kh-codes: {name}", None if came == wanted else f"{came} and not {wanted}"
     for name, words, given, status, wrote, said in rows.MORE:
         wanted = status, "".join(f"{it}\t{code}\n" for it, code in wrote), said

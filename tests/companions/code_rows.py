@@ -17,9 +17,11 @@ def told(what, name="code 1", line=1):
     return f"input:{line}: {name}: {what}\n"
 
 
-def pointing(what, text, column, line=1):
-    """What is said of a wrong code."""
-    return f"input:{line}: {what}\n  {text}\n  {' ' * column}^\n"
+def pointing(what, text, column, line=1, name="code 1"):
+    """What is said of a wrong code: the line and the column, its name, what is wrong, and what stands there, where that is not the name."""
+    rest = " ".join(text.expandtabs(1)[column:].split())
+    rest = f": {rest[:40]}.." if len(rest) > 40 else f": {rest}" if rest not in ("", name) else ""
+    return f"input:{line}:{column + 1}: {name}: {what}{rest}\n"
 
 
 def counted(right, wrong=0, fate="left out"):
@@ -42,6 +44,7 @@ def closed(name, braid, hand="", called=""):
 FROM_ZERO = told("arcs from 0 numbered anew from 1 along each component")
 TURNED = told("crossing 1 turned by a half: the first arc was the one on which the under pass goes out")
 NO_SPHERE = told("it can be drawn on no sphere (3 faces, not 5), so kh will refuse it")
+TURNED_HERE = "crossing 2 turned by a half: the first arc was the one on which the under pass goes out"
 CLOCKWISE = told("read clockwise: the second and the fourth arc of each crossing exchanged")
 PARTS = told("a DT code: each of its 2 parts may be mirrored; chosen is the diagram in which the first crossing of each is positive")
 MIRRORED, AMPHICHEIRAL = "; the mirror image of the Knot Atlas's", "; its own mirror image"
@@ -107,6 +110,9 @@ READ = [
     ("a torus knot of the other hand", "T(2,\u22125)", LEFT_FIVE, closed("T(2,-5)", "2 strands, -1 -1 -1 -1 -1")),
     ("a torus knot on one strand", "T(1,5)", UNKNOT, closed("T(1,5)", "1 strand, no letters")),
     ("the unknot", "unknot", UNKNOT, told("the unknot, as a loop", "unknot")),
+    ("loops", "3 loops", "PD[Loop[1], Loop[2], Loop[3]]", told("the reference's diagram of 3 loops", "3 loops")),
+    ("a link of parts", "k: 3_1 and two loops", RIGHT.replace("]]", "], Loop[7], Loop[8]]"),
+     told("the reference's diagram of 3_1 and two loops", "k")),
 ]
 
 WHICH = (
@@ -129,7 +135,7 @@ OF_HOPF = NO_SIGNS + "GaussCode[{1, -2}, {2, -1}] Signs[1, 1], or Signs[-1, -1] 
 OF_CURLS = OF_HOPF.replace("{1, -2}, {2, -1}", "1, -2, 2, -1") + " (or others: each of its 2 parts may be mirrored)"
 NOT_CLOSED = "this bracket is not closed"
 
-# A name, an input of one line with one wrong code, what is said, and at which column.
+# A name, an input of one line with one wrong code, what is said, and at which column; the name under which it is said, if it has one.
 WRONG = [
     ("a missing comma", "PD[X[1,4,2,5] X[3,6,4,1]]", "a comma is missing before this", 14),
     ("an open bracket", "PD[X[1,4,2,5]", NOT_CLOSED, 2),
@@ -170,15 +176,22 @@ WRONG = [
     ("a pass missing", "GaussCode[1,-2,2]", "each crossing, from 1 on, has one pass over and one under", 0),
     ("a wrong sign", "GaussCode[1,-1] Signs[2]", "each crossing has one sign, 1 or -1", 24),
     ("a list of numbers", "{1,1,1}", WHICH, 0),
-    ("an unknown name", "10_166", NO_LINK, 0),
-    ("an unknown name in TeX", "12_{1}", NO_LINK, 0),
-    ("an unknown link", "L6a4", NO_LINK, 0),
-    ("a link without directions", "k: L6a1", "L6a1 has several directions: write L6a1{0} or L6a1{1}", 3),
-    ("an unknown name of Dowker and Thistlethwaite", "11n_186", NO_LINK, 0),
-    ("an unknown name of KnotTheory", "k: Knot[10, NonAlternating, 124]", NO_LINK, 3),
-    ("an unknown link of KnotTheory", "Link[5, Alternating, 1]", NO_LINK, 0),
-    ("a large torus link", "T(5,6)", "this torus link has 24 crossings in its least braid, and kh takes 20", 0),
-    ("a torus link of nothing", "T(0,6)", "the numbers of a torus link are not 0", 0),
+    ("an unknown name", "10_166", NO_LINK, 0, "10_166"),
+    ("an unknown name in TeX", "12_{1}", NO_LINK, 0, "12_1"),
+    ("an unknown link", "L6a4", NO_LINK, 0, "L6a4"),
+    ("a link without directions", "k: L6a1", "L6a1 has several directions: write L6a1{0} or L6a1{1}", 3, "k"),
+    ("an unknown name of Dowker and Thistlethwaite", "11n_186", NO_LINK, 0, "11n_186"),
+    ("an unknown name of KnotTheory", "k: Knot[10, NonAlternating, 124]", NO_LINK, 3, "k"),
+    ("an unknown link of KnotTheory", "Link[5, Alternating, 1]", NO_LINK, 0, "Link[5,Alternating,1]"),
+    ("a large torus link", "T(5,6)", "this torus link has 24 crossings in its least braid, and kh takes 20", 0, "T(5,6)"),
+    ("an unknown name of words", "borromean rings", NO_LINK, 0, "borromean rings"),
+    ("an unknown name of loops", "k: 40 loops", NO_LINK, 3, "k"),
+    ("an unknown name behind a tab", "k\tHopf and 3_2 apart", NO_LINK, 2, "k"),
+    ("a word before brackets", "a b [[1,1,2,2]]", "a bracket is missing before this", 2),
+    ("something behind a tab", "k\tno code!", "no code has a '!' here", 9, "k"),
+    ("something behind a colon", "my knot: ?", "no code has a '?' here", 9, "my knot"),
+    ("a letter that is none", "braid: 1 0", "0 is no letter of a braid: letters are 1, 2 and so on, and -1, -2 for their inverses", 9),
+    ("a torus link of nothing", "T(0,6)", "the numbers of a torus link are not 0", 0, "T(0,6)"),
 ]
 
 OPEN = "[[1,5,2,4],[3,1,4,6],[5,3,6,2]"
@@ -191,8 +204,9 @@ a wrong one = [[1,4,2 5],[3,6,4,1],[5,2,6,3]]
 3_1\t[[1,5,2,4];[3,1,4,6];[5,3,6,2]]
 """
 WRONG_ONE = "[[1,4,2 5],[3,6,4,1],[5,2,6,3]]"
-MANY_SAID = pointing("a comma is missing before this", f"a wrong one = {WRONG_ONE}", 22, 4)
-TWO_WRONG = pointing("a number is no code", "5", 0) + pointing("a number is no code", "6", 0, 3) + counted(0, 2, "kept as they stand")
+MANY_SAID = pointing("a comma is missing before this", f"a wrong one = {WRONG_ONE}", 22, 4, "a wrong one")
+TWO_WRONG = pointing("a number is no code", "5", 0) + pointing("a number is no code", "6", 0, 3, "code 2")
+TWO_WRONG += counted(0, 2, "kept as they stand")
 TABLE = """\
 name,pd_notation,braid_notation
 3_1,"[[1,5,2,4],[3,1,4,6],[5,3,6,2]]","{1,1,1}"
@@ -204,7 +218,7 @@ TABLE_READ = ("3_1", OTHER), ("0_1", UNKNOT), ("4_1", FIGURE_EIGHT)
 TABLE_SAID = (
     on_strands(1, "0_1", 3)
     + on_strands(3, "4_1", 4)
-    + pointing("this row has no code in the columns that are read", "5_1,,", 0, 5)
+    + pointing("this row has no code in the columns that are read", "5_1,,", 0, 5, "5_1")
     + counted(3, 1)
 )
 
@@ -221,7 +235,7 @@ MORE = [
     ("two codes, both wrong", ["--keep"], "5\n\n6\n", 1, [("code 1", "5"), ("code 2", "6")], TWO_WRONG),
     # a code whose brackets are open ends before the next
     ("an open bracket before names", [], f"a: {OPEN}\nb: {GOOD}\nc: {GOOD}\n", 1, [("b", TREFOIL), ("c", TREFOIL)],
-     pointing(NOT_CLOSED, "a: " + OPEN, 3) + counted(2, 1)),
+     pointing(NOT_CLOSED, "a: " + OPEN, 3, 1, "a") + counted(2, 1)),
     ("an open bracket before a name and a tab", [], f"{OPEN}\nb\t{GOOD}\n", 1, [("b", TREFOIL)],
      pointing(NOT_CLOSED, OPEN, 0) + counted(1, 1)),
     ("an open bracket before lists", [], f"{OPEN}\n{GOOD}\n{GOOD}\n", 1, [("code 2", TREFOIL), ("code 3", TREFOIL)],
@@ -237,7 +251,7 @@ MORE = [
     ("an open bracket before a braid", [], "{2, {1,1,1}\n{2, {1,1,1}}\n", 1, [("code 2", RIGHT)],
      pointing(NOT_CLOSED, "{2, {1,1,1}", 0) + on_strands(2, "code 2", 2) + counted(1, 1)),
     ("an open bracket before a name of no code", [], f"{OPEN}\nk: X1425\n", 1, [],
-     pointing(NOT_CLOSED, OPEN, 0) + pointing(NO_LINK, "k: X1425", 3, 2) + counted(0, 2)),
+     pointing(NOT_CLOSED, OPEN, 0) + pointing(NO_LINK, "k: X1425", 3, 2, "k") + counted(0, 2)),
     ("an open bracket before a blank line", [], f"{OPEN},\n\n{GOOD}\n", 1, [("code 2", TREFOIL)],
      pointing(NOT_CLOSED, OPEN + ",", 0) + counted(1, 1)),
     ("an open bracket before a table", [], f"{OPEN}\nname;pd_notation\nk;{GOOD}\n", 1, [("k", TREFOIL)],
@@ -251,6 +265,10 @@ MORE = [
     ("a table with semicolons", [], "name;braid_notation\n3_1;{1;1;1}\n", 0, [("3_1", RIGHT)], on_strands(2, "3_1", 2)),
     ("a code behind a table", [], f"name\tpd_notation\n3_1\t{GOOD}\n\n{GOOD}\n", 0, [("3_1", TREFOIL), ("code 2", TREFOIL)], counted(2)),
     ("a wrong row", [], 'name,pd_notation\n3_1,"[[1,4,2,5],[3,6,4,1]]"\n', 1, [],
-     pointing("each arc stands twice, and 2 stands once", '3_1,"[[1,4,2,5],[3,6,4,1]]"', 11, 2) + counted(0, 1)),
+     pointing("each arc stands twice, and 2 stands once", '3_1,"[[1,4,2,5],[3,6,4,1]]"', 11, 2, "3_1") + counted(0, 1)),
+    ("wrong ones under their names", ["--keep", "--quiet"], f"a\tno code!\nb\t{GOOD}\nc: no code?\nno such knot\nd\t[[1,4,2,5]\ne\t3?\n", 1,
+     [("a", "no code!"), ("b", TREFOIL), ("c", "no code?"), ("no such knot", "no such knot"), ("d", "[[1,4,2,5]"), ("e", "3?")], ""),
+    ("a line for a code", [], "[(0,3,1,4), (3,0,2,5), (4,1,5,2)]\n", 0, [("code 1", TREFOIL)],
+     told(f"{TURNED_HERE}; arcs from 0 numbered anew from 1 along each component")),
     ("no UTF-8", [], "\udcff", 1, [], "kh-codes: 'utf-8' codec can't decode byte 0xff in position 0: invalid start byte\n"),
 ]

@@ -1,6 +1,8 @@
 """Tries lists, databases and questions of `kh-tabulate` (see `tabulation.py`)."""
 import json
+import os
 import random
+import subprocess
 
 from bench.braids import planar_diagram
 from shared.places import read_text
@@ -235,8 +237,45 @@ def tables_of_other_programs(folder):
     rows = folder.run("write", "--list", folder.at("knots.csv"), folder.at("results.db"))[1].splitlines()
     if status or names != wanted_names or len(rows) != 17 or "knots.csv:6: cut: " in errors or "1 wrong and kept" not in errors:
         return f"status {status}, {names}, {len(rows)} rows, {errors}"
-    status, _, errors = folder.run("run", "-", folder.at("results.db"), given=KNOTS)
-    return None if status == 1 and "goes through tools/kh-codes" in errors else f"status {status}, {errors}"
+    calls = folder.calls()
+    status, _, errors = folder.run("run", "-", folder.at("results.db"), "--fields", "all", given=KNOTS)
+    return None if status == 0 and folder.calls() == calls and len(folder.results()) == 16 else f"status {status}, {errors}"
+
+
+# A list of mixed forms: names of links, with a name before them and without, forms that `kh` reads, and others.
+MIXED = "\ufeff# mixed\nmine\t3_1\n8_19\n3 loops\nk\tPD[Loop[1]]\nl\t[[4,1,3,2],[2,3,1,4]]\nb\tbraid: 1 1 1\nw\tno such knot\n[4, 6, 2]\n"
+MIXED_NAMES = ["mine", "8_19", "3 loops", "k", "l", "b", "w", "line 9"]
+MIXED_SAID = "3 codes are in none of the forms that kh reads, the first in line 7: tools/kh-codes --names turns other forms into one\n"
+
+
+def mixed_forms(folder):
+    """The name of a link is read in place of a code, as `kh.read` reads it; of other forms `kh-codes` is named; also by way of a pipe."""
+    path = folder.write("mixed", MIXED)
+    calls = [((path,), None), (("-",), MIXED), (("/dev/stdin",), MIXED)]
+    for words, given in calls:
+        folder.remove("results.db")
+        status, _, errors = folder.run("run", *words, folder.at("results.db"), "--fields", "2", given=given)
+        codes = dict(folder.select("select name, code from results"))
+        right = codes.get("mine") == "PD[X[4, 2, 5, 1], X[2, 6, 3, 5], X[6, 4, 1, 3]]" and codes.get("3 loops", "").count("Loop") == 3
+        is_said = f"{words[0]}: {MIXED_SAID}" in errors and f"{words[0]}:2: mine: the closed braid of 3_1" in errors
+        if status or sorted(codes) != sorted(MIXED_NAMES) or not right or not is_said or "\ufeff" in "".join(codes):
+            return f"{words}: status {status}, {codes}, {errors}"
+    wrote = folder.run("write", "--list", path, folder.at("results.db"))[1].splitlines()
+    return None if [line.split("\t")[0] for line in wrote[1:]] == MIXED_NAMES else f"{wrote}"
+
+
+def list_of_a_named_pipe(folder):
+    """A list that is a named pipe is opened once, whether it is a list of lines or a table."""
+    for text, count in ((MIXED, 8), (KNOTS, 4)):
+        pipe = folder.at("pipe")
+        os.mkfifo(pipe)
+        writer = subprocess.Popen(["sh", "-c", 'exec cat "$1" > "$2"', "sh", folder.write("some", text), pipe])
+        folder.remove("results.db")
+        _, _, errors = folder.run("run", pipe, folder.at("results.db"), "--fields", "2")
+        os.unlink(pipe)
+        if writer.wait(PATIENCE) or len(folder.results()) != count:
+            return f"{len(folder.results())} results of {count}, {errors}"
+    return None
 
 
 # How many pairs of mirror images a file of links has, and the torus knot and its mirror image with dimensions that are known.
@@ -287,5 +326,5 @@ def file_of_links(folder, scan):
 
 TESTS = (
     options_on_both_sides, rows_of_a_list, tabs_in_codes, codes_with_two_names, older_database, last_version, other_databases,
-    dropped_results, spoilt_lines, questions, tables_of_other_programs,
+    dropped_results, spoilt_lines, questions, tables_of_other_programs, mixed_forms, list_of_a_named_pipe,
 )  # fmt: skip

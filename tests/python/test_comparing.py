@@ -1,6 +1,12 @@
 """Comparisons with the reference, and its names."""
+import functools
+import json
+import subprocess
+
 import kh
 import pytest
+from kh.places import reference_file
+from kh.reference.stored import diagrams, lines_of
 
 NAMES = ["3_1", "4_1", "5_2", "7^2_1"]
 # Tables over three elements, and over five and seven.
@@ -115,3 +121,135 @@ def test_a_name_that_is_near_none():
         kh.compare({}, names="nonesuch")
     with pytest.raises(kh.Refused, match="a braid word\n"):
         kh.Link("nonesuch")
+
+
+def failing(link, field):
+    """A program that crashes, that takes long, that says why it ends, and a function with a mistake."""
+    words = {"4_1": "kill -11 $$", "5_1": "echo no such; echo a fault >&2; exit 3", "5_2": "exec sleep 60"}
+    if link.name in words:
+        subprocess.run(["sh", "-c", words[link.name]], check=True, capture_output=True, timeout=20 if link.name != "5_2" else 0.25)
+    if link.name == "6_1" and field == 3:
+        raise KeyError(link.name)
+    return stored()[link.name, field]
+
+
+@functools.cache
+def stored(name="vectors.jsonl"):
+    """The tables of a file of the reference, by name and field."""
+    return {(it["name"], it["field"]): kh.Table({(j, i): count for j, i, count in it["rows"]}, field=it["field"])
+            for it in lines_of(reference_file(name))}
+
+
+@pytest.mark.parametrize("jobs", [1, 4])
+def test_what_fails_is_no_answer_and_the_others_go_on(jobs, capsys):
+    found = kh.compare(failing, names=["3_1", "4_1", "5_1", "5_2", "6_1"], jobs=jobs, progress=True)
+    every = "over 2, over 3, over 5 and over 7"
+    assert found.lines == (
+        "7 of 7 answers agree", f"1 link has no answer {every}, since the program was ended by signal 11 (SIGSEGV): 4_1",
+        f"1 link has no answer {every}, since the program ended with status 3: a fault: 5_1",
+        f"1 link has no answer {every}, since the program took longer than 0.25 seconds: 5_2",
+        "1 link has no answer over 3, since it raised KeyError: '6_1': 6_1",
+    )
+    assert not found and found.links["3_1"] == "agrees" and found.links["4_1"] == "no answer" and found.links["6_1"] == "no answer over 3"
+    assert found.causes["4_1"] == "the program was ended by signal 11 (SIGSEGV)" and "3_1" not in found.causes
+    assert found.causes["6_1"] == "it raised KeyError: '6_1'"
+    said = capsys.readouterr()
+    assert said.err.endswith("a second \n") and "\r20 done, 0 left" in said.err and not said.out
+
+
+def test_few_reasons_are_told():
+    def mine(link):
+        raise ValueError(f"{link.name}\nand more")
+
+    found = kh.compare(mine, most=3)
+    assert len(found.lines) == 5 and found.lines[-1] == "165 links more, for other reasons" and len(found.causes) == 168
+    assert found.causes["Hopf"] == "it raised ValueError: Hopf"
+
+
+def test_a_table_without_the_loops():
+    """What a program makes of `link.pd`, which leaves them out; also where it is the mirror image's."""
+    tables = {name: stored()[name, 3] for name in ("3_1", "4_1", "8_19")}
+    apart = {f"{name} and two loops": table for name, table in tables.items()}
+    found = kh.compare({**apart, "3 loops": {(1, 0): 1, (-1, 0): 1}}, field=3, names=[*apart, "3 loops"])
+    without = "of the diagram, which link.pd leaves out, and link.loops counts"
+    labels = "3_1 and two loops over 3, 4_1 and two loops over 3 and 8_19 and two loops over 3"
+    assert found.lines == (
+        "0 of 4 answers agree", f"3 answers ({labels}): it is the table without the loops {without}",
+        f"1 answer (3 loops over 3): it is the table without 2 of the 3 loops {without}",
+    )
+    assert found.links["3_1 and two loops"] == "the table without the loops of the diagram"
+    found = kh.compare({"3_1 and two loops": tables["3_1"].mirror()}, names=["3_1 and two loops"])
+    assert found.links == {"3_1 and two loops": "the table of the mirror image without the loops of the diagram"}
+
+
+@pytest.mark.parametrize("is_wrong, common", [
+    (lambda line, field: field == 5, "are over 5, and none of the 504 that agree"),
+    (lambda line, field: line["minus"] % 2, "have an odd number of negative crossings, and none of the 436 that agree"),
+    (lambda line, field: sum(count for _, count in line["jones"]) == 4, "have 2 components, and none of the 540 that agree"),
+])
+def test_what_failures_have_in_common(is_wrong, common):
+    lines = {it["name"]: it for it in lines_of(reference_file("vectors.jsonl"))}
+
+    def mine(link, field):
+        table = stored()[link.name, field]
+        return {**table, [*table][0]: 7, [*table][-1]: 9} if is_wrong(lines[link.name], field) else table
+
+    told = [it for it in kh.compare(mine).lines if it.startswith("in common: ")]
+    assert told[0] == f"in common: all of them {common}" and len(told) < 4
+    assert not [it for it in kh.compare(mine, names=["3_1", "Hopf"]).lines if it.startswith("in common: ")]
+
+
+def test_a_reference_of_a_database(tmp_path):
+    """What `kh-tabulate write --json` writes is one; a file that is none is refused."""
+    rows = {"name": "mine", "field": 3, "status": 0, "jones": "1*q^1 1*q^3 1*q^5 -1*q^9", "refusal": "", "seconds": 0.1, "program": "scan"}
+    row = {**rows, "code": "[[4,2,5,1],[2,6,3,5],[6,4,1,3]]", "table_rows": "1 0 1; 3 0 1; 5 2 1; 9 3 1"}
+    refused = {**rows, "name": "cut", "code": "[[", "table_rows": "", "jones": "", "refusal": "refused json", "status": 1}
+    path = tmp_path / "answers.jsonl"
+    path.write_text(f"{json.dumps(row)}\n{json.dumps(refused)}\n")
+    assert kh.names(path) == ["mine"] and kh.compare({"mine": TABLES["3_1"]}, path, field=3)
+    codes = []
+    assert kh.compare(lambda link: codes.append(link.code) or TABLES["3_1"], str(path), field=3)
+    assert codes == ["PD[X[4, 2, 5, 1], X[2, 6, 3, 5], X[6, 4, 1, 3]]"]
+    for text in ("no JSON\n", '{"name": "3_1"}\n', "[1]\n"):
+        path.write_text(text)
+        for call in (lambda: kh.names(path), lambda: kh.compare({}, path)):
+            diagrams.cache_clear()
+            with pytest.raises(kh.Refused, match="answers.jsonl:1: this is no line of a reference"):
+                call()
+    path.write_text(f"{json.dumps(row)}\n{json.dumps({**row, 'field': 5, 'code': 'PD[Loop[1]]'})}\n")
+    with pytest.raises(kh.Refused, match="two codes of mine"):
+        kh.compare({}, path)
+
+
+@pytest.mark.parametrize("call, error, what", [
+    (lambda: kh.compare([1, 2]), TypeError, r"answers are a function from a link to its table, or a mapping .*, and not \[1, 2\]"),
+    (lambda: kh.compare({}, ["3_1"]), TypeError, "names= takes names of it"),
+    (lambda: kh.compare({}, field=4), ValueError, "and not 4"),
+    (lambda: kh.compare({}, order="qt"), ValueError, "and not 'qt'"),
+    (lambda: kh.compare({}, jobs=0), ValueError, "jobs is a number from 1"),
+    (lambda: kh.compare({}, links=["3_1"], names=["3_1"]), ValueError, "give one of them"),
+    (lambda: kh.compare({}, links=["9_99"]), kh.Refused, "no link of this name"),
+    (lambda: kh.compare({}, links=[3]), TypeError, "a code is a text or a list, and not 3"),
+    (lambda: kh.names("nope"), kh.Refused, "there is no reference nope"),
+    (lambda: kh.compare({}, "nope"), kh.Refused, "there is no reference nope"),
+])
+def test_what_can_not_be_compared_is_refused(call, error, what):
+    with pytest.raises(error, match=what):
+        call()
+
+
+@pytest.mark.program
+def test_links_of_ones_own():
+    links = [kh.Link("8_19"), "braid: 1 1 1", ("mine", [[1, 4, 2, 5], [3, 6, 4, 1], [5, 2, 6, 3]]), ("mine", kh.Link("4_1"))]
+    asked = []
+    found = kh.compare(lambda link, field: asked.append(link) or link.table(field), links=links)
+    assert found and found.lines == ("16 of 16 answers agree",) and [*found.links] == ["8_19", "link 2", "mine", "mine (4)"]
+    assert {it.name for it in asked} == {*found.links} and kh.Link("4_1") in asked
+    turned = kh.compare(lambda link: link.mirror().table(3), field=3, links={"K": "3_1", "L": "8_19", "apart": "3_1 and two loops"})
+    assert turned.links == {"K": "mirrored", "L": "mirrored", "apart": "mirrored"}
+    one = kh.compare({"3_1": kh.Link("3_1").reduced(1, 3).dimensions}, field=3, links="3_1")
+    assert one.links == {"3_1": "the reduced table"}
+    assert kh.compare({"3_1": kh.Link("3_1").reduced(1, 3)}, field=3, links="3_1")
+    assert kh.compare(lambda it: it.reduced(1), links=kh.Link("4_1"), reduced=True)
+    with pytest.raises(kh.TooLarge, match="long: "):
+        kh.compare(lambda link: link.table(2), links=[("long", kh.Link(braid=[1] * 21))])

@@ -54,8 +54,11 @@ def test_moves_keep_tables_and_are_undone():
     assert len(other.pd) == 6 and other.table(2) == link.table(2)
     assert other.undo() == link.move("r1 add 1 under plus") and other.undo().undo() == link and other.undo().redo() == other
     assert other.undo().move("r1 drop 4").table(3) == link.table(3) and link.move() == link
-    with pytest.raises(kh.MoveRefused, match="refused no kink at 1"):
+    with pytest.raises(kh.MoveRefused, match="refused no kink at 1: the move in line 1, r1 drop 1, can not be made"):
         link.move("r1 drop 1")
+    with pytest.raises(kh.MoveRefused, match="the move in line 2, r1 drop 9, can not be made") as moved:
+        link.move("r1 add 1 under plus").move("r1 drop 4\n", "r1 drop 9", "undo")
+    assert moved.value.number == 2 and moved.value.caret == "  line 2: r1 drop 9\n" + " " * 10 + "^~~~~~~~~"
     with pytest.raises(kh.MoveRefused, match="refused nothing to undo"):
         link.undo()
     with pytest.raises(kh.Refused, match="refused line 2") as raised:

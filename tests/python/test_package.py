@@ -24,6 +24,28 @@ def test_what_installs_the_rest_says_what_it_does():
     assert subprocess.run([path, "everything"], capture_output=True, timeout=60).returncode == 1
 
 
+PYTHON = """#!/bin/sh
+case "$*" in
+*sys.prefix*) echo False ;;
+*"import "*) exit 1 ;;
+*pip*) echo "$@" >>"$CALLS"; exit "$STATUS" ;;
+esac
+"""
+
+
+@pytest.mark.parametrize("status, said", [("0", ""), ("1", "Debian's own does: /usr/bin/python3 -m pytest")])
+def test_the_python_that_runs_the_tests_gets_them(tmp_path, status, said):
+    """Another Python than Debian's gets them by its pip; where that fails it is said which Python has them."""
+    for name, text in (("python3", PYTHON), ("dpkg-query", "#!/bin/sh\necho install ok installed\n"), ("apt-get", "#!/bin/sh\nexit 1\n")):
+        (tmp_path / name).write_text(text)
+        (tmp_path / name).chmod(0o755)
+    calls = tmp_path / "calls"
+    settings = {**os.environ, "PATH": f"{tmp_path}:{os.environ['PATH']}", "CALLS": str(calls), "STATUS": status}
+    came = subprocess.run([os.path.join(TOP, "tools", "for-tests")], capture_output=True, text=True, timeout=60, env=settings)
+    assert came.returncode == 0 and said in came.stderr and bool(came.stderr) == bool(said)
+    assert calls.read_text().split()[-1] == "pytest"
+
+
 def installed(folder):
     """The package as pip installs it into a folder, without the net."""
     words = [sys.executable, "-m", "pip", "install", "--quiet", "--no-build-isolation", "--no-index", "--no-deps", "--target", folder, TOP]
@@ -55,4 +77,6 @@ def test_it_is_installed_with_all_that_it_needs(tmp_path):
     code = "from kh.show.page_theorem import theorem_page; print('<img' in theorem_page('', ''))"
     came = subprocess.run([sys.executable, "-c", code], cwd=tmp_path, capture_output=True, text=True, timeout=120, env=settings)
     assert came.stdout == "True\n"
+    points = next(tmp_path.glob("installed/kh-*.dist-info/entry_points.txt")).read_text()
+    assert "[pytest11]\nkh.in_pytest = kh.in_pytest\n" in points
     assert os.path.exists(os.path.join(folder, "kh", "py.typed")) and os.path.exists(os.path.join(folder, "kh", "show", "page_style.css"))

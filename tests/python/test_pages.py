@@ -50,7 +50,8 @@ def test_the_lines_of_the_page(monkeypatch, tmp_path, capsys):
     exec(beside, known)
     assert capsys.readouterr().out == "4 of 4 answers agree\n"
     exec(moved, known)
-    assert len(known["link"].moves()[::7]) > 3 and len(known["other"].pd) > 6
+    count = len(known["link"].moves()[::7])
+    assert count > 3 and capsys.readouterr().out == f"{count} of {count} answers agree\n"
     with open(os.path.join(TOP, "docs", "PYTHON.md"), encoding="utf-8") as file:
         in_one_way, in_rows = re.findall(r"^```text\n(.*?)^```$", file.read(), re.M | re.S)
     exec(turned, known)

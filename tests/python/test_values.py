@@ -1,10 +1,14 @@
 """Polynomials, tables and what they tell of torsion, as values; no program is asked."""
 import json
+import os
 import pickle
 import random
+import subprocess
+import sys
 
+import kh
 import pytest
-from kh import Degrees, Polynomial, Refused, Table, Torsion
+from kh import Degrees, Drawing, Polynomial, Refused, Table, Torsion
 from kh.places import reference_file
 from kh.reference.table_forms import read
 
@@ -174,3 +178,53 @@ def test_a_frame_of_pandas():
     frame = OVER_3.to_frame()
     assert isinstance(frame, pandas.DataFrame) and list(frame.columns) == ["field", "j", "i", "dim"] and frame["dim"].sum() == 4
     assert frame.pivot_table(index="j", columns="i", values="dim").loc[9, 3] == 1
+
+
+@pytest.mark.parametrize("mark", [None, 3])
+def test_what_is_shown_of_a_table_is_read_back(mark):
+    for table in (Table(OVER_3.dimensions, field=3, mark=mark), Table({(0, 0): 1, (2, 0): 1, (4, 2): 1, (6, 2): 1}, field=5, mark=mark)):
+        assert Table.read(repr(table)) == table and Table.read(f"kh.{table!r}").mark == mark
+        shown = Table.read(str(table.dimensions), field=table.field)
+        assert shown == Table(table.dimensions, field=table.field) == Table.read(str(dict(table)), field=table.field)
+        assert Table.read(table.text).mark == mark
+    with pytest.raises(Refused):
+        Table.read("{Degrees(j=1): 1}")
+
+
+def test_values_are_equal_behind_pickle_and_in_sets():
+    one, other = (Torsion.of({2: OVER_2, 3: table}) for table in (OVER_3, Table(OVER_3.dimensions, field=3)))
+    assert len({one, other, pickle.loads(pickle.dumps(one))}) == 1 and one == other != Torsion.of({3: OVER_3})
+    drawing, turned = (Drawing(text, "PD[Loop[1]]") for text in ("open 1: /\\\nclose 1: \\/\n",) * 2)
+    assert len({drawing, turned, pickle.loads(pickle.dumps(drawing))}) == 1
+    assert drawing != Drawing("", "PD[]") and drawing != "no drawing"
+
+
+def test_the_differences_of_tables():
+    assert OVER_2.differences(OVER_3) == {(7, 2): (1, 0), (7, 3): (1, 0)} == OVER_2.differences(dict(OVER_3))
+    assert OVER_3.differences(OVER_2) == {(7, 2): (0, 1), (7, 3): (0, 1)} and OVER_3.differences(OVER_3) == {}
+
+
+COMPARED = """
+from kh import Table
+
+def test_them():
+    one = Table({(1, 0): 1, (3, 0): 1, (5, 2): 1, (9, 3): 1}, field=3)
+    assert one == Table({(1, 0): 1, (3, 0): 1, (5, 2): 2}, field=5)
+
+def test_a_mapping():
+    assert {(1, 0): 1, (3, 0): 2} == Table({(1, 0): 1, (3, 0): 1}, field=3)
+"""
+
+
+def test_pytest_shows_in_what_tables_differ(tmp_path):
+    (tmp_path / "conftest.py").write_text('pytest_plugins = ["kh.in_pytest"]\n')
+    (tmp_path / "test_tables.py").write_text(COMPARED)
+    settings = {**os.environ, "PYTHONPATH": os.path.dirname(os.path.dirname(os.path.abspath(kh.__file__))), "PYTEST_ADDOPTS": ""}
+    words = [sys.executable, "-m", "pytest", "-q", "-p", "no:cacheprovider", "test_tables.py"]
+    came = subprocess.run(words, cwd=tmp_path, capture_output=True, text=True, timeout=120, env=settings)
+    told = [line.removeprefix("E").strip() for line in came.stdout.splitlines() if line.startswith("E")]
+    assert told == [
+        "assert the tables are equal", "the left one is over 3 elements, the right one over 5",
+        "j 5 i 2: 1 on the left, 2 on the right", "j 9 i 3: 1 on the left, 0 on the right",
+        "assert the tables are equal", "j 3 i 0: 2 on the left, 1 on the right",
+    ]

@@ -114,6 +114,8 @@ def read(text):
     if not 1 <= count <= STRANDS:
         raise codes.Fault(f"a braid has 1 to {STRANDS} strands here", strands.place if strands else reader.tokens[0].place)
     for letter in letters:
+        if not letter.value:
+            raise codes.Fault("0 is no letter of a braid: letters are 1, 2 and so on, and -1, -2 for their inverses", letter.place)
         if not 1 <= abs(letter.value) < count:
             raise codes.Fault(f"a braid on {count} strands has the letters 1 to {count - 1} and their inverses alone", letter.place)
     return count, closure(count, [it.value for it in letters])

@@ -4,7 +4,8 @@
     tools/kh-codes --link 8_19         a link by its name
     tools/kh-codes --clockwise FILE    lists that go clockwise, as SageMath's do
     tools/kh-codes --names FILE        each line with its name and a tab before the code, as `tabulate/` reads them
-    tools/kh-codes --names --keep FILE     a wrong code stays as it stands, on one line, for `kh` to refuse
+    tools/kh-codes --names --keep FILE     a wrong code stays as it stands, on one line behind its name, for `kh` to refuse
+    tools/kh-codes --quiet FILE        without a word on standard error
 
 A file has one code or several, each with a name before it or none: `trefoil: braid: 1 1 1`, or with =, a tab, or before brackets a comma.
 A code begins on a line of its own and may go on until its brackets are closed; where they are not, it ends before the next name or code.
@@ -41,19 +42,26 @@ ends with a blank line. Commas, semicolons, tabs or | separate its fields:
 
 In a planar diagram each arc stands at two places, and a list begins with an arc of the under pass and goes on counterclockwise. A DT code
 does not say the hand: one of two mirror images is chosen. Nor does a Gauss code without signs: it is not read, and what to write is said.
-What was changed is said on standard error, and of a wrong code the line and the place; the others are still turned. At the end comes how
-many were read and how many were wrong, where there were several or one was wrong. The status is 1 where one was wrong.
+What was changed is said on standard error, a line for each code, and of a wrong code the line, the column and what stands there; the others
+are still turned. At the end comes how many were read and how many were wrong, where there were several or one was wrong. The status is 1
+where one was wrong.
 """
 import sys
+from typing import Any
 
 from ..commands import reader
 from . import turning
 
 
-def convert(path, text, words):
+def convert(path: str, text: str, words: Any) -> int:
     """Writes the codes of a text, and says how many were wrong."""
+
+    def say(said: str) -> None:
+        if not words.quiet:
+            print(said, file=sys.stderr)
+
     wrong = 0
-    for it, line in turning.converted(path, text, lambda said: print(said, file=sys.stderr), words.clockwise, words.keep):
+    for it, line in turning.converted(path, text, say, words.clockwise, words.keep):
         wrong += bool(it.fault)
         if line:
             print(f"{it.name}\t{line}" if words.names else line)
@@ -73,7 +81,8 @@ def main():
     parser = reader(__doc__, "kh-codes")
     parser.add_argument("--clockwise", action="store_true", help="lists go clockwise")
     parser.add_argument("--names", action="store_true", help="write names before codes")
-    parser.add_argument("--keep", action="store_true", help="write a wrong code as it stands, for kh to refuse")
+    parser.add_argument("--keep", action="store_true", help="write a wrong code as it stands, behind its name with --names")
+    parser.add_argument("--quiet", action="store_true", help="say nothing of codes on standard error")
     parser.add_argument("--link", action="append", default=[], metavar="NAME", help="a link by its name")
     parser.add_argument("files", nargs="*")
     words = parser.parse_args()

@@ -1,5 +1,7 @@
 """Tells which form a code has, and reads it: names, braid words, Gauss and DT codes, planar diagrams."""
-from . import braid_words, codes, dowker, gauss_codes, link_names, statements
+from typing import Any
+
+from . import braid_words, codes, dowker, gauss_codes, link_names, statements, stored_names
 
 NO_BRAID = "; before a braid word write braid:"
 WHICH = (
@@ -8,7 +10,7 @@ WHICH = (
 )
 
 
-def read(text, form, known):
+def read(text: str, form: str, known: dict[str, Any]) -> tuple[codes.Links, list[str]]:
     """The crossings of a code, of the form that is told or of the one that it looks like, and what there is to say of that form."""
     if form == statements.MISSING:
         raise codes.Fault("this row has no code in the columns that are read", 0)
@@ -17,11 +19,21 @@ def read(text, form, known):
     if form == statements.BRAID or braid_words.is_one(text):
         strands, links = braid_words.read(text)
         return links, [f"a braid word, closed on {strands} strand{'s' if strands > 1 else ''}"]
-    if link_names.name_of(text):
-        return link_names.read(link_names.name_of(text), len(text) - len(text.lstrip()), known)
+    name, place = link_names.name_of(text), len(text) - len(text.lstrip())
+    if name and link_names.is_known(name, known):
+        return link_names.read(name, place, known)
+    if (name or stored_names.is_meant(text)) and stored_names.name_of(text):
+        return stored_names.read(stored_names.name_of(text))
+    if name:
+        raise link_names.fault_of(name, known, place)
     if text.lstrip().startswith("Gauss"):
         return gauss_codes.read(text), ["a Gauss code"]
-    node = codes.tree_of(text)
+    try:
+        node = codes.tree_of(text)
+    except codes.Fault:
+        if stored_names.is_meant(text):
+            raise link_names.fault_of(text.strip(), known, place) from None
+        raise
     if node.items is None:
         raise codes.Fault("a number is no code", node.place)
     return read_list(node)

@@ -141,7 +141,12 @@ def question(names: Sequence[str]) -> str:
     return f"is {' or '.join(filter(None, (', '.join(first), last)))} meant?" if last else ""
 
 
-def read(name, place, known):
+def is_known(name: str, known: dict[str, Any]) -> bool:
+    """Whether a name is one of the reference's braids and DT codes, of a torus link or of the unknot."""
+    return name in UNKNOT or name in known or bool(TORUS.fullmatch(name))
+
+
+def read(name: str, place: int, known: dict[str, Any]) -> tuple[codes.Links, list[str]]:
     """The crossings of the link of this name, and what there is to say."""
     if name in UNKNOT:
         return codes.Links([], 1, {}), ["the unknot, as a loop"]
@@ -149,8 +154,6 @@ def read(name, place, known):
     if torus:
         strands, letters = torus_braid(int(torus[1]), int(torus[2]), place)
         rest, hand = [str(strands), *map(str, letters)], ""
-    elif name in known:
-        rest, hand = known[name], HANDS.get(hand_of(name), HANDS["open"])
     else:
-        raise fault_of(name, known, place)
+        rest, hand = known[name], HANDS.get(hand_of(name), HANDS["open"])
     return links_of(rest), [what_of(name, rest) + (hand and f"; {hand}")]

@@ -16,6 +16,8 @@ BETWEEN = re.compile(r"\s*(:=|=|:|\t|(?P<of_row>[,;|])(?=\s*[\[({]))\s*")
 WORDS = r"(?i:PD|GaussCode|Link|PlanarDiagram|braid|BR|DT\w*|Dowker\w*|Knot|TorusKnot|TorusLink)\b|T\s*[\[(]"
 OPEN, BEHIND = r"[\[({]", r"[\s;,.]*$"
 BEGIN = re.compile(rf"\s*({WORDS}|{OPEN}|({codes.BARE.pattern}|\$?{link_names.NAME}\$?){BEHIND})")
+# A word that says which form a code has.
+HEADED = re.compile(rf"\s*({WORDS})")
 # What begins a code, and no line within one: also a name before something, strands and letters, even numbers, and a name alone.
 OWN = re.compile(
     rf"\s*({WORDS}|{OPEN}\s*{OPEN}|[^\[\](){{}},;:=]+[:=]|{OPEN}\s*\d+\s*,\s*{OPEN}"
@@ -26,6 +28,8 @@ SEPARATORS = ",\t;|"
 MARKS = {it: re.compile(rf'"[^"]*"|["\[\](){{}}{re.escape(it)}]') for it in SEPARATORS}
 # A name before a planar diagram that may be known.
 NAMED = re.compile(r"(?P<name>[A-Za-z0-9_.^(){}+-]+)(\t|: ?)")
+# What begins as a list of numbers or of crossings is no name.
+LISTED = re.compile(rf"\s*({'|'.join(sorted(filter(None, codes.DIAGRAMS | codes.CROSSINGS | {'Loop'})))})?\s*{OPEN}\s*([-+\d]|X|{OPEN})")
 SIGNS = re.compile(r"\s*Signs\b")
 GAUSS = re.compile(r"\s*Gauss")
 BRAID, DOWKER, MISSING = "braid", "dowker", "missing"
@@ -106,16 +110,25 @@ def is_name(text):
     return bool(words) and not is_open and not braid_words.WORD.fullmatch(words[0]) and not dowker.WORD.fullmatch(words[0])
 
 
-def named(line):
+def named(line: str) -> tuple[str, str, str]:
     """The name before a code, the code, and all that stands before it."""
     plain = line.translate(ALIKE)
     for found in BETWEEN.finditer(plain):
         before = plain[: found.start()]
         is_one = re.fullmatch(link_names.NAME, before.strip()) if found["of_row"] else is_name(before)
         if is_one and BEGIN.match(plain, found.end()):
-            name, head = line[: found.start()], line[: found.end()]
-            return " ".join(name.split()).strip(QUOTES + " "), line[found.end() :], head.expandtabs(1)
+            return parted(line, found)
+    for found in BETWEEN.finditer(plain):
+        # (what is no code stays behind its name, to be refused under it)
+        if not found["of_row"] and is_name(plain[: found.start()]) and not LISTED.match(plain) and plain[found.end() :].strip():
+            return parted(line, found)
     return "", line, ""
+
+
+def parted(line: str, found: re.Match[str]) -> tuple[str, str, str]:
+    """The name before this sign, what stands behind it, and all that stands before that."""
+    name, head = line[: found.start()], line[: found.end()]
+    return " ".join(name.split()).strip(QUOTES + " "), line[found.end() :], head.expandtabs(1)
 
 
 def fields_of(line, separator):

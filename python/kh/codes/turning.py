@@ -1,11 +1,13 @@
 """Turns codes, in any of the forms, into the planar diagrams that `kh` reads, and says what was changed."""
 import functools
-from collections.abc import Iterator, Sequence
+from collections.abc import Callable, Iterator, Sequence
 from typing import Any, NamedTuple
 
-from . import codes, forms, link_names, statements
+from . import codes, forms, link_names, statements, stored_names
 
 
+# How much of a wrong code is shown.
+LONGEST = 40
 NO_SPHERE = "it can be drawn on no sphere"
 
 
@@ -56,10 +58,12 @@ def is_in_no_plane(said: Sequence[str]) -> bool:
     return any(it.startswith(NO_SPHERE) for it in said)
 
 
-def name_of(statement, number):
+def name_of(statement: Any, number: int) -> str:
     """The name of a code: the one before it, or what it says itself, or its number."""
-    is_known = isinstance(statement, statements.Known)
-    return statement.name or not is_known and link_names.name_of(statement.text) or f"code {number}"
+    if statement.name or isinstance(statement, statements.Known):
+        return statement.name or f"code {number}"
+    named = link_names.name_of(statement.text) or stored_names.is_meant(statement.text) and stored_names.name_of(statement.text)
+    return named or f"code {number}"
 
 
 def all_of(text: str, clockwise: bool = False) -> Iterator[Turned]:
@@ -73,24 +77,41 @@ def all_of(text: str, clockwise: bool = False) -> Iterator[Turned]:
             code, said = turned(statement, known_links(), clockwise)
             yield Turned(name, code, said, statement.line, statement)
         except codes.Fault as fault:
-            yield Turned(name, "", [], statement.line, statement, fault)
+            # (what was meant as a name stands for itself)
+            is_name = not statement.name and stored_names.is_meant(statement.text) and not statements.HEADED.match(statement.text)
+            yield Turned(" ".join(statement.text.split()) if is_name else name, "", [], statement.line, statement, fault)
 
 
-def converted(path, text, say, clockwise=False, keep=False):
+def in_a_line(path: str, it: Turned) -> list[str]:
+    """What there is to say of a code, in one line; of a wrong one the line and the column, and what stands there."""
+    if not it.fault:
+        return [f"{path}:{it.line}: {it.name}: {'; '.join(it.said)}"] if it.said else []
+    line, shown, column = it.statement.place(it.fault.place)
+    rest = " ".join(shown[column:].split())
+    rest = f": {rest[:LONGEST] + '..' if len(rest) > LONGEST else rest}" if rest not in ("", it.name) else ""
+    return [f"{path}:{line}:{column + 1}: {it.name}: {it.fault.what}{rest}"]
+
+
+def with_caret(path: str, it: Turned) -> list[str]:
+    """The same with a line for each thing, and of a wrong code with a caret below the place."""
+    if not it.fault:
+        return [f"{path}:{it.line}: {it.name}: {said}" for said in it.said]
+    line, shown, column = it.statement.place(it.fault.place)
+    return [f"{path}:{line}: {it.fault.what}\n  {shown}\n  {' ' * column}^"]
+
+
+def converted(
+    path: str, text: str, say: Callable[[str], object], clockwise: bool = False, keep: bool = False,
+    telling: Callable[[str, Turned], list[str]] = in_a_line,
+) -> Iterator[tuple[Turned, str]]:
     """Each code of a text with the line that it becomes, which is empty where it is wrong, or then its own text, where such are kept. What
-    there is to say is said line by line, and at the end how many were read and how many not, where there were several or one was wrong."""
+    there is to say of each is said, and at the end how many were read and how many not, where there were several or one was wrong."""
     right = wrong = 0
     for it in all_of(text, clockwise):
-        if it.fault:
-            where, shown, column = it.statement.place(it.fault.place)
-            say(f"{path}:{where}: {it.fault.what}\n  {shown}\n  {' ' * column}^")
-            wrong += 1
-            yield it, " ".join(it.statement.shown.split()) if keep else ""
-            continue
-        for said in it.said:
-            say(f"{path}:{it.line}: {it.name}: {said}")
-        right += 1
-        yield it, it.code
+        for said in telling(path, it):
+            say(said)
+        right, wrong = right + (not it.fault), wrong + bool(it.fault)
+        yield it, it.code if not it.fault else " ".join(it.statement.shown.split()) if keep else ""
     if wrong or right > 1:
         what = "kept as it stands" if wrong == 1 else "kept as they stand"
         of_wrong = f", {wrong} wrong and {what if keep else 'left out'}" if wrong else ""

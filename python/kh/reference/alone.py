@@ -1,4 +1,6 @@
 """What can be said of a table without another one: whether it can be the table of a link of one component or more."""
+from typing import Any
+
 from ..laurent import Polynomial, divided, jones_line, jones_of
 from ..tables import Table
 from .table_forms import INTEGRAL, RATIONAL
@@ -7,10 +9,11 @@ from .groups import over, ranks
 MARK = 1
 
 
-def plain_table(table):
+def plain_table(table: Any) -> Table:
     """The dimensions of a table, over two elements where it is one over the integers, as a table with a field and a mark."""
     found = ranks(table.groups) if table.field == RATIONAL else over(table.groups, 2 if table.field == INTEGRAL else table.field)
-    return Table(found, field=2 if table.field == INTEGRAL else table.field, mark=MARK if table.is_reduced else None)
+    field = 2 if table.field == INTEGRAL else table.field
+    return Table._of(found, field, MARK if table.is_reduced else None)
 
 
 def terms_of(table):

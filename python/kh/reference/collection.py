@@ -12,6 +12,7 @@ from collections.abc import Iterator
 from typing import Any, NamedTuple
 
 from ..commands import Unreadable
+from .in_common import in_common
 from .table_forms import INTEGRAL, RATIONAL, Empty, Reading, field_of, groups_of, j_is_first, read, read_value
 from .stored import Reference, listed
 from .ways import AGREES, EXPLAINED, NEAREST, OTHER, TURNINGS, Comparison, Table, Verdict, sentence, short
@@ -107,7 +108,7 @@ class Collection:
     def __init__(self, answers: list[Answer], reference: Reference, words: Any) -> None:
         self.answers, self.reference, self.words = answers, reference, words
         self.compared, self.unreadable, self.strangers, self.fields = [], [], [], {}
-        # (the links whose answers are no tables; and those without an answer, by the field in words and why)
+        # (the links whose answers are no tables, with the field in words and why; and those without an answer, by these)
         self.faulty, self.without = [], {}
         self.is_first = self.order()
         for answer in answers:
@@ -163,18 +164,18 @@ class Collection:
         over = over_words(table.field, table.is_reduced)
         self.compared.append(Compared(answer.name, over, comparison, comparison.verdict()))
 
-    def refuse(self, answer, fault):
+    def refuse(self, answer: Answer, fault: object) -> None:
         """Notes why an answer is no table."""
         where = answer.where if answer.where.startswith(answer.name) else f"{answer.where}, {answer.name}"
         self.unreadable.append(f"{where}: {fault}")
         over = "" if answer.field is None else over_words(answer.field, self.words.reduced)
-        self.faulty.append((answer.name, over))
+        self.faulty.append((answer.name, over, str(fault)))
 
     def missing(self):
         """The links of the reference that have no answer and are not told of yet, by the field in words, for each of those for which there
         are answers, and why."""
         found = {key: [*names] for key, names in self.without.items()}
-        told = {name for names in self.without.values() for name in names} | {name for name, _ in self.faulty}
+        told = {name for names in self.without.values() for name in names} | {name for name, _, _ in self.faulty}
         for (field, is_reduced), names in self.fields.items():
             seen = names | told
             left = [it for it in self.reference.lines if it not in seen and self.reference.wanted_if_any(it, field, is_reduced)]
@@ -182,14 +183,35 @@ class Collection:
                 found.setdefault((over_words(field, is_reduced), ""), []).extend(left)
         return found
 
-    def silent(self):
+    def silent(self) -> Iterator[str]:
         """A line for the links that have no answer, for each reason; the same ones over several fields are told once."""
-        alike = {}
+        alike: dict[tuple[str, tuple[str, ...]], list[str]] = {}
         for (over, why), names in self.missing().items():
             alike.setdefault((why, tuple(names)), []).append(over)
-        for (why, names), overs in alike.items():
+        rows = [*alike.items()]
+        if len(rows) > self.words.most:
+            rows.sort(key=lambda it: -len(it[0][1]))
+        for (why, names), overs in rows[: self.words.most]:
             words = " ".join(filter(None, (counted(len(names), "link has", "links have"), "no answer", listed(overs))))
             yield f"{words}{f', since {why}' if why else ''}: {self.some(names)}"
+        left = rows[self.words.most :]
+        if left:
+            yield f"{counted(len({name for (_, names), _ in left for name in names}), 'link', 'links')} more, for other reasons"
+        unanswered = [(name, over) for (over, _), names in self.missing().items() for name in names]
+        yield from self.in_common(unanswered, [(it.name, it.over) for it in self.compared], "that were answered")
+
+    def in_common(self, some: list, others: list, words: str) -> Iterator[str]:
+        """What these answers, by their link and their field in words, have in common that few of the others have."""
+        return in_common([it for it in some if it[0] in self.reference.lines], others, self.reference.lines, words)
+
+    def causes(self) -> dict[str, str]:
+        """Why there is no answer to a link, or no table in it, where that is known; over which field, where it is not the same over all."""
+        found: dict[str, dict[str, str]] = {}
+        known = [(name, over, why) for (over, why), names in self.without.items() for name in names]
+        for name, over, why in [*known, *self.faulty]:
+            found.setdefault(name, {})[over] = why
+        whys = {name: {why: f"{why} {over}".rstrip() for over, why in it.items() if why} for name, it in found.items()}
+        return {name: [*it][0] if len(it) == 1 else ", ".join(it.values()) for name, it in whys.items() if it}
 
     def links(self) -> dict[str, str]:
         """What came of each link of the reference, in its order."""
@@ -197,7 +219,7 @@ class Collection:
         turned = {it.name for it in self.exact if it.verdict.kind != AGREES}
         for it in self.compared:
             found[it.name][it.over] = short(*self.way) if it.name in turned and it in self.exact else it.verdict.short
-        for name, over in self.faulty:
+        for name, over, _ in self.faulty:
             found.get(name, {})[over] = NO_TABLE
         for (over, _), names in self.missing().items():
             for name in names:
@@ -270,6 +292,8 @@ class Collection:
         others = [it for it in self.of_kind(OTHER) if it not in self.exact]
         rows = [f"{it.label}: {first_of(it.verdict.lines)}" for it in others]
         yield from self.listing(rows, "answer is another table", "answers are other tables")
+        agreeing = [(it.name, it.over) for it in self.of_kind(AGREES)]
+        yield from self.in_common([(it.name, it.over) for it in others], agreeing, "that agree")
         yield from self.listing(self.unreadable, "answer is no table", "answers are no tables")
         if self.strangers:
             yield f"{counted(len(self.strangers), 'answer is', 'answers are')} of no link of the reference: {self.some(self.strangers)}"

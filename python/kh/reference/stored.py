@@ -5,15 +5,17 @@ integers is compared over all fields.
 """
 import functools
 import json
-from collections.abc import Sequence
+from collections.abc import Iterator, Sequence
 from typing import Any, NamedTuple
 
+from ..codes import plain_lists, turning
+from ..codes.stored_names import FILES as FILES
 from ..commands import Unreadable
+from ..laurent import jones_of
+from ..tables import of_short_rows
 from .table_forms import INTEGRAL, RATIONAL
 from .groups import over, ranks
 
-# The files of the reference.
-FILES = {"reference": "vectors.jsonl", "prime": "prime.jsonl", "large": "large.jsonl"}
 
 
 class Wanted(NamedTuple):
@@ -33,10 +35,39 @@ def listed(words):
 
 
 @functools.cache
-def diagrams(path):
+def diagrams(path: str) -> dict[str, str]:
     """The planar diagrams of a file of vectors, by name."""
+    return {it["name"]: it["pd"] for it in lines_of(path)}
+
+
+def lines_of(path: str) -> Iterator[dict[str, Any]]:
+    """The lines of a file of vectors, or of what `kh-tabulate write --json` writes; of the latter those with a table."""
     with open(path, encoding="utf-8") as file:
-        return {it["name"]: it["pd"] for it in map(json.loads, file) if "name" in it}
+        for number, text in enumerate(file, 1):
+            try:
+                line = dict(json.loads(text))
+                if "code" in line and "table_rows" in line:
+                    line = of_results(line)
+                if line and "name" in line:
+                    line["pd"], line["rows"], line["field"]
+                    yield line
+            except (ValueError, TypeError, KeyError):
+                raise Unreadable(f"{path}:{number}: this is no line of a reference, nor one that kh-tabulate write --json writes") from None
+
+
+def of_results(line: dict[str, Any]) -> dict[str, Any]:
+    """A line of `kh-tabulate write --json` as one of a reference; nothing where it has no table."""
+    if line["refusal"]:
+        return {}
+    rows = [[j, i, dimension] for (j, i), dimension in of_short_rows(line["table_rows"]).items()]
+    jones = [[j, count] for (j, _), count in jones_of(f"jones {line['jones']}").terms.items()]
+    return {"name": line["name"], "pd": diagram_of(line["code"]), "field": line["field"], "rows": rows, "jones": jones}
+
+
+@functools.lru_cache(maxsize=4_096)
+def diagram_of(code: str) -> str:
+    """The planar diagram of a code, as `kh` writes it."""
+    return plain_lists.written(code) or next(turning.all_of(code)).code
 
 
 class Reference:
@@ -45,10 +76,11 @@ class Reference:
     def __init__(self, *paths: str) -> None:
         self.lines, self.known = {}, {}
         for path in paths:
-            with open(path, encoding="utf-8") as file:
-                for it in map(json.loads, file):
-                    if "name" in it:
-                        self.lines.setdefault(it["name"], {})[it["field"]] = it
+            for it in lines_of(path):
+                known = self.lines.setdefault(it["name"], {})
+                if any(line["pd"] != it["pd"] for line in known.values()):
+                    raise Unreadable(f"{path} has two codes of {it['name']}")
+                known[it["field"]] = it
 
     def need(self, name):
         """The lines of a link by fields."""

@@ -8,7 +8,7 @@ from typing import Any, NamedTuple
 
 from ..commands import Unreadable
 from ..polynomial_texts import dimensions
-from ..tables import FIELD, MARK, ROW
+from ..tables import FIELD, MARK, ROW, Degrees
 from .groups import IN_POLYNOMIAL, group_of, order_and_count
 
 ROW_OF_THREE = re.compile(r"(-?\d+)[\s,;]+(-?\d+)[\s,;]+(\S.*)")
@@ -19,6 +19,8 @@ BEGINS = re.compile(r"[{\[]|(dict|Counter|OrderedDict|defaultdict)\(")
 WRAPPED = re.compile(r"(?:dict|Counter|OrderedDict|defaultdict)\((?:<class '\w+'>,)?(.*)\)", re.S)
 # The value of a dictionary that is no number and no text in quotes: a group's name.
 BARE = re.compile(r":\s*([^\s'\"{\[(\d-][^,{}]*?|\d+\s*[^\s,{}\])\d][^,{}]*?)\s*(?=[,}])")
+# How Python shows a table of the package.
+SHOWN = re.compile(r"(?:kh\.)?Table\((\{.*\}), field=([2357])(?:, mark=(\d+))?\)", re.S)
 LONG = re.compile(r"\d{7,}")
 PAIR = re.compile(r"\(?\s*(-?\d+)\s*[,;\s]\s*(-?\d+)\s*\)?")
 SIZE = re.compile(r"over (?:(Rational Field)|Finite Field of size (\d+))")
@@ -34,13 +36,15 @@ class Empty(Unreadable):
 
 class Reading(NamedTuple):
     """A table that was read: its groups by pairs of degrees; whether j stands first in these, or nothing where the form does not say it;
-    over what it is, where the text says it: a field's size, 0 for the rational numbers, Z; whether it is reduced; and its Jones line."""
+    over what it is, where the text says it: a field's size, 0 for the rational numbers, Z; whether it is reduced; its Jones line; and the
+    mark of a reduced one, where the text says it."""
 
     cells: dict
     is_j_first: bool = True
     field: Any = None
     is_reduced: bool = False
     jones: str = None
+    mark: int = None
 
 
 class Cells:
@@ -70,7 +74,7 @@ class Cells:
         return Reading(self.groups, is_j_first, self.field)
 
 
-def field_of(value):
+def field_of(value: object) -> Any:
     """The field that a word or a number names, or nothing where it names none."""
     return FIELDS.get(str(value).lower())
 
@@ -80,13 +84,17 @@ def read(text: str) -> Reading:
     text = text.lstrip("\ufeff").strip()
     if not text:
         raise Empty("the program wrote nothing")
+    shown = SHOWN.fullmatch(text)
+    if shown:
+        mark = None if shown[3] is None else int(shown[3])
+        return read(shown[1])._replace(is_j_first=True, field=int(shown[2]), is_reduced=mark is not None, mark=mark)
     try:
         return read_value(value_of(text)) if BEGINS.match(text) else read_lines(text)
     except (ValueError, RecursionError) as fault:
         raise Unreadable(f"no table is so deep, or has such numbers: {fault}") from None
 
 
-def read_lines(text):
+def read_lines(text: str) -> Reading:
     """The table of lines of rows, or of a polynomial."""
     if LONG.search(text):
         raise Unreadable(f"no table has such a number: {LONG.search(text)[0][:80]}")
@@ -109,7 +117,8 @@ def read_lines(text):
         cells.groups, cells.field = groups_from(whole), INTEGRAL if IN_POLYNOMIAL.search(whole) else None
     field = next((int(it[1]) for it in map(FIELD.fullmatch, told) if it), cells.field)
     jones = next((line for line in told if line.startswith("jones ")), None)
-    return cells.reading(True)._replace(field=field, is_reduced=any(map(MARK.fullmatch, told)), jones=jones)
+    mark = next((int(it[1]) for it in map(MARK.fullmatch, told) if it), None)
+    return cells.reading(True)._replace(field=field, is_reduced=mark is not None, jones=jones, mark=mark)
 
 
 def rows_of(line):
@@ -190,7 +199,17 @@ def plain_value(node):
         return without_doubles((plain_value(key), plain_value(value)) for key, value in zip(node.keys, node.values))
     if isinstance(node, (ast.List, ast.Tuple)):
         return tuple(map(plain_value, node.elts))
+    if isinstance(node, ast.Call) and ast.unparse(node.func).rpartition(".")[2] == Degrees.__name__:
+        return degrees_of(node)
     return ast.literal_eval(node)
+
+
+def degrees_of(node: ast.Call) -> Degrees:
+    """The pair of degrees of `Degrees(j=1, i=0)`, as Python shows it."""
+    named = {it.arg: plain_value(it.value) for it in node.keywords}
+    if node.args or {*named} != {"j", "i"}:
+        raise ValueError
+    return Degrees(number_of(named["j"]), number_of(named["i"]))
 
 
 def read_value(value: Any) -> Reading:
@@ -204,13 +223,14 @@ def read_value(value: Any) -> Reading:
     raise Unreadable(f"{value} is no table")
 
 
-def read_dictionary(value):
+def read_dictionary(value: dict) -> Reading:
     """The table of a dictionary by pairs of degrees, or by one degree and then by the other."""
     cells, is_nested = Cells(), all(isinstance(it, dict) for it in value.values())
     for key, inner in value.items():
         for pair, group in [((key, it), group) for it, group in inner.items()] if is_nested else [(key, inner)]:
             cells.add(pair_of(pair), group)
-    return cells.reading(None)
+    # (such pairs say which degree is which)
+    return cells.reading(True if value and all(isinstance(key, Degrees) for key in value) else None)
 
 
 def read_list(value):

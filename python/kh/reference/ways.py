@@ -32,6 +32,7 @@ MIRROR, EXCHANGED, NEGATES_I = 1, 4, (1, 3, 5, 7)
 HOMOLOGY = "the groups are homology: torsion stands at i - 1 where the reference, in cohomology, has it at i"
 NEAREST, WORDS_BEFORE = "nearest is", re.compile("^(it|this) is ")
 INVERSES = "i and j are negated: q and t stand for the inverses of the reference's, and the link is not mirrored"
+LEFT_OUT = "which link.pd leaves out, and link.loops counts"
 # How many shifts of a turning are tried, how many names and rows are told.
 SHIFTS, NAMES, ROWS = 2, 3, 6
 
@@ -138,6 +139,14 @@ def shifted(table, shift):
     return {(size, one + shift[0], two + shift[1]): dimension for (size, one, two), dimension in table.items()}
 
 
+def with_loop(table: dict) -> dict:
+    """The table of the same link with a loop beside it: once one step of j up, and once one down."""
+    found = Counter()
+    for (size, j, i), dimension in table.items():
+        found.update({(size, j + 1, i): dimension, (size, j - 1, i): dimension})
+    return dict(found)
+
+
 def likely_shifts(table, other):
     """The shifts, other than none, that bring the most rows of one table to rows of the other."""
     found = Counter()
@@ -183,7 +192,7 @@ class Comparison:
         tried = [way for it in self.wanted for way in ways(self.table, self.sizes, it.dimensions)]
         exact = min((way for way in tried if not way.count), key=Way.rank, default=None)
         way = exact and (exact.place, exact.shift)
-        lines = [] if exact and exact.shift == (0, 0) else self.other_field() or self.other_kind()
+        lines = [] if exact and exact.shift == (0, 0) else self.without_loops() or self.other_field() or self.other_kind()
         if exact and not lines:
             return Verdict(EXPLAINED, [exact.sentence(), *self.reason(exact)], exact.short(), way)
         lines = lines or other_links(self.table, self.reference)
@@ -201,6 +210,17 @@ class Comparison:
         table, sizes = self.table._replace(field=field), tuple(self.reference.need(name))
         wanted = self.reference.wanted_if_any(name, field, is_reduced)
         return [way for it in wanted for way in ways(table, sizes, it.dimensions, (0, MIRROR)) if not way.count]
+
+    def without_loops(self) -> list[str]:
+        """Whether it is the table of the diagram without its loops, or some of them, as it stands or mirrored."""
+        given, loops = readings(self.table, self.sizes)[0], str(next(iter(self.reference.need(self.name).values())).get("pd")).count("Loop")
+        for count in range(1, loops + 1):
+            given = with_loop(given)
+            for place in (0, MIRROR):
+                if any(given == turned(it.dimensions, place) for it in self.wanted):
+                    some = "the loops" if count == loops else f"{count} of the {loops} loops"
+                    return [f"it is the table{' of the mirror image' if place else ''} without {some} of the diagram, {LEFT_OUT}"]
+        return []
 
     def other_field(self):
         """Whether it is the link's table over other fields."""

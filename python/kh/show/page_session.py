@@ -123,7 +123,7 @@ class Session:
         if BARE.fullmatch(text):
             text = f"PD[{', '.join(CROSSING.findall(text))}]"
         told = []
-        lines = [(it.name, line) for it, line in turning.converted("input", text, told.append) if line]
+        lines = [(it.name, line) for it, line in turning.converted("input", text, told.append, telling=turning.with_caret) if line]
         said = "".join(f"{re.sub(r'^input:', 'line ', it)}\n" for it in told if not it.startswith("input: "))
         if not lines:
             raise Unreadable(said.strip() or "there is no code in this text")

@@ -14,8 +14,9 @@
     kh-tabulate rebuild RESULTS         a database of an older version brought up to this one; what follows from its results is made anew
 
 A list has a line for each link: a name, a tab and a code, as `tools/kh-codes --names` writes them; or it is a table with a heading, such as
-KnotInfo's, which `tools/kh-codes` reads. Blank lines and those that begin with # are left out; a line without a tab is a code, named for
-its number; lines that are the same are one link. The list - is standard input. A result is one row for each link and field: the name, the
+KnotInfo's, which `tools/kh-codes` reads. In place of a code the name of a link may stand, such as 8_19. Blank lines and those that begin
+with # are left out; a line without a tab is a code, named for its number, or the name of a link; lines that are the same are one link. The
+list - is standard input; a pipe is read too. A result is one row for each link and field: the name, the
 code, the field, the status, the table, the Jones line, or the one line of the refusal, the seconds that it took, and the program: scan, or
 kh. A code is worked out once, whatever names it has. Whatever was stopped or killed goes on where it was: results that are there are not
 worked out again, but for those that tell the limit on generators of `kh`, where `kh-scan` is asked. With --list, `write` and `query` take

@@ -13,10 +13,10 @@ MISSING, NONE_ANSWERED = 1, 3
 class Progress:
     """A line on standard error: how many are done, how many are left, how many a second."""
 
-    def __init__(self, whole, done):
+    def __init__(self, whole: int, done: int) -> None:
         self.whole, self.done, self.before, self.begun, self.told = whole, done, done, time.monotonic(), 0
 
-    def step(self, count):
+    def step(self, count: int) -> bool:
         """Counts results, and tells of them twice a second; it answers whether it has told."""
         self.done += count
         now = time.monotonic()
@@ -26,12 +26,12 @@ class Progress:
         self.tell("")
         return True
 
-    def tell(self, end):
+    def tell(self, end: str) -> None:
         speed = (self.done - self.before) / max(time.monotonic() - self.begun, 0.001)
         line = f"\r{self.done} done, {self.whole - self.done} left, {speed:.1f} a second "
         print(line, end=end, file=sys.stderr, flush=True)
 
-    def end(self):
+    def end(self) -> None:
         """The last line, which is told where there was nothing to do as well."""
         self.tell("\n")
 
