@@ -36,7 +36,7 @@ use std::alloc::Global;
 use word_line::{WordStop, read_words};
 
 /// The reply to words and a source, which is read where the words mean a command that reads; the
-/// maker makes the homology table of `homology` and of `bench`.
+/// maker makes the homology table of `homology` and of `bench` for several workers.
 pub fn reply_to<S: Source, M: Fn(FieldSize, u32, &SmallDiagram) -> Result<Table, NoMemory>>(
     alloc: Global,
     words: &Words,

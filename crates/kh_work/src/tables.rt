@@ -2,7 +2,7 @@
 
 ghost use Rattle.std.specs.Prelude.{◌≡◌, ◌<◌, IfOk, length};
 ghost use Rattle.kh_types.specs.Table.{table};
-ghost use Rattle.kh_work.specs.TableMakers.{IsTableMaker};
+ghost use Rattle.kh_work.specs.TableMakers.{AreSeveral, IsTableMaker};
 ghost use Rattle.union_laws.specs.Loops.{with_loops};
 ghost use Rattle.word_line.specs.Values.{AreWorkers};
 
@@ -66,9 +66,10 @@ fn reduced_alone<F: PrimeField>(alloc: Global, small: &SmallDiagram) -> Result<T
     }
 }
 
-/// The homology table of a diagram over the field of so many elements, as a maker makes it, by so
-/// many workers.
+/// The homology table of a diagram over the field of so many elements, made on the caller's thread
+/// for one worker, and by a maker for several.
 pub fn table_from<M: Fn(FieldSize, u32, &SmallDiagram) -> Result<Table, NoMemory>>(
+    alloc: Global,
     maker: &M,
     field: FieldSize,
     workers: u32,
@@ -78,12 +79,16 @@ pub fn table_from<M: Fn(FieldSize, u32, &SmallDiagram) -> Result<Table, NoMemory
     requires workers { AreWorkers workers }
     ensures { IfOk result (λ made. made ≡ table field small.now) }
 {
-    maker(field, workers, small)
+    if workers == 1 {
+        table_alone(alloc, field, small)
+    } else {
+        maker(field, workers, small)
+    }
 }
 
-/// The same table, made by so many workers. They call a gate in each of their turns, and one worker
-/// works on the caller's thread, without a gate. Several share the blocks of the whole cube, over
-/// two elements too, since such blocks are all that they share. Source: Bar-Natan 2002, section 3.
+/// The same table, made by several workers, who call a gate in each of their turns. They share the
+/// blocks of the whole cube, over two elements too, since such blocks are all that they share.
+/// Source: Bar-Natan 2002, section 3.
 pub fn table_by<R: Threads + Wait + Sync, G: Gate + Sync>(
     rt: &R,
     alloc: Global,
@@ -92,12 +97,9 @@ pub fn table_by<R: Threads + Wait + Sync, G: Gate + Sync>(
     small: &SmallDiagram,
     gate: &G,
 ) -> Result<Table, NoMemory>
-    requires workers { AreWorkers workers }
+    requires workers { AreSeveral workers }
     ensures { IfOk result (λ made. made ≡ table field small.now) }
 {
-    if workers == 1 {
-        return table_alone(alloc, field, small);
-    }
     over_field!(
         field,
         table_by_over::<R, G>(rt, alloc, workers, small, gate)
@@ -111,7 +113,7 @@ fn table_by_over<F: PrimeField + Send + Sync, R: Threads + Wait + Sync, G: Gate 
     small: &SmallDiagram,
     gate: &G,
 ) -> Result<Table, NoMemory>
-    requires workers { AreWorkers workers }
+    requires workers { AreSeveral workers }
     ensures { IfOk result (λ made. made ≡ table F.P small.now) }
 {
     let diagram = small.counted().diagram();

@@ -3,8 +3,7 @@
 ghost use Rattle.std.specs.Prelude.{◌≡◌, IfErr, IfOk, IsErr};
 ghost use Rattle.kh_runs.specs.Told.{seen};
 ghost use Rattle.kh_work.specs.Runs.{IsProgramRun, KeepsHeadline, KeepsReduced};
-ghost use Rattle.kh_work.specs.TableMakers.{IsTableMaker};
-ghost use Rattle.word_line.specs.Values.{AreWorkers};
+ghost use Rattle.kh_work.specs.TableMakers.{AreSeveral, IsTableMaker};
 
 use crate::answer::reply_to;
 use crate::tables::{table_alone, table_by};
@@ -21,8 +20,8 @@ use worker_pool::Gate;
 
 /// Does all that the program does: takes the words after the program's name, reads the source to
 /// its end where they mean a command that reads, makes the whole answer, and writes it. Answers how
-/// the run ended. `homology` and `bench` alone start threads and may wait, where they have more
-/// workers than one, which then call the gate in each of their turns.
+/// the run ended. Only its maker starts threads and may wait, which may be called for several
+/// workers alone: they then call the gate in each of their turns.
 pub fn run<R: Threads + Wait + Sync, S: Source, K: Sink, G: Gate + Sync>(
     rt: &R,
     alloc: Global,
@@ -43,7 +42,7 @@ pub fn run<R: Threads + Wait + Sync, S: Source, K: Sink, G: Gate + Sync>(
         (seen (K.written sink.old) (K.faults sink.old)) (seen (K.written sink.new) (K.faults sink.new)) result }
 {
     let maker = |field: FieldSize, workers: u32, small: &SmallDiagram|
-        requires { AreWorkers workers }
+        requires { AreSeveral workers }
     { table_by(rt, alloc, field, workers, small, gate) };
     run_with(alloc, words, source, sink, &maker)
 }
@@ -100,7 +99,8 @@ pub fn run_alone<S: Source, K: Sink>(
     run_with(alloc, words, source, sink, &alone)
 }
 
-/// Does the same with the homology tables that a maker makes.
+/// Does the same with the homology tables that a maker makes for several workers. It waits for
+/// nobody but in the maker.
 fn run_with<S: Source, K: Sink, M: Fn(FieldSize, u32, &SmallDiagram) -> Result<Table, NoMemory>>(
     alloc: Global,
     words: &Words,

@@ -39,7 +39,7 @@ pub struct BenchCounts {
 }
 
 /// The reply to a number: where a diagram has it, from the homology table of that, which the maker
-/// makes by so many workers; else the line of the limit.
+/// makes where there are several workers; else the line of the limit.
 pub fn reply_to_bench<M: Fn(FieldSize, u32, &SmallDiagram) -> Result<Table, NoMemory>>(
     alloc: Global,
     field: FieldSize,
@@ -74,7 +74,7 @@ fn reply_to_small<M: Fn(FieldSize, u32, &SmallDiagram) -> Result<Table, NoMemory
     requires workers { AreWorkers workers }
     ensures { IfOk result (λ reply. reply ≡ reply_of Status.Done (bench_text field number small.now)) }
 {
-    let table = table_from(maker, field, workers, small)?;
+    let table = table_from(alloc, maker, field, workers, small)?;
     Ok(reply_with_dimension(alloc, number, small.counted(), &table)?)
 }
 

@@ -18,8 +18,8 @@ use prime_field::FieldSize;
 use std::alloc::Global;
 use table_text::print_table;
 
-/// The reply to a diagram, whose homology table the maker makes, by so many workers, where it has
-/// few enough generators. Source: Bar-Natan 2002, section 3; the text is this project's rule.
+/// The reply to a diagram, whose homology table the maker makes, where there are several workers, if
+/// it has few enough generators. Source: Bar-Natan 2002, section 3; the text is this project's rule.
 #[tactic(auto, unfolding(kh_runs::specs::Homology::homology_text))]
 pub fn reply_to_homology<M: Fn(FieldSize, u32, &SmallDiagram) -> Result<Table, NoMemory>>(
     alloc: Global,
@@ -34,7 +34,7 @@ pub fn reply_to_homology<M: Fn(FieldSize, u32, &SmallDiagram) -> Result<Table, N
 {
     match SmallDiagram::try_new(CountedDiagram::of_diagram(diagram)) {
         Ok(small) => {
-            let table = table_from(maker, field, workers, &small)?;
+            let table = table_from(alloc, maker, field, workers, &small)?;
             let text = text_with_table(alloc, small.counted(), &table)?;
             Ok(reply_made(Status::Done, text))
         }
