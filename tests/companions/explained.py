@@ -44,6 +44,7 @@ def furnished(folder, program):
     os.makedirs(os.path.join(folder, "crates", "kh_main", "out"))
     os.symlink(os.path.abspath(program), os.path.join(folder, "crates", "kh_main", "out", "kh_main"))
     copy.write(os.path.join("crates", "scan_main", "out", "scan_main"), STAND_IN, 0o755)
+    copy.note("kh_main", "scan_main")
     return copy
 
 

@@ -132,6 +132,7 @@ def test_a_program_that_is_not_there(monkeypatch, name, why):
 @pytest.mark.parametrize("script, what", [
     ("read _; exit 0", "ended without an answer"), ("exit 3", "ended without an answer"),
     ("read _; echo answers 1; echo code 7 field 3 status 0 bytes 0; cat", "has not answered the code"),
+    ("read _; echo answers 1; echo code 1 field 2 status 0 bytes 0; cat", "has not answered the code"),
 ])
 def test_a_program_that_is_another_one(monkeypatch, tmp_path, script, what):
     path = tmp_path / "scan"
