@@ -8,7 +8,7 @@ program=$crate/out/$made_of
 end() {
     status=$1
     shift
-    case $status in [1-7]) help "$status" "$start" "$@" ;; esac
+    case "$status $*" in [1-7]" "* | 0*" edit"*) help "$status" "$start" "$@" ;; esac
     exit "$status"
 }
 

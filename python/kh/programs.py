@@ -29,7 +29,7 @@ PART, GRACE = 65_536, 2
 
 
 class Missing(RuntimeError):
-    """A program is not there, or ended without an answer."""
+    """A program is not there, or not of the sources that stand, or ended without an answer."""
 
 
 class Answer(NamedTuple):
