@@ -7,6 +7,7 @@ To import this is an `ImportError` where the toolchain on the path keeps `rt` in
 import contextlib
 import importlib.util
 import os
+import re
 import shutil
 import subprocess
 import sys
@@ -128,6 +129,11 @@ class Crate(rtlib.Crate):
         if words[0] != rtlib.RATTLE or self.keeps:
             return super().call(*words)
         return self.prove([it for it in words[1:] if it not in rtlib.KEPT])
+
+    def miscounted(self, line):
+        """What a verdict's last line has that it may not: calls that wait are counted in no file here, and may be where HANDLES names Wait."""
+        handles = rtlib.text_of(f"{self.folder}/../../HANDLES") or ""
+        return super().miscounted(re.sub(r" may-wait=\S+", "", line) if re.search(r"\bWait\b", handles) else line)
 
     def build_library(self, flags):
         """Proves the crate and builds its library: 0 where all is well."""

@@ -30,7 +30,7 @@ TOOLCHAIN = """\
 #!/bin/sh
 echo "$*" >>"$TOLD"
 case $1 in
-all) sleep 0.2; echo "== kh_types"; echo "== ${PWD##*/}"; [ -z "$REFUSED" ] ;;
+ci) sleep 0.2; echo "== kh_types"; [ -z "$REFUSED" ] ;;
 run) name=${PWD##*/}; mkdir -p out && printf '#!/bin/sh\\necho built "${0##*/}" "$@"\\n' >"out/$name" && chmod +x "out/$name" ;;
 try) echo "tried ${PWD##*/} $*"; echo "run=${REFUSED:-ended status=6} runners=1" >&2; exit 6 ;;
 esac
@@ -125,7 +125,7 @@ def by_links(copy):
 
 
 def where_a_crate_is_refused(copy):
-    return (copy.run("build", refused="none"), copy.calls()), ((CANNOT_RUN, "", True), ["all"])
+    return (copy.run("build", refused="none"), copy.calls()), ((CANNOT_RUN, "", True), ["ci"])
 
 
 def two_builds_at_once(copy):
@@ -133,7 +133,7 @@ def two_builds_at_once(copy):
     ended = [it.wait(PATIENCE) for it in both]
     for it in both:
         it.communicate()
-    return (ended, copy.calls()), ([0, 0], ["all", "run"] * 2)
+    return (ended, copy.calls()), ([0, 0], ["ci", "run", "run"])
 
 
 def once_it_is_built(copy):
@@ -148,7 +148,7 @@ def where_one_is_asked_for(copy):
     """The other is not built."""
     status = copy.run("build", "kh-scan")[0]
     calls = copy.calls()
-    return (status, calls, copy.run("kh-scan", "a b"), copy.run("kh", "check")[0]), (0, ["all", "run"], (0, "built scan_main a b\n", False), 6)
+    return (status, calls, copy.run("kh-scan", "a b"), copy.run("kh", "check")[0]), (0, ["ci", "run"], (0, "built scan_main a b\n", False), 6)
 
 
 def said(copy, name):
