@@ -19,7 +19,7 @@ PROGRAMS = ("kh_main", "scan_main")
 
 @functools.lru_cache(maxsize=None)
 def built():
-    """The programs that are of the sources that stand, as `tools/built` finds, by their paths; of the others it is said that they are left out."""
+    """The programs that are of the sources that stand, as `tools/built` finds, by their paths; that others are left out is said."""
     found = []
     for crate in PROGRAMS:
         path = os.path.join(TOP, "crates", crate, "out", crate)

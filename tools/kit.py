@@ -13,8 +13,8 @@ import subprocess
 import sys
 import threading
 
-ASKED = """Crate GROUPS KEPT LIMIT QUOTAS RATTLE crates_below guarded lock number_in stop stop_on_links stop_on_text stop_on_unread subprocess
-sum_of text_of""".split()
+ASKED = """Crate GROUPS KEPT LIMIT QUOTAS RATTLE crates_below guarded lock number_in stop stop_on_links stop_on_text stop_on_unread
+subprocess sum_of text_of""".split()
 reading = threading.local()
 
 
@@ -47,7 +47,7 @@ def each_read_once():
 
 
 class Measured:
-    """The module `subprocess` as `rt` has it, that keeps what the last check in a folder took: seconds of processors, and bytes of memory."""
+    """The module `subprocess` as `rt` has it; it keeps what the last check in a folder took: seconds of processors, bytes of memory."""
 
     def __init__(self):
         self.took = {}
@@ -70,9 +70,9 @@ rtlib.subprocess = Measured()
 
 
 class Crate(rtlib.Crate):
-    """A crate as `rt` has it, held to all the rules of `rt verdict`. Its library has its statements without their proofs, as `rt ci` builds it
-    for the crates above, and stands where no other command looks for it; or, with `keeps`, it is that of `rt lib`, over whose work `rt check`
-    goes on, and is held to the rules of these."""
+    """A crate as `rt` has it, held to the rules of `rt verdict`. Its library has its statements without their proofs, as `rt ci` builds it
+    for the crates above, and stands where no other command looks for it; or, with `keeps`, it is that of `rt lib`, over whose work
+    `rt check` goes on, and is held to the rules of these."""
 
     keeps = False
 
@@ -131,7 +131,7 @@ class Crate(rtlib.Crate):
         return self.prove([it for it in words[1:] if it not in rtlib.KEPT])
 
     def miscounted(self, line):
-        """What a verdict's last line has that it may not: calls that wait are counted in no file here, and may be where HANDLES names Wait."""
+        """What a last line has that it may not: calls that wait are counted in no file here, and may be where HANDLES names Wait."""
         handles = rtlib.text_of(f"{self.folder}/../../HANDLES") or ""
         return super().miscounted(re.sub(r" may-wait=\S+", "", line) if re.search(r"\bWait\b", handles) else line)
 

@@ -200,7 +200,7 @@ def changed(path, text):
 
 
 def by_the_rules_of_a_verdict(kit):
-    """What `rt check` passes and `rt verdict` does not is refused, of the text and of what the check says; with --keep it is not held to that."""
+    """What `rt check` passes and `rt verdict` does not is refused, in the text and in what the check says; but not with --keep."""
     found, source = [], os.path.join("crates", "kh_main", "src", "lib.rt")
     for word in ("TACTIC", "HIDES"):
         kit.copy.write(source, word)

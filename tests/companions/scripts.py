@@ -140,7 +140,8 @@ def once_it_is_built(copy):
     copy.run("build")
     began = len(copy.calls())
     again = copy.start("build").communicate(timeout=PATIENCE)[1]
-    came = copy.run("kh", "check", "a b"), copy.run("kh-scan", "a b"), len(copy.calls()) - began, re.fullmatch(PROVED + "\n", again) is not None
+    is_said = re.fullmatch(PROVED + "\n", again) is not None
+    came = copy.run("kh", "check", "a b"), copy.run("kh-scan", "a b"), len(copy.calls()) - began, is_said
     return came, ((0, "built kh_main check a b\n", False), (0, "built scan_main a b\n", False), 0, True)
 
 
@@ -220,7 +221,7 @@ def where_a_program_is_other(copy):
 
 
 def in_another_place(copy):
-    """A copy of all is known by what its files hold, by the package and `setup.py` too; and so is the first where its files have two names."""
+    """A copy of all is known by what its files hold, and so is the first where its files have two names."""
     copy.run("build")
     found = [kept_seen(copy), [*of_sources(copy)]]
     for words in (["cp", "-r"], ["cp", "-al"]):

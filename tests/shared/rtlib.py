@@ -1,7 +1,8 @@
 """Stands in for the module that `rt` is made of, where `companions.building` tries `./build`: each step says when it begins and ends.
 
-It gives two processors, where the machine has two, and 8 GB of memory. The crate that the environment names under REFUSED is refused, and so
-is one that has the word FALSE in its specs/, or whose folder proofs/ is gone; by the rules of a verdict also one whose sources have HIDES.
+It gives two processors, where the machine has two, and 8 GB of memory. The crate that the environment names under REFUSED is refused, and
+so is one that has the word FALSE in its specs/, or whose folder proofs/ is gone; by the rules of a verdict also one whose sources have HIDES
+or TACTIC.
 """
 import hashlib
 import os
@@ -128,7 +129,8 @@ class Crate:
 
     def prove(self, words):
         """Runs a command, and refuses what a verdict does not pass."""
-        ran = subprocess.run([*guarded(), RATTLE, *words], cwd=self.folder, stdout=subprocess.PIPE, stderr=subprocess.STDOUT, errors="replace")
+        how = {"cwd": self.folder, "stdout": subprocess.PIPE, "stderr": subprocess.STDOUT, "errors": "replace"}
+        ran = subprocess.run([*guarded(), RATTLE, *words], **how)
         print(ran.stdout, end="", file=self.out, flush=True)
         return ran.returncode or "HIDES" in "".join(map(text_of, files_of(self.folder, ("src",))))
 

@@ -53,8 +53,8 @@ def built_scan():
 
 
 class Kh:
-    """The program, that of scans, which is asked for tables first and need not be there, and how long a run may take. Without names they are
-    the ones that are built; that there is none of `kh` is told at once."""
+    """The program, that of scans, which is asked for tables first and need not be there, and how long a run may take. Without names they
+    are the ones that are built; that there is none of `kh` is told at once."""
 
     def __init__(self, program=KH, seconds=600, scan=None):
         why = programs.stale("kh_main") if TOP and program == KH else ""
