@@ -12,6 +12,7 @@ import shutil
 import subprocess
 import sys
 import threading
+import types
 
 ASKED = """Crate GROUPS KEPT LIMIT QUOTAS RATTLE crates_below guarded lock number_in stop stop_on_links stop_on_text stop_on_unread
 subprocess sum_of text_of""".split()
@@ -46,27 +47,22 @@ def each_read_once():
         reading.sums = before
 
 
-class Measured:
-    """The module `subprocess` as `rt` has it; it keeps what the last check in a folder took: seconds of processors, bytes of memory."""
-
-    def __init__(self):
-        self.took = {}
-
-    def __getattr__(self, name):
-        return getattr(subprocess, name)
-
-    def run(self, words, **how):
-        if "errors" not in how or "cwd" not in how:
-            return subprocess.run(words, **how)
-        with subprocess.Popen(words, stdin=subprocess.DEVNULL, **how) as started:
-            wrote = started.stdout.read()
-            _, ended, used = os.wait4(started.pid, 0)
-            started.returncode = os.waitstatus_to_exitcode(ended)
-        self.took[how["cwd"]] = used.ru_utime + used.ru_stime, 1024 * used.ru_maxrss
-        return subprocess.CompletedProcess(words, started.returncode, wrote)
+TOOK = {}
 
 
-rtlib.subprocess = Measured()
+def run(words, **how):
+    """`subprocess.run` as `rt` has it; of the last check in a folder it keeps what it took: seconds of processors, and bytes of memory."""
+    if not {"cwd", "errors"} <= {*how}:
+        return subprocess.run(words, **how)
+    with subprocess.Popen(words, stdin=subprocess.DEVNULL, **how) as started:
+        wrote = started.stdout.read()
+        _, ended, used = os.wait4(started.pid, 0)
+        started.returncode = os.waitstatus_to_exitcode(ended)
+    TOOK[how["cwd"]] = used.ru_utime + used.ru_stime, 1024 * used.ru_maxrss
+    return subprocess.CompletedProcess(words, started.returncode, wrote)
+
+
+rtlib.subprocess = types.SimpleNamespace(**{**vars(subprocess), "run": run})
 
 
 class Crate(rtlib.Crate):
@@ -86,7 +82,7 @@ class Crate(rtlib.Crate):
 
     def took(self):
         """The seconds of processors and the bytes of memory that its step took, where that is known."""
-        return rtlib.subprocess.took.get(self.folder)
+        return TOOK.get(self.folder)
 
     def stamp(self):
         """A sum of all that the crate is made from, with what it stands on and with the rules that it is held to."""
