@@ -1,6 +1,9 @@
 """How the package is put together, beyond what pyproject.toml says: the files of the reference and the built programs go with it."""
+import functools
 import os
 import shutil
+import subprocess
+import sys
 
 from setuptools import Distribution, setup
 from setuptools.command.build_py import build_py
@@ -14,10 +17,21 @@ THEOREM = ("INVARIANCE.md", *(os.path.join("pictures", f"{it}-states.svg") for i
 PROGRAMS = ("kh_main", "scan_main")
 
 
+@functools.lru_cache(maxsize=None)
 def built():
-    """The programs that stand, by their paths."""
-    paths = (os.path.join(TOP, "crates", it, "out", it) for it in PROGRAMS)
-    return [it for it in paths if os.access(it, os.X_OK)]
+    """The programs that are of the sources that stand, as `tools/built` finds, by their paths; that others are left out is said."""
+    found = []
+    for crate in PROGRAMS:
+        path = os.path.join(TOP, "crates", crate, "out", crate)
+        try:
+            came = subprocess.run([os.path.join(TOP, "tools", "built"), crate], stdout=subprocess.PIPE, text=True)
+        except OSError:
+            continue  # (no checkout)
+        if came.returncode:
+            print(f"kh: {came.stdout.strip()}, so the package is without it; ./build proves and builds it", file=sys.stderr)
+        else:
+            found.append(path)
+    return found
 
 
 class WithData(build_py):

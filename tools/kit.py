@@ -7,12 +7,15 @@ To import this is an `ImportError` where the toolchain on the path keeps `rt` in
 import contextlib
 import importlib.util
 import os
+import re
 import shutil
 import subprocess
 import sys
 import threading
+import types
 
-ASKED = "Crate GROUPS LIMIT QUOTAS RATTLE crates_below guarded lock number_in sum_of text_of with_one_job".split()
+ASKED = """Crate GROUPS KEPT LIMIT QUOTAS RATTLE crates_below guarded lock number_in stop stop_on_links stop_on_text stop_on_unread
+subprocess sum_of text_of""".split()
 reading = threading.local()
 
 
@@ -44,12 +47,30 @@ def each_read_once():
         reading.sums = before
 
 
-class Crate(rtlib.Crate):
-    """A crate as `rt` has it, which keeps the processor time and the memory of its step. Its library has its statements without their proofs,
-    as `rt ci` builds it for the crates above, and stands where no other command looks for it; or, with `keeps`, it is that of `rt lib`, over
-    whose work `rt check` goes on."""
+TOOK = {}
 
-    keeps, seconds, memory, is_proved = False, 0.0, 0, False
+
+def run(words, **how):
+    """`subprocess.run` as `rt` has it; of the last check in a folder it keeps what it took: seconds of processors, and bytes of memory."""
+    if not {"cwd", "errors"} <= {*how}:
+        return subprocess.run(words, **how)
+    with subprocess.Popen(words, stdin=subprocess.DEVNULL, **how) as started:
+        wrote = started.stdout.read()
+        _, ended, used = os.wait4(started.pid, 0)
+        started.returncode = os.waitstatus_to_exitcode(ended)
+    TOOK[how["cwd"]] = used.ru_utime + used.ru_stime, 1024 * used.ru_maxrss
+    return subprocess.CompletedProcess(words, started.returncode, wrote)
+
+
+rtlib.subprocess = types.SimpleNamespace(**{**vars(subprocess), "run": run})
+
+
+class Crate(rtlib.Crate):
+    """A crate as `rt` has it, held to the rules of `rt verdict`. Its library has its statements without their proofs, as `rt ci` builds it
+    for the crates above, and stands where no other command looks for it; or, with `keeps`, it is that of `rt lib`, over whose work
+    `rt check` goes on, and is held to the rules of these."""
+
+    keeps = False
 
     def __init__(self, *given, **named):
         super().__init__(*given, **named)
@@ -59,11 +80,15 @@ class Crate(rtlib.Crate):
         if words is not None:
             self.said = {**self.said, "args": words.decode().splitlines()}
 
+    def took(self):
+        """The seconds of processors and the bytes of memory that its step took, where that is known."""
+        return TOOK.get(self.folder)
+
     def stamp(self):
-        """A sum of all that the crate is made from, with what it stands on."""
+        """A sum of all that the crate is made from, with what it stands on and with the rules that it is held to."""
         with each_read_once() as sums:
             if self.name not in sums:
-                sums[self.name] = super().stamp()
+                sums[self.name] = super().stamp() + ("" if self.keeps else " by the rules of a verdict ")
             return sums[self.name]
 
     def stamp_file(self):
@@ -74,8 +99,9 @@ class Crate(rtlib.Crate):
         if self.keeps:
             return super().is_built()
         below = [self, *self.below()]
-        if not all(os.path.isdir(it.rlib) and rtlib.text_of(it.stamp_file()) == it.stamp() for it in below):
-            return False
+        with each_read_once():
+            if not all(os.path.isdir(it.rlib) and rtlib.text_of(it.stamp_file()) == it.stamp() for it in below):
+                return False
         return all(os.stat(it.stamp_file()).st_mtime_ns <= os.stat(self.stamp_file()).st_mtime_ns for it in below)
 
     def is_done(self):
@@ -85,17 +111,25 @@ class Crate(rtlib.Crate):
             return rtlib.text_of(f"{program}.stamp") == self.stamp() + rtlib.sum_of(program)
         return self.is_built()
 
+    def stop_on_files(self):
+        """Stops at a link among the crate's files, and at a file that no check reads."""
+        rtlib.stop_on_links(self.folder)
+        for it in os.scandir(self.folder):
+            if it.name.endswith((".rt", ".antt")):
+                rtlib.stop(f"no check reads {it.path}: a .rt file goes in src/, and an .antt file in specs/ or proofs/")
+            if it.name != "out":  # (where libraries have such files)
+                rtlib.stop_on_unread(it.path, [self])
+
     def call(self, *words):
-        """Runs a command of the toolchain, once more with one job where it was killed with several, and returns its status."""
-        self.out.flush()
-        how = {"cwd": self.folder, "stdin": subprocess.DEVNULL, "stdout": self.out, "stderr": subprocess.STDOUT}
-        started = subprocess.Popen([*rtlib.guarded(), *words], **how)
-        _, ended, used = os.wait4(started.pid, 0)
-        started.returncode = -os.WTERMSIG(ended) if os.WIFSIGNALED(ended) else os.WEXITSTATUS(ended)
-        self.seconds += used.ru_utime + used.ru_stime
-        self.memory = max(self.memory, 1024 * used.ru_maxrss)
-        again = rtlib.with_one_job(list(words), started.returncode, self.out)
-        return self.call(*again) if again else started.returncode
+        """Runs a command of the toolchain; a build begins from nothing, and is held to the rules."""
+        if words[0] != rtlib.RATTLE or self.keeps:
+            return super().call(*words)
+        return self.prove([it for it in words[1:] if it not in rtlib.KEPT])
+
+    def miscounted(self, line):
+        """What a last line has that it may not: calls that wait are counted in no file here, and may be where HANDLES names Wait."""
+        handles = rtlib.text_of(f"{self.folder}/../../HANDLES") or ""
+        return super().miscounted(re.sub(r" may-wait=\S+", "", line) if re.search(r"\bWait\b", handles) else line)
 
     def build_library(self, flags):
         """Proves the crate and builds its library: 0 where all is well."""
@@ -113,9 +147,13 @@ class Crate(rtlib.Crate):
     def step(self, jobs):
         """Proves the crate and builds its library, or the program, which has to write what the file stdout has: 0 where all is well."""
         os.makedirs(f"{self.folder}/out", exist_ok=True)
+        rtlib.stop_on_text(self, "check" if self.keeps else "verdict")
         flags = ["--jobs", str(jobs)]
         if not self.is_program:
             return self.build_library(flags)
+        # (what `rt ci` has built of other sources is not to stay beside it)
+        with contextlib.suppress(FileNotFoundError):
+            os.remove(f"{self.folder}/out/{self.name}.by-rattle")
         how = {"input": self.stream("stdin") or b"", "stdout": subprocess.PIPE, "stderr": self.out, "timeout": rtlib.LIMIT}
         return self.run(flags, self.said.get("args", []), **how)
 
@@ -133,6 +171,8 @@ def unfinished(folders, keeps):
         found.setdefault(it.name, it)
     crates = [*found.values()]
     rtlib.lock(crates)
+    for it in crates:
+        it.stop_on_files()
     with each_read_once():
         return [it for it in crates if not it.is_done()]
 

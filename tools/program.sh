@@ -8,7 +8,7 @@ program=$crate/out/$made_of
 end() {
     status=$1
     shift
-    case $status in [1-7]) help "$status" "$start" "$@" ;; esac
+    case "$status $*" in [1-7]" "* | 0*" edit"*) help "$status" "$start" "$@" ;; esac
     exit "$status"
 }
 
@@ -22,10 +22,14 @@ help() {
 start=
 [ ! -f /dev/stdin ] || [ ! -r "/proc/$$/fdinfo/0" ] || read -r _ start 3<&0 <"/proc/$$/fdinfo/3"
 
-# (what the program does is in crates.txt and in src/ of the crates; a change of a proof alone asks for no new one)
-if [ -x "$program" ] && newer=$(find "$top/crates.txt" "$top"/crates/*/src -type f -newer "$program" -print -quit) && [ -z "$newer" ]; then
+if why=$("$top/tools/built" "$made_of" </dev/null); then
     "$program" "$@"
     end "$?" "" "$@"
+fi
+why=${why:-$top/tools/built can not be run}
+if ! command -v rt >/dev/null; then
+    echo "$name: $why, and there is no rt, the Rattle toolchain, on the path: without it nothing can be proved, built or answered" >&2
+    exit 70
 fi
 
 # Whether another process holds the lock of `build`.
@@ -36,13 +40,9 @@ is_being_built() {
 }
 
 if is_being_built; then
-    echo "$name: $top/build is at work; until it has ended an unproved answer takes about a minute" >&2
+    echo "$name: $why; $top/build is at work, and until it has ended an unproved answer takes about a minute" >&2
 else
-    echo "$name: not built, so an unproved answer follows in about a minute; $top/build $name proves and builds it once" >&2
-fi
-if ! command -v rt >/dev/null; then
-    echo "$name: no rt, the Rattle toolchain, on the path" >&2
-    exit 70
+    echo "$name: $why, so an unproved answer follows in about a minute; $top/build $name proves and builds it once" >&2
 fi
 folder=$(mktemp -d) || exit 70
 trap 'rm -rf -- "$folder"' EXIT

@@ -92,8 +92,9 @@ class Proving:
         self.took += time.monotonic() - begun
         self.foreseen += self.lanes.steps[crate.name].takes(jobs)
         self.lanes.pace = self.took / self.foreseen
-        if not has_kept:
-            self.new_times[crate.name] = crate.seconds / (jobs * lanes.PARTS[jobs]), crate.memory / 1e6
+        if not has_kept and crate.took():
+            seconds, memory = crate.took()
+            self.new_times[crate.name] = seconds / (jobs * lanes.PARTS[jobs]), memory / 1e6
 
     def run(self):
         """Whether all are proved. At the first that is refused the others are given up."""

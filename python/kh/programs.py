@@ -29,7 +29,7 @@ PART, GRACE = 65_536, 2
 
 
 class Missing(RuntimeError):
-    """A program is not there, or ended without an answer."""
+    """A program is not there, or not of the sources that stand, or ended without an answer."""
 
 
 class Answer(NamedTuple):
@@ -81,12 +81,22 @@ def ran(words: Sequence[str], given: bytes, seconds: float | None = None, errors
     return process.returncode, wrote, said or b""
 
 
+def stale(crate: str, top: str = TOP) -> str:
+    """Why the program of a crate of a checkout is not to be run: it is not built, or not of the sources that stand there, as `tools/built`
+    finds. Nothing where it is."""
+    try:
+        came = subprocess.run([os.path.join(top, "tools", "built"), crate], stdin=subprocess.DEVNULL, stdout=subprocess.PIPE, text=True)
+    except OSError as fault:
+        return str(fault)
+    return (came.stdout.strip() or f"tools/built ended with {came.returncode}") if came.returncode else ""
+
+
 _found: dict[tuple[str, str | None], str] = {}
 
 
 def program(name: str = KH) -> str:
     """The path of `kh` or `kh-scan`: the one that KH_PROGRAM or KH_SCAN_PROGRAM names, else the one that is built beside this package, else
-    the one on the path."""
+    the one on the path. One that is built in a checkout is refused where it is not of the sources that stand there."""
     named = os.environ.get(KNOWN[name][0])
     if (name, named) not in _found:
         _found[name, named] = _sought(name, named)
@@ -102,7 +112,7 @@ def _sought(name: str, named: str | None) -> str:
         return os.path.abspath(path)
     built = built_file(crate)
     if os.access(built, os.X_OK):
-        return built
+        return _of_its_sources(built, name, TOP)
     on_path = shutil.which(name)
     if on_path:
         # (the script of a checkout asks the interpreter where nothing is built, and that is not proved)
@@ -111,9 +121,18 @@ def _sought(name: str, named: str | None) -> str:
         if not os.path.isfile(os.path.join(folder, "crates.txt")):
             return on_path
         if os.access(theirs, os.X_OK):
-            return theirs
+            return _of_its_sources(theirs, name, folder)
     where = f"{TOP}/build makes it" if TOP else f"build it in its repository, and install this package again, or name it by {variable}"
     raise Missing(f"there is no program {name}: {where}")
+
+
+def _of_its_sources(path: str, name: str, top: str) -> str:
+    """A program that is built, or installed, where it is of the sources of its checkout."""
+    variable, crate = KNOWN[name]
+    why = stale(crate, top) if top else ""
+    if why:
+        raise Missing(f"{why}: {top}/build {name} proves and builds it, and {variable} names one that is to be run all the same")
+    return path
 
 
 def run(words: list[str], given: str, name: str = KH, seconds: float | None = None) -> Answer:
@@ -135,7 +154,7 @@ class Stream:
 
     def __init__(self, path: str, field: int) -> None:
         words = [path, "each", "--field", str(field)]
-        self.path, self.asked, self.is_greeted = path, 0, False
+        self.path, self.field, self.asked, self.is_greeted = path, field, 0, False
         self.process = begun(words)
         assert self.process.stdin and self.process.stdout
         self.into, self.out = self.process.stdin.fileno(), self.process.stdout.fileno()
@@ -163,7 +182,7 @@ class Stream:
                 came, self.is_greeted = came[len(FIRST) :], True
             head = HEAD.match(came)
             if head and len(came) >= head.end() + int(head[4]):
-                if int(head[1]) != self.asked or len(came) > head.end() + int(head[4]):
+                if (int(head[1]), int(head[2])) != (self.asked, self.field) or len(came) > head.end() + int(head[4]):
                     raise Missing(f"{self.path} each has not answered the code that it was asked")
                 return int(head[3]), came[head.end() :]
 

@@ -12,7 +12,7 @@ import signal
 import sys
 
 from shared import rtlib
-from shared.places import TOP
+from shared.places import TOP, write_text
 from shared.running import PATIENCE
 from shared.waiting import is_living, wait_for, written_folder
 
@@ -40,8 +40,8 @@ class Kit:
         shutil.copy(os.path.join(TOP, "tests", "shared", "rtlib.py"), os.path.join(copy.folder, "bin"))
         copy.write(os.path.join("bin", "rattle"), rtlib.COMPILER)
         os.chmod(os.path.join(copy.folder, "bin", "rattle"), 0o755)
-        for name in BELOW:
-            copy.write(os.path.join("crates", name, "src", "lib.rt"), "")
+        for name, (part, file) in itertools.product(BELOW, (("src", "lib.rt"), ("specs", "Lib.antt"), ("proofs", "Answers.antt"))):
+            copy.write(os.path.join("crates", name, part, file), name)
         copy.write("crates.txt", "".join(f"{name}: {below}\n" for name, below in BELOW.items()))
         copy.write(os.path.join("tools", "build-times.txt"), "# times\n" + "".join(f"{it} {SECONDS[it]} 1000\n" for it in SECONDS))
 
@@ -67,7 +67,7 @@ class Kit:
 
     def times(self):
         with open(os.path.join(self.copy.folder, "tools", "build-times.txt"), encoding="utf-8") as file:
-            return [line.split()[0] for line in file if not line.startswith("#")]
+            return [line.split() for line in file if not line.startswith("#")]
 
 
 def order_fault(told, processors):
@@ -89,7 +89,7 @@ def order_fault(told, processors):
 def each_behind_those_below(kit):
     status, lines = kit.build()
     fault = order_fault(kit.told(), 2)
-    told = [re.fullmatch(LEFT, line) for line in lines[1:-1]]
+    told = [re.fullmatch(LEFT, line) for line in lines[1:-2]]
     numbers = [it and it.group(2, 3) for it in told]
     return (status, fault, numbers), (0, None, [(str(at), str(len(PROVED))) for at in range(1, len(PROVED) + 1)])
 
@@ -154,21 +154,87 @@ def two_at_once(kit):
 
 
 def nothing_to_do(kit):
-    kit.build()
-    return (kit.build(), len(kit.begun())), ((0, []), len(PROVED))
+    """It is said what stands, with as many crates as a program stands on, whatever is newer, and what no program stands on may change."""
+    first = kit.build()[1][-1]
+    kit.copy.write(os.path.join("crates", "laws", "src", "lib.rt"), "laws of another day")
+    os.utime(os.path.join(kit.copy.folder, "crates", "kh_main", "out", "kh_main"), (1, 1))
+    seen = first, kit.build(), kit.build("kh"), len(kit.begun())
+    both = "build: proved: 7 crates, kh and kh-scan of these sources"
+    return seen, (both, (0, [both]), (0, ["build: proved: 5 crates, kh of these sources"]), len(PROVED))
 
 
-def nothing_to_prove(kit):
-    """A source that a program does not stand on is newer: both programs become newer still."""
+def of_what_has_changed(kit):
+    """What a call begins, and its status, where a file has changed that is as old as before, or is gone, or is a link, or one too many."""
+    more, long = os.path.join("crates", "long", "src", "more.rt"), os.path.join(kit.copy.folder, "crates", "long")
+    kit.copy.write(more, "more")
     kit.build()
-    programs = [os.path.join(kit.copy.folder, "crates", it, "out", it) for it in PROGRAMS]
-    source = os.path.join(kit.copy.folder, "crates", "laws", "src", "lib.rt")
     found = []
-    for old in programs:
-        os.utime(old, (1, 1))
-        status, _ = kit.build()
-        found.append((status, len(kit.begun()), all(os.stat(it).st_mtime >= os.stat(source).st_mtime for it in programs)))
-    return found, [(0, len(PROVED), True)] * len(PROGRAMS)
+
+    def see():
+        before = len(kit.begun())
+        found.append((kit.build()[0], sorted(kit.begun()[before:])))
+
+    os.remove(os.path.join(kit.copy.folder, more))
+    see()
+    changed(os.path.join(long, "proofs", "Answers.antt"), "gnol")
+    see()
+    changed(os.path.join(long, "specs", "Lib.antt"), "FALSE")
+    see()
+    changed(os.path.join(long, "specs", "Lib.antt"), "long")
+    os.rename(os.path.join(long, "proofs"), os.path.join(kit.copy.folder, "proofs"))
+    see()
+    os.rename(os.path.join(kit.copy.folder, "proofs"), os.path.join(long, "proofs"))
+    kit.copy.write(os.path.join("crates", "long", "Answers.antt"), "")
+    see()
+    os.remove(os.path.join(long, "Answers.antt"))
+    os.symlink("lib.rt", os.path.join(long, "src", "link.rt"))
+    see()
+    os.remove(os.path.join(long, "src", "link.rt"))
+    see()
+    above = sorted(["long", "top", "kh_main"])
+    # (at the end all is as it was proved last)
+    return found, [(0, above), (0, above), (70, ["long"]), (70, ["long"]), (70, []), (70, []), (0, [])]
+
+
+def changed(path, text):
+    """Changes a file, which is then as old as before."""
+    before = os.stat(path)
+    write_text(path, text)
+    os.utime(path, ns=(before.st_atime_ns, before.st_mtime_ns))
+
+
+def by_the_rules_of_a_verdict(kit):
+    """What `rt check` passes and `rt verdict` does not is refused, in the text and in what the check says; but not with --keep."""
+    found, source = [], os.path.join("crates", "kh_main", "src", "lib.rt")
+    for word in ("TACTIC", "HIDES"):
+        kit.copy.write(source, word)
+        status, lines = kit.build()
+        found += [status, lines[-1], kit.build("--keep")[0]]
+    return found, [70, "build: kh_main is not proved", 0] * 2
+
+
+def changed_meanwhile(kit):
+    """A source that changes while it is at work leaves no program that counts as current, and the next call proves what it is now."""
+    started = kit.start(takes="1")
+    wait_for(lambda: "long" in kit.begun())
+    kit.copy.write(os.path.join("crates", "kh_types", "src", "lib.rt"), "other")
+    said = started.communicate(timeout=PATIENCE)[1]
+    status = [kit.copy.run(it, "check")[0] for it in ("kh", "kh-scan")]
+    again = kit.build()
+    return (started.returncode, "meanwhile" in said, status, again[0], kit.copy.run("kh-scan")[0]), (70, True, [6, 6], 0, 0)
+
+
+def interrupted_between_programs(kit):
+    """One program is built then and the other is not: neither counts as current, though a source is older than both."""
+    kit.build()
+    kit.copy.write(os.path.join("crates", "short", "src", "lib.rt"), "other")
+    before = len(kit.told())
+    started = kit.start(takes="1")
+    wait_for(lambda: any(it[:2] in (("end", "kh_main"), ("end", "scan_main")) for it in kit.told()[before:]))
+    started.send_signal(signal.SIGINT)
+    started.communicate(timeout=PATIENCE)
+    found = started.returncode, [kit.copy.run(it, "check")[0] for it in ("kh", "kh-scan")]
+    return (*found, kit.build()[0], [kit.copy.run(it, "check")[0] for it in ("kh", "kh-scan")]), (70, [6, 6], 0, [0, 0])
 
 
 def kept_work(kit):
@@ -177,7 +243,8 @@ def kept_work(kit):
     begun = len(kit.begun())
     again = kit.build("--keep")
     libraries = [os.path.isdir(os.path.join(kit.copy.folder, "crates", it, "out", "rlib")) for it in PROVED if it not in PROGRAMS]
-    return (first[0], kept[0], all(libraries), again[0], len(kit.begun()) - begun), (0, 0, True, 0, 0)
+    proved = kit.build()[0], [it.partition(":")[2][:7] for it in (first[1][-1], kept[1][-1])], len(kit.begun()) - begun
+    return (first[0], kept[0], all(libraries), again[0], *proved), (0, 0, True, 0, 0, [" proved", " kept f"], 0)
 
 
 def one_library_is_missing(kit):
@@ -207,9 +274,13 @@ def one_program_alone(kit):
     first, again = kit.build("kh-scan"), kit.build("kh-scan")
     begun = kit.begun()
     last, both = kit.build("kh"), kit.build()
-    seen = sorted(begun), sorted(kit.begun()[len(begun) :]), first[1][-1].endswith("see ./kh-scan"), last[1][-1].endswith("see ./kh")
+    seen = sorted(begun), sorted(kit.begun()[len(begun) :]), first[1][-2].endswith("see ./kh-scan"), last[1][-2].endswith("see ./kh")
+    first, again, last, both = [(status, lines[-1]) for status, lines in (first, again, last, both)]
+    of_scan, of_kh, of_both = [
+        (0, f"build: proved: {it} of these sources") for it in ("4 crates, kh-scan", "5 crates, kh", "7 crates, kh and kh-scan")
+    ]
     wanted = sorted({"kh_types", *BELOW["scan_main"].split(), "scan_main"})
-    return (first[0], again, last[0], both, *seen), (0, (0, []), 0, (0, []), wanted, sorted({*PROVED} - {*wanted}), True, True)
+    return (first, again, last, both, *seen), (of_scan, of_scan, of_kh, of_both, wanted, sorted({*PROVED} - {*wanted}), True, True)
 
 
 def another_word(kit):
@@ -222,13 +293,15 @@ def without_scans(kit):
     """Where there is no crate of a second program the first alone is built."""
     shutil.rmtree(os.path.join(kit.copy.folder, "crates", "scan_main"))
     status, lines = kit.build()
-    return (status, sorted(kit.begun()), lines[-1].endswith("see ./kh")), (0, sorted({*PROVED} - {"scan", "scan_main"}), True)
+    return (status, sorted(kit.begun()), lines[-2].endswith("see ./kh")), (0, sorted({*PROVED} - {"scan", "scan_main"}), True)
 
 
 def the_file_of_times(kit):
+    """It has what each step took, and what it had of the others."""
     kit.build("--times")
-    names = kit.times()
-    return (sorted(names), [*names] == [*SECONDS]), (sorted(SECONDS), True)
+    rows = kit.times()
+    measured = {name for name, _, megabytes in rows if 0 < int(megabytes) < 1000}
+    return ([name for name, *_ in rows], measured, [*rows[-1]]), ([*SECONDS], {*PROVED}, ["laws", "900", "1000"])
 
 
 def random_steps(chance):
@@ -288,7 +361,8 @@ def kh_meanwhile(kit):
 
 TRIED = (
     each_behind_those_below, the_longest_chain_first, a_crate_that_is_refused, the_rest_behind_a_refusal, interrupted, not_interrupted,
-    two_at_once, nothing_to_do, nothing_to_prove, kept_work, one_library_is_missing, one_program_is_missing, one_program_alone,
+    two_at_once, nothing_to_do, of_what_has_changed, by_the_rules_of_a_verdict, changed_meanwhile, interrupted_between_programs, kept_work,
+    one_library_is_missing, one_program_is_missing, one_program_alone,
     another_word, without_scans, the_file_of_times, kh_meanwhile,
 )
 

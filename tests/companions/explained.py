@@ -44,6 +44,7 @@ def furnished(folder, program):
     os.makedirs(os.path.join(folder, "crates", "kh_main", "out"))
     os.symlink(os.path.abspath(program), os.path.join(folder, "crates", "kh_main", "out", "kh_main"))
     copy.write(os.path.join("crates", "scan_main", "out", "scan_main"), STAND_IN, 0o755)
+    copy.note("kh_main", "scan_main")
     return copy
 
 
@@ -255,6 +256,13 @@ def elsewhere_faults(copy):
     yield "a number beside a file", None if came == "kh: the diagrams of bench have the numbers 0 to 1048575\n" else came
     came = run(copy, said.EDIT, TREFOIL.encode() + b";undo")
     yield "a move", None if came == (7, "1 refused nothing to undo\n", MOVES) else str(came)
+    for name, script, is_said in (("no script", "", True), ("a blank script", ";\n \t\n", True), ("a script", "; r1 add 1 under plus", False)):
+        came = run(copy, said.EDIT, f"{TREFOIL}\n{script}\n".encode())
+        right = came[0] == 0 and bool(came[1]) != is_said and came[2].startswith("kh: there is no script") == is_said
+        yield name, plain_fault(came[2]) if right and is_said else None if right and not came[2] else str(came)
+    shown = next(it.strip() for it in read_text("tools", "kh-help").splitlines() if "| cat FILE - |" in it).split("'")[1].strip()
+    came = wrote_in(copy, shown.replace("FILE", os.path.join(TOP, "examples", "trefoil.pd")))
+    yield "the script that is shown", None if came.startswith("1 PD[") else came
 
 
 def unproved_faults(copy):

@@ -182,6 +182,7 @@ def status_faults(script, copy):
     program = os.path.join("crates", script.crate, "out", script.crate)
     for words, status, begins in ((words, *row) for words, rows in script.statuses for row in rows):
         copy.write(program, PROGRAM % status, 0o755)
+        copy.note(script.crate)
         came = subprocess.run([path, *words], stdin=subprocess.DEVNULL, capture_output=True, text=True)
         lines = came.stderr.splitlines()
         right = (came.returncode, came.stdout) == (status, "answer\n") and len(lines) == len(begins)

@@ -1,18 +1,24 @@
 """Stands in for the module that `rt` is made of, where `companions.building` tries `./build`: each step says when it begins and ends.
 
-It gives two processors, where the machine has two, and 8 GB of memory. The crate that the environment names under REFUSED is refused.
+It gives two processors, where the machine has two, and 8 GB of memory. The crate that the environment names under REFUSED is refused, and
+so is one that has the word FALSE in its specs/, or whose folder proofs/ is gone; by the rules of a verdict also one whose sources have HIDES
+or TACTIC.
 """
+import hashlib
 import os
 import subprocess
+import sys
 
+PARTS = ("src", "specs", "proofs")
 RATTLE = os.path.join(os.path.dirname(os.path.abspath(__file__)), "rattle")
-GROUPS, QUOTAS, LIMIT = [], [("quota", ("period", ""))], 60
+GROUPS, QUOTAS, LIMIT, KEPT = [], [("quota", ("period", ""))], 60, ["--incremental", "kept"]
 NUMBERS = {"quota": 2, "period": 1, "/proc/meminfo": 8_000_000}
 # What stands in for `rattle build CRATE JOBS .. -o LIBRARY`.
 COMPILER = """\
 #!/bin/sh
 echo "begin $2 $3 $$" >>"$TOLD"
 [ "$2" != "$REFUSED" ] || { seq 100; exit 1; }
+[ -d proofs ] && ! grep -rqs FALSE specs || exit 1
 sleep "$TAKES"
 for made; do :; done
 mkdir -p "$made"
@@ -32,11 +38,37 @@ def text_of(file):
 
 
 def sum_of(file):
-    return ""
+    if not os.path.isfile(file):
+        return "none"
+    with open(file, "rb") as opened:
+        return hashlib.sha256(opened.read()).hexdigest()
 
 
-def with_one_job(words, status, out):
-    return None
+def stop(why):
+    print(f"rt: {why}", file=sys.stderr)
+    sys.exit(2)
+
+
+def files_of(folder, parts):
+    walked = (it for part in parts for it in os.walk(os.path.join(folder, part)))
+    return sorted(os.path.join(at, name) for at, _, names in walked for name in names)
+
+
+def stop_on_links(folder):
+    for it in filter(os.path.islink, files_of(folder, PARTS)):
+        stop(f"{it} is a link")
+
+
+def stop_on_unread(folder, crates):
+    for it in files_of(folder, ("",)):
+        if it.endswith(".antt") and not it.startswith(tuple(f"{crates[0].folder}/{part}/" for part in ("specs", "proofs"))):
+            stop(f"no check reads {it}")
+
+
+def stop_on_text(crate, verb):
+    """Stops at a word that a verdict does not pass."""
+    if verb == "verdict" and "TACTIC" in "".join(map(text_of, files_of(crate.folder, ("src",)))):
+        stop(f"{crate.name}: a tactic")
 
 
 def lock(crates):
@@ -79,7 +111,8 @@ class Crate:
         return [*{jt.name: jt for it in self.deps for jt in [it, *it.below()]}.values()]
 
     def stamp(self):
-        return "stamp"
+        files = [(os.path.relpath(it, self.folder), sum_of(it)) for it in files_of(self.folder, PARTS)]
+        return hashlib.sha256(repr((files, [it.stamp() for it in self.deps])).encode()).hexdigest()
 
     def words(self, flags, keeps=True):
         return [self.name, flags[1]]
@@ -90,15 +123,28 @@ class Crate:
     def has_kept(self):
         return self.is_built()
 
+    def call(self, *words):
+        how = {"cwd": self.folder, "stdin": subprocess.DEVNULL, "stdout": self.out, "stderr": subprocess.STDOUT}
+        return subprocess.run([*guarded(), *words], **how).returncode
+
+    def prove(self, words):
+        """Runs a command, and refuses what a verdict does not pass."""
+        how = {"cwd": self.folder, "stdout": subprocess.PIPE, "stderr": subprocess.STDOUT, "errors": "replace"}
+        ran = subprocess.run([*guarded(), RATTLE, *words], **how)
+        print(ran.stdout, end="", file=self.out, flush=True)
+        return ran.returncode or "HIDES" in "".join(map(text_of, files_of(self.folder, ("src",))))
+
     def build_rlib(self, flags, anew):
         return self.call(RATTLE, "build", *self.words(flags), "-o", self.rlib)
 
     def run(self, flags, words, **how):
-        program = f"{self.folder}/out/{self.name}"
-        status = self.call(RATTLE, "build", *self.words(flags), "-o", f"{program}.o")
+        program, stamp = f"{self.folder}/out/{self.name}", self.stamp()
+        status = self.call(RATTLE, "build", *self.words(flags), *KEPT, "-o", f"{program}.o")
         if not status:
-            for file, text in ((program, "#!/bin/sh\n"), (f"{program}.stamp", "stamp")):
-                with open(file, "w", encoding="utf-8") as made:
-                    made.write(text)
+            with open(program, "w", encoding="utf-8") as made:
+                made.write(f"#!/bin/sh\necho built {self.name} of {stamp[:8]}\n")
             os.chmod(program, 0o755)
+            if stamp == self.stamp():
+                with open(f"{program}.stamp", "w", encoding="utf-8") as made:
+                    made.write(stamp + sum_of(program))
         return status

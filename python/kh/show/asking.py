@@ -4,6 +4,7 @@ No shell is used, and no words are passed on but those of the table.
 """
 import os
 import subprocess
+import sys
 from concurrent.futures import ThreadPoolExecutor
 
 from .. import programs
@@ -12,9 +13,8 @@ from ..places import TOP, built_file
 from ..programs import ANSWERED, TOO_LARGE, Answer
 from ..tables import FIELDS
 
-BUILT, BUILT_SCAN = map(built_file, ("kh_main", "scan_main"))
-# (the script of a checkout asks the interpreter where nothing is built)
-KH = os.path.join(TOP, "kh") if TOP else BUILT
+# (the script of a checkout says what its refusals mean, and asks the interpreter where nothing is built, which takes minutes)
+KH = os.path.join(TOP, "kh") if TOP else built_file("kh_main")
 CHECK, CONVERT, GAUSS, DRAW, JONES, EDIT, MIRROR, REVERSE = (
     ("check",), ("convert",), ("convert", "--to", "gauss"), ("draw",), ("jones",), ("edit",), ("mirror",), ("reverse",)
 )
@@ -43,11 +43,24 @@ def ran(words, given, seconds):
     return Answer(status, *(it.decode(errors="replace") for it in texts))
 
 
-class Kh:
-    """The program, that of scans, which is asked for tables first and need not be there, and how long a run may take."""
+def built_scan():
+    """The program of scans that is built; it need not be there, but one of other sources is not asked, and that is said."""
+    path = built_file("scan_main")
+    why = programs.stale("scan_main") if TOP and os.access(path, os.X_OK) else ""
+    if why:
+        print(f"{why}, so kh is asked for tables; ./build kh-scan makes it anew", file=sys.stderr)
+    return os.devnull if why else path
 
-    def __init__(self, program=KH, seconds=600, scan=BUILT_SCAN):
-        self.program, self.seconds, self.scan = os.path.abspath(program), seconds, os.path.abspath(scan)
+
+class Kh:
+    """The program, that of scans, which is asked for tables first and need not be there, and how long a run may take. Without names they
+    are the ones that are built; that there is none of `kh` is told at once."""
+
+    def __init__(self, program=KH, seconds=600, scan=None):
+        why = programs.stale("kh_main") if TOP and program == KH else ""
+        if why:
+            raise Unreadable(f"{why}; ./build proves and builds it, once")
+        self.program, self.seconds, self.scan = os.path.abspath(program), seconds, os.path.abspath(scan or built_scan())
 
     def ask(self, words, given):
         """What the program answers."""

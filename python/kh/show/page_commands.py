@@ -7,7 +7,7 @@ import signal
 
 from ..commands import Unreadable, command, given, reader
 from ..programs import end_all
-from .asking import BUILT, BUILT_SCAN, KH, Kh
+from .asking import KH, Kh
 from .page_html import page_of
 from .page_server import Server
 from .page_session import Session
@@ -34,14 +34,15 @@ def page():
     with_programs(parser)
     parser.add_argument("file", nargs="?", help="instead of standard input")
     words = parser.parse_args()
+    kh = Kh(words.kh, scan=words.scan)
     text = given([words.file] if words.file else [])
-    print(page_of(sheet_of(Kh(words.kh, scan=words.scan), text, words.title or name_of(words.file))), end="")
+    print(page_of(sheet_of(kh, text, words.title or name_of(words.file))), end="")
 
 
 def with_programs(parser):
     """The options that name the programs."""
     parser.add_argument("--kh", metavar="PATH", default=KH, help="the program, instead of ./kh")
-    parser.add_argument("--scan", metavar="PATH", default=BUILT_SCAN, help="that of scans, instead of the one that ./build makes")
+    parser.add_argument("--scan", metavar="PATH", help="that of scans, instead of the one that ./build makes")
 
 
 def name_of(path):
@@ -52,8 +53,6 @@ def name_of(path):
 def server_of(words):
     """A server, and the address to open."""
     session = Session(Kh(words.kh, SECONDS, words.scan))
-    if words.kh == KH and not os.access(BUILT, os.X_OK):
-        raise Unreadable("the program is not built; ./build proves and builds it, once")
     stop = session.is_ready()
     if stop:
         raise Unreadable(f"{words.kh} gives no answer: {stop.strip()}")

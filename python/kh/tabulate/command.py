@@ -36,7 +36,8 @@ import sys
 import threading
 from collections import Counter
 
-from ..places import built_file
+from ..places import TOP, built_file
+from ..programs import stale
 from . import lists, queries
 from .chosen import Chosen, in_parts
 from .tasks import KH, KINDS, LIMIT_OF_CUBES, SCAN, Answer, Lost, Single, Task, try_program
@@ -44,7 +45,8 @@ from .results import ANSWERED, COLUMNS, OLDER, ROW, Fault, Keeper, open_database
 from .streams import Scans, in_runs
 from .telling import Progress, Tally
 
-PROGRAMS = {KH: built_file("kh_main"), SCAN: built_file("scan_main")}
+# The crate of each program.
+CRATES = {KH: "kh_main", SCAN: "scan_main"}
 FIELDS = ("2", "3", "5", "7")
 # How many lines of JSON are stored at once.
 LINES = 5_000
@@ -54,8 +56,13 @@ FINAL = {KH: "1", SCAN: f"refusal not like '{LIMIT_OF_CUBES}%'"}
 
 def program_of(words, jobs):
     """The program that is asked, once it has been tried."""
+    kind, crate = KINDS[words.program], CRATES[words.program]
     path = words.kh if words.program == KH else words.scan
-    try_program(KINDS[words.program], path)
+    why = stale(crate) if TOP and not path else ""
+    if why:
+        raise Fault(f"{why}: ./build makes the program that is taken without {kind.option}")
+    path = path or built_file(crate)
+    try_program(kind, path)
     return Single(KH, [path, "homology"], jobs, words.seconds) if words.program == KH else Scans(path, jobs, words.seconds)
 
 
@@ -266,8 +273,8 @@ def add_options(parser, is_first):
     def add(name, default, **rest):
         parser.add_argument(name, default=default if is_first else argparse.SUPPRESS, **rest)
 
-    add("--scan", PROGRAMS[SCAN], metavar="PATH", help="the program; without it crates/scan_main/out/scan_main of this repository")
-    add("--kh", PROGRAMS[KH], metavar="PATH", help="that of cubes; without it crates/kh_main/out/kh_main")
+    add("--scan", None, metavar="PATH", help="the program; without it crates/scan_main/out/scan_main of this repository")
+    add("--kh", None, metavar="PATH", help="that of cubes; without it crates/kh_main/out/kh_main")
     add("--program", SCAN, choices=(SCAN, KH), help="run, work: which of them is asked; without it scan")
     add("--fields", None, help="2, 3, 5, 7, some of them with commas, or all; without it 2, and for query all")
     add("--jobs", os.cpu_count(), type=count, help="run: how many programs at once; without it as many as processors")
