@@ -88,7 +88,7 @@ class Same(NamedTuple):
 
 
 class Named(NamedTuple):
-    """A name of a link, whether the link is the mirror image of what has this name, and the answer that proves it, if one was found."""
+    """A `name` of a link, whether the link is `mirrored`, the mirror image of what has this name, and the answer, `same`, that proves it."""
 
     name: str
     mirrored: bool
@@ -99,7 +99,7 @@ class Named(NamedTuple):
 
 
 class Names:
-    """The names of a link, over which it goes, and `near`, those that were not decided: of these the tables agree, over all four fields."""
+    """The names of a link, each a `Named`, over which it goes; where there are none, `near` has those whose tables agree over all fields."""
 
     __slots__ = ("found", "near")
 
@@ -145,24 +145,23 @@ def simplify(link: Given, seconds: float = 2) -> Simplified:
     return Simplified(side.link.move(*side.best.lines), side.best.lines)
 
 
-def same(first: Given, second: Given, seconds: float = 20, say: Say = str) -> Same:
+def same(first: Given, second: Given, seconds: float = 20, say: Say | None = None) -> Same:
     """Whether two diagrams are of one link, up to the direction of all components at once. Of the answers "one link" and "different" are
     proved. The search takes about so many seconds at most; `say` is told how it goes on."""
     one, other = _link(first), _link(second)
     row = _row(one, other)
     if row is not None:
         return _checked(row)
-    say("the tables agree over 2, 3, 5 and 7")
     sides = _Side(one), _Side(other)
     for share in SHARES:
-        say(f"{sides[0].count} and {sides[1].count} crossings")
+        (say or str)(f"the tables agree; {sides[0].count} and {sides[1].count} crossings")
         answer = _checked(_one_link(*sides, share * seconds))
         if answer or answer.is_alike:
             break
     return answer
 
 
-def identify(link: Given, seconds: float = 20, say: Say = str) -> Names:
+def identify(link: Given, seconds: float = 20, say: Say | None = None) -> Names:
     """The names of a link in the reference, as far as they are found within about so many seconds; up to mirror images and the direction of
     all components at once, which is told. Proved is that the diagram of the name is one of the link; that people mean this link by the
     name is not (docs/REFERENCE.md, "The links")."""
@@ -174,7 +173,7 @@ def identify(link: Given, seconds: float = 20, say: Say = str) -> Names:
     for share in SHARES:
         for (name, mirrored), there in sides.items():
             if _table_of(name) not in found:
-                say(f"{name}: {side.count} and {there.count} crossings")
+                (say or str)(f"{name}: {side.count} and {there.count} crossings")
                 answer = _one_link(side, there, share * seconds / len(sides))._replace(name=name, mirrored=mirrored)
                 near[name, mirrored] = Named(name, mirrored, _checked(answer))
                 if near[name, mirrored].same:
