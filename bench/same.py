@@ -9,7 +9,7 @@ Without a word all parts are taken, which is about an hour of one processor:
     links      60 links of the reference, scrambled and named alike
     flypes     90 pairs of diagrams of one alternating knot of 8 to 10 crossings, the second by flypes of the first
     unknots    the diagrams of the unknot of `unknots.txt`, made smaller
-    pairs      pairs of different knots with equal tables, and mutants: none of them may be decided
+    pairs      different knots of up to 10 crossings with equal tables, some of 11, and two mutants: no pair may be decided
     altered    90 answers with one thing changed: `kh.check_answer` has to refuse them
 
 Build the programs first, by `./build`. The gate does not run it.
@@ -170,6 +170,8 @@ def pairs():
         for (one, is_first), (other, is_mirrored) in itertools.combinations(knots, 2):
             if one != other and not is_first:
                 found.append((one, kh.Link(one), other, kh.Link(other).mirror() if is_mirrored else kh.Link(other)))
+    large = [it for it in found if "K" in it[0] + it[2]]
+    found = [it for it in found if it not in large] + large[:: len(large) // 20]
     told = [(one, other, kh.same(first, second, 5)) for one, first, other, second in found]
     wrong = [f"{one} and {other}: {it}" for one, other, it in told if it.verdict != "not decided"]
     print(f"{len(told) - len(wrong)} of {len(told)} pairs are not decided", *wrong, sep="\n  ")
@@ -178,7 +180,8 @@ def pairs():
 def altered(answer, draw):
     """An answer with one thing changed."""
     it = json.loads(answer)
-    kind = draw.choice(["first", "second", *(["scripts", "meets", "reversed", "name"] if it["same 1"] == "one link" else ["field", "row"])])
+    kinds = ["meets", "reversed", "name"] + ["scripts"] * any(it["scripts"]) if it["same 1"] == "one link" else ["field", "row"]
+    kind = draw.choice(["first", "second", *kinds])
     if kind == "scripts":
         lines = draw.choice([them for them in it["scripts"] if them])
         place = draw.randrange(len(lines))
