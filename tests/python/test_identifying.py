@@ -150,5 +150,7 @@ def test_commands(tmp_path):
     assert came.returncode == 2 and came.stderr.startswith("kh-same: ") and run("kh-same", "3_1").returncode == 2
     came = run("kh-identify", given="mine: [4, 6, 2]\nbraid: 1 -2 1 -2\n")
     assert came.returncode == 0 and came.stdout.startswith("mine: ") and came.stdout.endswith("\ncode 2: 4_1\n")
+    came = run("kh-identify", str(tmp_path / "code"), "/dev/stdin", given="wrong: PD[X[1,2,1,2]]\nfine: 4_1\n")
+    assert came.returncode == 2 and came.stdout.endswith("/dev/stdin: fine: 4_1\n") and "wrong: " in came.stderr
     came = run("kh-identify", "--json", str(tmp_path / "code"))
     assert all(map(kh.check_answer, came.stdout.splitlines())) and '"name": "3_1"' in came.stdout

@@ -95,7 +95,8 @@ class Named(NamedTuple):
     same: Same
 
     def __str__(self) -> str:
-        return f"{'the mirror image of ' * self.mirrored}{self.name}{', turned round' * self.same.is_reversed}"
+        said = ", turned round" * self.same.is_reversed + " (the same diagram, but for numbers)" * self.same.is_alike
+        return f"{'the mirror image of ' * self.mirrored}{self.name}{said}"
 
 
 class Names:

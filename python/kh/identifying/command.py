@@ -5,6 +5,7 @@ import argparse
 import functools
 import os
 import sys
+import warnings
 from collections.abc import Callable
 
 from ..commands import Unreadable, reader
@@ -67,16 +68,23 @@ def identify_main() -> int:
         tools/kh-identify --json FILE            the answers as JSON, for kh-same --check
 
     A line for each code has all names that were found, up to mirror images and turned components, which is told; each is proved by scripts
-    of `kh edit`. Where none was found the line has the names whose tables agree. The status is 0 where each code has a name, else 3, and
-    2 where a code or a word is wrong.
+    of `kh edit`. Where none was found the line has the names whose tables agree. A wrong code is told on standard error and left out. The
+    status is 0 where each code has a name, else 3, and 2 where a code or a word is wrong.
     """
-    words, status = _words(identify_main.__doc__, "kh-identify", "FILE"), 0
-    for link in (link for path in words.codes or ["/dev/stdin"] for link in read(path)):
-        names = identify(link, words.seconds, _say)
-        lines = [it.same.json for it in names.found or names.near] if words.json else [f"{link.name}: {names}"]
-        print(*lines, sep="\n", flush=True)
-        status = status if names.found else OPEN
-    return status
+    words, statuses = _words(identify_main.__doc__, "kh-identify", "FILE"), {0}
+    for path in words.codes or ["/dev/stdin"]:
+        with warnings.catch_warnings(record=True) as faults:
+            warnings.simplefilter("always")
+            links = read(path, skip_wrong=True)
+        for it in faults:
+            _say(it.message)
+        for link in links:
+            names = identify(link, words.seconds, _say)
+            lines = [it.same.json for it in names.found or names.near] if words.json else [f"{link.name}: {names}"]
+            print(*(f"{path}: {it}" if len(words.codes) > 1 and not words.json else it for it in lines), sep="\n", flush=True)
+            statuses |= {0 if names.found else OPEN}
+        statuses |= {FAULT} if faults else set()
+    return FAULT if FAULT in statuses else max(statuses)
 
 
 def _words(document: str | None, name: str, codes: str) -> argparse.Namespace:

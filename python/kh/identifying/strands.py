@@ -55,7 +55,7 @@ class Strand:
         self.diagram, self.passes, self.is_over = diagram, passes, passes[0] & 1
         heads, tails = diagram.ends
         self.arcs = [diagram.arc(passes[0]), *(diagram.arc(turned(it, 2)) for it in passes)]
-        self.kept = [it for it in range(len(diagram)) if it not in {dart >> 2 for dart in passes}]
+        self.kept = sorted({*range(len(diagram))}.difference(it >> 2 for it in passes))
         self.tail = tails[self.arcs[0]]
         self.onward = {tails[arc]: heads[arc] for arc in range(1, 2 * len(diagram) + 1) if arc not in self.arcs}
         self.onward.update({self.tail: GAP, GAP: heads[self.arcs[-1]]})
