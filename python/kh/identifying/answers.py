@@ -42,8 +42,8 @@ class Same(NamedTuple):
     *Proved* is "one link": `scripts` are lines of `kh edit`, from the first diagram and from the second, that lead to one text, `meets`;
     where `is_reversed`, all components of the second were turned round before. So is "different": over `field` the two tables have these
     `dimensions` at the degrees `row`, j first. `check_answer` has checked both. With "not decided" the tables over all four fields agree,
-    and `left` says how many crossings the diagrams have that were compared; where they `is_alike` they are one diagram, and only the order
-    of components, which no line changes, keeps their texts apart. `name` and `mirrored` are what `kh.identify` asks about."""
+    and `left` says how many crossings the diagrams have that were compared; where they `is_alike` they are one diagram but for numbers or the
+    order of components, and no lines were found that change these. `name` and `mirrored` are what `kh.identify` asks about."""
 
     verdict: str
     first: str
