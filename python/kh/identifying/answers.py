@@ -42,8 +42,8 @@ class Same(NamedTuple):
     *Proved* is "one link": `scripts` are lines of `kh edit`, from the first diagram and from the second, that lead to one text, `meets`;
     where `is_reversed`, all components of the second were turned round before. So is "different": over `field` the two tables have these
     `dimensions` at the degrees `row`, j first. `check_answer` has checked both. With "not decided" the tables over all four fields agree,
-    and `left` says how many crossings the diagrams have that were compared; where they `is_alike` they are one diagram but for numbers or the
-    order of components, and no lines were found that change these. `name` and `mirrored` are what `kh.identify` asks about."""
+    and `left` says how many crossings the diagrams have that were compared; where `is_alike` holds, they are one diagram but for numbers or
+    the order of components, and no lines were found that change these. `name` and `mirrored` are what `kh.identify` asks about."""
 
     verdict: str
     first: str
@@ -88,7 +88,7 @@ class Same(NamedTuple):
 
 
 class Named(NamedTuple):
-    """A `name` of a link, whether the link is `mirrored`, the mirror image of what has this name, and the answer, `same`, that proves it."""
+    """A `name` of a link, whether the link is the mirror image of what has this name, `mirrored`, and the answer that proves it, `same`."""
 
     name: str
     mirrored: bool
@@ -100,7 +100,7 @@ class Named(NamedTuple):
 
 
 class Names:
-    """The names of a link, each a `Named`, over which it goes; where there are none, `near` has those whose tables agree over all fields."""
+    """The names of a link, each a `Named`, which it goes over; if there are none, `near` has those whose tables agree over all fields."""
 
     __slots__ = ("found", "near")
 
