@@ -63,7 +63,7 @@ os.makedirs(os.path.join(TOP, WRITTEN), exist_ok=True)
 setup(
     distclass=Packed,
     cmdclass={"build_py": WithData},
-    packages=["kh", "kh.codes", "kh.reference", "kh.show", "kh.tabulate"],
+    packages=["kh", "kh.codes", "kh.identifying", "kh.reference", "kh.show", "kh.tabulate"],
     package_dir={"": "python"},
     package_data={"kh": ["py.typed"], "kh.show": ["*.js", "*.css"]},
     options={"build": {"build_base": WRITTEN}, "egg_info": {"egg_base": WRITTEN}},

@@ -21,6 +21,8 @@ if TYPE_CHECKING:
     from .many import Result, frame, read, results
     from .programs import Missing, program
     from .refused import MoveRefused, Refused, TooLarge
+    from .identifying.answers import Named, Names, Same, Simplified, identify, same, simplify
+    from .identifying.checking import check_answer
     from .tables import FIELDS, Degrees, Table
     from .torsion import Torsion
 
@@ -28,15 +30,16 @@ if TYPE_CHECKING:
 _ROOMS = {
     "comparing": ("Comparison", "compare", "names"), "conversions": ("from_regina", "from_sage", "from_snappy"),
     "drawings": ("Drawing",), "laurent": ("Polynomial",), "links": ("Link", "verify"), "many": ("Result", "frame", "read", "results"),
-    "programs": ("Missing", "program"), "refused": ("MoveRefused", "Refused", "TooLarge"), "tables": ("FIELDS", "Degrees", "Table"),
-    "torsion": ("Torsion",),
+    "programs": ("Missing", "program"), "refused": ("MoveRefused", "Refused", "TooLarge"),
+    "identifying.answers": ("Named", "Names", "Same", "Simplified", "identify", "same", "simplify"), "identifying.checking": ("check_answer",),
+    "tables": ("FIELDS", "Degrees", "Table"), "torsion": ("Torsion",),
 }
 _ROOM_OF = {name: room for room, names in _ROOMS.items() for name in names}
 
 __all__ = [
-    "FIELDS", "Comparison", "Degrees", "Drawing", "Link", "Missing", "MoveRefused", "Polynomial", "Refused", "Result", "Table", "TooLarge",
-    "Torsion", "compare", "frame", "from_regina", "from_sage", "from_snappy", "names", "program", "read", "results", "verify",
-    "__version__",
+    "FIELDS", "Comparison", "Degrees", "Drawing", "Link", "Missing", "MoveRefused", "Named", "Names", "Polynomial", "Refused", "Result",
+    "Same", "Simplified", "Table", "TooLarge", "Torsion", "check_answer", "compare", "frame", "from_regina", "from_sage", "from_snappy",
+    "identify", "names", "program", "read", "results", "same", "simplify", "verify", "__version__",
 ]
 
 

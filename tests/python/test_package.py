@@ -71,7 +71,8 @@ def test_it_is_installed_with_all_that_it_needs(tmp_path):
     codes = subprocess.run([os.path.join(folder, "bin", "kh-codes"), "--link", "3_1"], capture_output=True, text=True, env=settings)
     assert codes.stdout == "PD[X[4, 2, 5, 1], X[2, 6, 3, 5], X[6, 4, 1, 3]]\n"
     given = "table 2\nfield 3\nj -1 i 0 dim 1\nj 1 i 0 dim 1\n"
-    for command, wanted in (("kh-table", "over 3 elements"), ("kh-compare", "usage"), ("kh-drawing", "usage"), ("kh-page", "usage")):
+    usages = ((it, "usage") for it in ("kh-compare", "kh-drawing", "kh-identify", "kh-page", "kh-same"))
+    for command, wanted in (("kh-table", "over 3 elements"), *usages):
         words = [os.path.join(folder, "bin", command), *(["--help"] if wanted == "usage" else [])]
         assert subprocess.run(words, input=given, capture_output=True, text=True, env=settings).stdout.startswith(wanted)
     code = "from kh.show.page_theorem import theorem_page; print('<img' in theorem_page('', ''))"

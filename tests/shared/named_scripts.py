@@ -13,7 +13,7 @@ from shared.places import TOP
 
 FOLDERS = ("", "bench", "reference", "show", "tabulate", "tests", "tools")
 # What tests begin with `--help` alone: it asks for minutes and idle processors, for other programs, or for the toolchain.
-BENCHED = "all certify cube edit homology inputs jones moves pieces python reduced scan words workers".split()
+BENCHED = "all certify cube edit homology inputs jones moves pieces python reduced same scan words workers".split()
 BENCHMARKS = tuple(os.path.join("bench", f"{it}.py") for it in BENCHED)
 BY_HAND = (*BENCHMARKS, *(os.path.join("tests", it) for it in ("faults", "fuzz", "make_data.py", "more-edits", "program", "rules.py")))
 
