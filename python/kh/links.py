@@ -130,7 +130,7 @@ class Link:
         return {field: self.table(field) for field in FIELDS}
 
     def reduced(self, mark: int = 1, field: int = 2) -> Table:
-        """The table of reduced homology at an arc or a loop, which is proved to be the definition's. It is made from the whole cube, which
+        """The table of reduced homology at an arc or a loop, which is proved to be the definition's. It is made from the cube, which
         has a limit (docs/KNOTS.md, "Which diagrams fit")."""
         field, number = need_field(field), _number(mark)
         if number is None:

@@ -41,7 +41,7 @@ class TooLarge(Refused):
 
 class MoveRefused(Refused):
     """A move that can not be made; `line` says why, `text` has the lines that were given, and `number` that of the move among them, from 1.
-    That it can not is proved."""
+    That `kh` refuses it, with this line, is proved."""
 
     def __init__(self, what: str, text: str = "", spans: Sequence[tuple[int, int]] = (), line: str = "", number: int = 1) -> None:
         super().__init__(what, text, spans, line)

@@ -22,6 +22,7 @@ from shared import running
 
 FILE, COLUMNS = "code", 100
 DRAWN = 300
+REDUCED = ["reduced", "--mark", "1"]
 WRONG, WRONG_LINE = b"PD[X[1,1,2,2]!]", "refused text at 13\n"
 WRONG_SAID = "kh: no code has the sign !\n  PD[X[1,1,2,2]!]\n               ^\n"
 SCAN = "kh: ./kh-scan writes the same table without this limit:\n  ./kh-scan --field=3 < code\n"
@@ -172,11 +173,12 @@ def scan_faults(copy):
     large, wide = curls(9).encode(), curls(21).encode()
     for mode in (0o755, 0o644, None):
         os.chmod(path, mode) if mode else os.remove(path)
-        wanted = [mode == 0o755] * 3 + [False] * 2
+        wanted = [mode == 0o755] * 3 + [False] * 4
         came = [SCAN in run(copy, ["--workers", "2", "homology", "--field=3"], large)[2]]
         came.append(SCAN_OF_A_PIPE in ended(copy, HOMOLOGY, input=large)[2])
         came.append(SCAN_FOR_OTHERS in run(copy, ["certify"], large)[2])
         came += ["kh-scan" in run(copy, HOMOLOGY, wide)[2], "kh-scan" in ended(copy, JONES, input=wide)[2]]
+        came += ["kh-scan" in run(copy, REDUCED, large)[2], "kh-scan" in ended(copy, REDUCED, input=large)[2]]
         yield f"./kh-scan with the mode {mode}", None if came == wanted else f"{came} and not {wanted}"
     shutil.copy(os.path.join(TOP, "kh-scan"), path)
 

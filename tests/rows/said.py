@@ -131,7 +131,7 @@ LOGS = [
 # The commands that have the limit on generators, and those that have it not; limits.
 HAVE_IT = ("homology", "reduced", "schedule", "certify", "verify")
 HAVE_IT_NOT = ("jones", "check", "convert", "draw", "mirror", "reverse", "union", "edit")
-CUBE = f"{', '.join(HAVE_IT[:-1])} and {HAVE_IT[-1]} make all of them, and only they have this limit: "
+CUBE = f"{', '.join(HAVE_IT[:-1])} and {HAVE_IT[-1]} alone have this limit: "
 CUBE += f"{', '.join(HAVE_IT_NOT[:-1])} and {HAVE_IT_NOT[-1]} answer"
 FIT = 'docs/KNOTS.md, "Which diagrams fit", says more'
 SCANNED = "$./kh-scan < code"

@@ -150,8 +150,8 @@ def field_words(words):
 
 
 def scanned(source):
-    """That the scan, where there is one, has no limit on generators, and how it is called."""
-    if not (os.path.isfile(KH_SCAN) and os.access(KH_SCAN, os.X_OK)):
+    """That the scan, where there is one, has no limit on generators, and how it is called; it has no table of `reduced`."""
+    if source.command == "reduced" or not (os.path.isfile(KH_SCAN) and os.access(KH_SCAN, os.X_OK)):
         return
     if source.command != "homology":
         yield from wrapped("the table, without this limit, is written by ./kh-scan, which reads a code")
@@ -165,8 +165,8 @@ def generators_limit(source, ratio):
     times = f"{ratio:,.0f}" if ratio > 10 else f"{ratio:.1f}"
     yield from wrapped(f"a generator is a state of all crossings with a label on each circle, and here are {times} times as many as fit")
     yield from wrapped(
-        "homology, reduced, schedule, certify and verify make all of them, and only they have this limit: jones, check, convert, draw, "
-        "mirror, reverse, union and edit answer"
+        "homology, reduced, schedule, certify and verify alone have this limit: jones, check, convert, draw, mirror, reverse, union and edit "
+        "answer"
     )
     yield from [] if source.command in ("schedule", "verify") else [source.given_to("jones")]
     yield from scanned(source)

@@ -11,7 +11,7 @@ from ..tables import FIELDS
 from .stored import Reference
 from .table_forms import INTEGRAL, RATIONAL
 
-# Reduced tables come from the whole cube: where nobody asked for them they are made of diagrams of so many crossings at most.
+# Reduced tables come from the cube: where nobody asked for them they are made of diagrams of so many crossings at most.
 CUBE = 11
 
 
