@@ -26,7 +26,7 @@ class Comparison:
     not be read, or "no answer"; where that is not the same over all fields, "another table over 3". `causes` has why there is no table or
     no answer, by the names of links of which that is known. `lines` are those that are printed, and that `reference/compare --all` writes.
 
-    The tables of the reference are those that `kh` has written, so they are proved; how others are told from them is not."""
+    The tables of the reference are those that `kh` or `kh-scan` writes, which are proved; how others are told from them is not."""
 
     __slots__ = ("lines", "links", "causes", "agrees")
 
